@@ -1,0 +1,65 @@
+-- The first of the three passes that refuses is the verdict, else the last one is.
+use borrow.Author.Needs.{needs}
+use Rattle.model.specs.Rules.{procedure-rules}
+use Rattle.access.proofs.Verdicts.{stop-here, go-on}
+use Rattle.access.proofs.passes.procedure_access.Statement.{statement}
+use Rattle.access.proofs.passes.procedure_access.Tie as tie
+
+head-access-requires : tie.Need-head-access-requires
+head-access-requires c κs = search needs
+
+enum-told : tie.Need-enum-told
+enum-told c = search needs
+
+enum-told-2 : tie.Need-enum-told-2
+enum-told-2 c = search needs
+
+returns : tie.Need-returns
+unfolding procedure-rules
+returns c =
+    stop-here _ _ _ _ _ (c .before .before .head-access .ensures) (c .enum-told2 .given .1)
+
+variables-access-requires : tie.Need-variables-access-requires
+variables-access-requires c κs = search needs
+
+enum-told-3 : tie.Need-enum-told-3
+enum-told-3 c = search needs
+
+enum-told-4 : tie.Need-enum-told-4
+enum-told-4 c = search needs
+
+returns-2 : tie.Need-returns-2
+unfolding procedure-rules
+returns-2 c =
+    let d = c .before .before .before in
+    let variables = rw (c .before .before .before .before .before .before .before .pre .1 .0) at (c .before .before .variables-access .ensures) in
+    go-on _ _ _ _ (d .before .before .head-access .ensures) (d .enum-told .given .1)
+    (stop-here _ _ _ _ _ variables (c .enum-told4 .given .1))
+
+instructions-access-requires : tie.Need-instructions-access-requires
+instructions-access-requires c κs = search needs
+
+returns-3 : tie.Need-returns-3
+unfolding procedure-rules
+returns-3 c =
+    let d = c .before .before .before .before in
+    let at = c .before .before .before .before .before .before .before .before .pre .1 .0 in
+    let variables = rw at at (c .before .before .before .variables-access .ensures) in
+    let instructions = rw at at (c .instructions-access .ensures) in
+    go-on _ _ _ _ (d .before .before .head-access .ensures) (d .enum-told .given .1)
+    (go-on _ _ _ _ variables (c .before .enum-told3 .given .1) instructions)
+
+pub procedure-access-spec : {M : Type 1} → statement M
+procedure-access-spec =
+    tie.close
+    (tie.spec
+    head-access-requires
+    enum-told
+    enum-told-2
+    returns
+    variables-access-requires
+    enum-told-3
+    enum-told-4
+    returns-2
+    instructions-access-requires
+    returns-3)

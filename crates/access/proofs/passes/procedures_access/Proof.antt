@@ -1,0 +1,75 @@
+-- The loop over the procedures: what is left to say is the verdict from the present one on. The table holds where each one stands.
+use Prim.Native.Nat.{_-_, _<_}
+use native.Mathlib.Omega.{arith}
+use borrow.Author.Needs.{needs}
+use Rattle.model.specs.Rules.{procedure-rules}
+use Rattle.model.proofs.Verdicts.{Passing, pass-start, pass-next, pass-stop, pass-end}
+use Rattle.sheet.specs.Layout.{proceduresOf}
+use Rattle.sheet.specs.Meaning.{programOf}
+use Rattle.access.proofs.Verdicts.{placed}
+use Rattle.access.proofs.passes.procedures_access.Statement.{statement}
+use Rattle.access.proofs.passes.procedures_access.Tie as tie
+
+abbrev Inv-loop : tie.InvT-loop
+Inv-loop s table n p₀ p = Passing (procedure-rules (programOf s)) n p
+
+abbrev μ-loop : tie.MeasureT-loop
+μ-loop s table n p₀ p = n - p
+
+loop-holds : tie.Need-loop-holds Inv-loop μ-loop
+loop-holds c = pass-start _ _
+
+mul-procedure-access : tie.Need-mul-procedure-access Inv-loop μ-loop
+mul-procedure-access c = omega arith
+
+element-copy-out-procedure-access : tie.Need-element-copy-out-procedure-access Inv-loop μ-loop
+element-copy-out-procedure-access c = omega arith
+
+procedure-access-requires : tie.Need-procedure-access-requires Inv-loop μ-loop
+procedure-access-requires c κs =
+    let a = c .before .before .before .before in
+    let p = c .before .before .loop .p in
+    let inside : p < proceduresOf (a .args .s .now) = omega arith in
+    let at = placed _ _ (a .pre .0) p inside in
+    (a .pre .0, (at, rw at (a .pre .1 .0 .each p inside)))
+
+enum-told : tie.Need-enum-told Inv-loop μ-loop
+enum-told c = search needs
+
+enum-told-2 : tie.Need-enum-told-2 Inv-loop μ-loop
+enum-told-2 c = search needs
+
+returns : tie.Need-returns Inv-loop μ-loop
+returns c =
+    pass-stop _ _ _ (c .before .before .before .before .before .loop .inv) (c .before .before .before .before .loop-test .taken) _ _ _ (c .before .before .procedure-access .ensures) (c .enum-told2 .given .1)
+
+add-p : tie.Need-add-p Inv-loop μ-loop
+add-p c = omega arith
+
+loop-less : tie.Need-loop-less Inv-loop μ-loop
+loop-less c = omega arith
+
+loop-again : tie.Need-loop-again Inv-loop μ-loop
+loop-again c =
+    pass-next _ _ _ (c .before .before .before .before .before .loop .inv) (c .before .before .before .before .loop-test .taken) _ (c .before .before .procedure-access .ensures) (c .enum-told .given .1)
+
+returns-2 : tie.Need-returns-2 Inv-loop μ-loop
+returns-2 c = pass-end _ _ _ (c .before .loop .inv) (c .loop-test .left)
+
+pub procedures-access-spec : {M : Type 1} → statement M
+procedures-access-spec =
+    tie.close
+    (tie.spec
+    Inv-loop
+    μ-loop
+    loop-holds
+    mul-procedure-access
+    element-copy-out-procedure-access
+    procedure-access-requires
+    enum-told
+    enum-told-2
+    returns
+    add-p
+    loop-less
+    loop-again
+    returns-2)

@@ -1,0 +1,68 @@
+-- The loop over the VR records of a procedure: what is left to say is the verdict from the present record on. The bound is the byte read.
+use Prim.Native.Nat.{_-_}
+use native.Mathlib.Omega.{arith}
+use borrow.Author.Needs.{needs}
+use Rattle.model.specs.Rules.{variable-rules}
+use Rattle.model.proofs.Verdicts.{Passing, pass-start, pass-next, pass-stop, pass-end}
+use Rattle.sheet.specs.Layout.{variablesAt}
+use Rattle.sheet.specs.Meaning.{programOf}
+use Rattle.access.proofs.passes.variables_access.Statement.{statement}
+use Rattle.access.proofs.passes.variables_access.Tie as tie
+
+abbrev Inv-loop : tie.InvT-loop
+Inv-loop s p pr n x₀ x = Passing (variable-rules (programOf s) p) n x
+
+abbrev μ-loop : tie.MeasureT-loop
+μ-loop s p pr n x₀ x = n - x
+
+byte-requires : tie.Need-byte-requires Inv-loop μ-loop
+byte-requires c κs = search needs
+
+loop-holds : tie.Need-loop-holds Inv-loop μ-loop
+loop-holds c = pass-start _ _
+
+variable-access-requires : tie.Need-variable-access-requires Inv-loop μ-loop
+variable-access-requires c κs = search needs
+
+enum-told : tie.Need-enum-told Inv-loop μ-loop
+enum-told c = search needs
+
+enum-told-2 : tie.Need-enum-told-2 Inv-loop μ-loop
+enum-told-2 c = search needs
+
+returns : tie.Need-returns Inv-loop μ-loop
+unfolding variablesAt
+returns c =
+    rw (← c .before .before .before .before .before .byte .ensures) (pass-stop _ _ _ (c .before .before .before .before .loop .inv) (c .before .before .before .loop-test .taken) _ _ _ (c .before .before .variable-access .ensures) (c .enum-told2 .given .1))
+
+add-x : tie.Need-add-x Inv-loop μ-loop
+add-x c = omega arith
+
+loop-less : tie.Need-loop-less Inv-loop μ-loop
+loop-less c = omega arith
+
+loop-again : tie.Need-loop-again Inv-loop μ-loop
+loop-again c =
+    pass-next _ _ _ (c .before .before .before .before .loop .inv) (c .before .before .before .loop-test .taken) _ (c .before .before .variable-access .ensures) (c .enum-told .given .1)
+
+returns-2 : tie.Need-returns-2 Inv-loop μ-loop
+unfolding variablesAt
+returns-2 c =
+    rw (← c .before .before .byte .ensures) (pass-end _ _ _ (c .before .loop .inv) (c .loop-test .left))
+
+pub variables-access-spec : {M : Type 1} → statement M
+variables-access-spec =
+    tie.close
+    (tie.spec
+    Inv-loop
+    μ-loop
+    byte-requires
+    loop-holds
+    variable-access-requires
+    enum-told
+    enum-told-2
+    returns
+    add-x
+    loop-less
+    loop-again
+    returns-2)

@@ -1,0 +1,144 @@
+// The rules of each kind of record: the number of its first refusal, 0 where there is none.
+use crate::calls::call_rule;
+use crate::calls::return_rule;
+use crate::rules::array_rule;
+use crate::rules::bind_rule;
+use crate::rules::fetch_rule;
+use crate::rules::get_slot_rule;
+use crate::rules::inner_of;
+use crate::rules::integer_rule;
+use crate::rules::integers_rule;
+use crate::rules::record_rule;
+use crate::rules::require;
+use crate::rules::set_slot_rule;
+use crate::rules::size_rule;
+use crate::rules::store_rule;
+use model::Instruction;
+use model::Operation;
+use order::element_of;
+use order::equal;
+use order::is_owned;
+use order::rights_of;
+use rights::has_right;
+use sheet::bytes::byte;
+use sheet::places::variable_at;
+ghost use mathlib.Core.Path.{_≡_};
+ghost use Prim.Native.Nat.{_+_, _<_};
+ghost use Rattle.model.specs.Qualified.{element};
+ghost use Rattle.model.specs.Refusal.{failure, each};
+ghost use Rattle.model.specs.Rules.{closed, closed-rule, closed-result, agrees, formal-rule, local-rule, declaration-rule, rule, callee};
+ghost use Rattle.sheet.specs.Bytes.{byteAt};
+ghost use Rattle.sheet.specs.Layout.{ownerAt, formalsAt, proceduresOf, procedureAt};
+ghost use Rattle.sheet.specs.Meaning.{qualOf, innerIn, needIn, resultIn, programOf};
+ghost use Rattle.access.specs.Callees.{Ready};
+
+// A qualified type without open.
+fn is_closed(s: &[u8], j: u8) -> bool
+    ensures { λ r. ⌜ r ≡ closed (qualOf (now (s .entry)) j) ⌝ }
+{
+    !has_right(0, rights_of(s, j))
+}
+
+fn closed_rule(s: &[u8], j: u8) -> u8
+    ensures { λ r. ⌜ r ≡ failure (closed-rule (qualOf (now (s .entry)) j)) ⌝ }
+{
+    require(is_closed(s, j), 6, 0)
+}
+
+// The slots of the TY at a place.
+pub fn slots_rule(s: &[u8], at: usize) -> u8
+    ensures { λ r. ⌜ r ≡ failure (each (byteAt (now (s .entry)) at 3) (λ k. closed-rule (qualOf (now (s .entry)) (byteAt (now (s .entry)) at (4 + k))))) ⌝ }
+{
+    let slots = byte(s, at, 3);
+    let mut k: u8 = 0;
+    while k < slots {
+        let n = closed_rule(s, byte(s, at, 4 + (k as usize)));
+        if 0 < n {
+            return n;
+        }
+        k += 1;
+    }
+    0
+}
+
+// The element of a QT.
+pub fn element_rule(s: &[u8], j: u8) -> u8
+    ensures { λ r. ⌜ r ≡ failure (closed-rule (element (qualOf (now (s .entry)) j))) ⌝ }
+{
+    closed_rule(s, element_of(s, j))
+}
+
+// The result of the PR at a place.
+pub fn has_closed_result(s: &[u8], pr: u32) -> bool
+    ensures { λ r. ⌜ r ≡ closed-result (resultIn (now (s .entry)) pr) ⌝ }
+{
+    let result = byte(s, pr as usize, 5);
+    if result == 255 {
+        return true;
+    }
+    is_closed(s, result)
+}
+
+// Need and inner of a formal agree.
+fn agree(s: &[u8], owner: u8, need: u8, inner: u8) -> bool
+    ensures { λ r. ⌜ r ≡ agrees owner (qualOf (now (s .entry)) need) (qualOf (now (s .entry)) inner) ⌝ }
+{
+    if is_owned(s, owner, inner) {
+        return is_owned(s, owner, need);
+    }
+    equal(s, need, inner)
+}
+
+fn formal_number(s: &[u8], owner: u8, need: u8, inner: u8) -> u8
+    ensures { λ r. ⌜ r ≡ failure (formal-rule owner (qualOf (now (s .entry)) need) (qualOf (now (s .entry)) inner)) ⌝ }
+{
+    let stands = is_closed(s, need) & (is_owned(s, owner, inner) | is_closed(s, inner));
+    require(stands, 6, require(agree(s, owner, need, inner), 7, 0))
+}
+
+fn local_number(s: &[u8], owner: u8, inner: u8) -> u8
+    ensures { λ r. ⌜ r ≡ failure (local-rule owner (qualOf (now (s .entry)) inner)) ⌝ }
+{
+    require(is_owned(s, owner, inner) | is_closed(s, inner), 6, 0)
+}
+
+// Variable x of the procedure at a place.
+pub fn variable_number(s: &[u8], pr: u32, x: u8) -> u8
+    ensures { λ r. ⌜ r ≡ failure (declaration-rule (ownerAt (now (s .entry)) pr) (formalsAt (now (s .entry)) pr) x (needIn (now (s .entry)) pr x) (innerIn (now (s .entry)) pr x)) ⌝ }
+{
+    let owner = byte(s, pr as usize, 2);
+    let inner = inner_of(s, pr, x);
+    if x < byte(s, pr as usize, 3) {
+        return formal_number(s, owner, byte(s, variable_at(pr, x), 3), inner);
+    }
+    local_number(s, owner, inner)
+}
+
+// An instruction of the procedure at a place.
+pub fn instruction_number(s: &[u8], table: &[u32; 65], pr: u32, i: Instruction) -> u8
+    requires { ⌜ Ready (now s) (now table) ⌝ }
+    requires { ⌜ pr ≡ procedureAt (now s) (i .procedure) ⌝ }
+    requires { ⌜ callee (i .operation) < proceduresOf (now s) ⌝ }
+    ensures { λ r. ⌜ r ≡ failure (rule (programOf (now (s .entry))) (i .procedure) (i .operation)) ⌝ }
+{
+    let operation = i.operation;
+    match operation {
+        Operation::Set(a, _) => integer_rule(s, pr, a),
+        Operation::Add(a, b, c) => integers_rule(s, pr, a, b, c),
+        Operation::Subtract(a, b, c) => integers_rule(s, pr, a, b, c),
+        Operation::Less(a, b, c) => integers_rule(s, pr, a, b, c),
+        Operation::JumpZero(a, _) => integer_rule(s, pr, a),
+        Operation::Bind(a, b) => bind_rule(s, pr, a, b),
+        Operation::Take(a) => integer_rule(s, pr, a),
+        Operation::Put(a) => integer_rule(s, pr, a),
+        Operation::NewArray(a, b) => array_rule(s, pr, a, b),
+        Operation::Fetch(a, b, c) => fetch_rule(s, pr, a, b, c),
+        Operation::Store(a, b, c) => store_rule(s, pr, a, b, c),
+        Operation::Size(a, b) => size_rule(s, pr, a, b),
+        Operation::NewRecord(a) => record_rule(s, pr, a),
+        Operation::GetSlot(a, b, k) => get_slot_rule(s, pr, a, b, k),
+        Operation::SetSlot(a, b, k) => set_slot_rule(s, pr, a, b, k),
+        Operation::Call(a, b, k) => call_rule(s, pr, table[k as usize], a, b),
+        Operation::Return(a) => return_rule(s, pr, a),
+    }
+}

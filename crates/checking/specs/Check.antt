@@ -1,0 +1,25 @@
+-- What `check` says of any bytes: the first of refusals 1 to 9 in document 01's order, or accepted.
+use Prim.Native.Nat.{ℕ}
+use mathlib.Core.Path.{_≡_}
+use mathlib.Core.List.{List, _++_}
+use Rattle.model.specs.Refusal.{Tests, verdict}
+use Rattle.model.specs.Rules.{access-rules}
+use Rattle.model.specs.declared.Verdict.{Verdict}
+use Rattle.model.specs.declared.Verdict.the-variants.{Accepted}
+use Rattle.sheet.specs.Meaning.{programOf}
+use Rattle.form.specs.WellFormed.{form-tests}
+
+-- "Order: 1; then record by record 2, 3, 4, 5 in field order; leftover bytes 2; then, call by call, the 5s that wait for the procedure called;
+-- then record by record 6, 7, 8, 9"
+unfoldable pub check-tests : List ℕ → List Tests
+check-tests s = form-tests s ++ access-rules (programOf s)
+
+unfoldable pub check : List ℕ → Verdict
+check s = verdict (check-tests s)
+
+-- none of 1 to 5, and none of 1 to 9
+unfoldable pub WellFormed : List ℕ → Type 0
+WellFormed s = verdict (form-tests s) ≡ Accepted
+
+unfoldable pub Acceptable : List ℕ → Type 0
+Acceptable s = check s ≡ Accepted

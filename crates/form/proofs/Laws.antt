@@ -1,0 +1,154 @@
+-- Laws of the tests of well-formedness, which the proofs of the passes and the layers above cite.
+use Prim.Native.Nat.{ℕ, zero, suc, _+_, _*_, _<_, _≤_}
+use mathlib.Core.Path.{_≡_, refl, sym, _∙_}
+use mathlib.Core.List.{List, [], _∷_, _++_}
+use mathlib.Core.Bool.{Bool, true, false, not, _&&_, _||_, cond}
+use mathlib.Core.Logic.{_⊎_, inl, inr}
+use native.Mathlib.Omega.{arith}
+use native.Mathlib.Numerals.{add-one}
+use lib.ListN.{length, getD}
+use lib.Dec.{eqb}
+use borrow.Author.Count.{below-more}
+use borrow.Author.Tests.{leb-true, ltb-true, eq-eqb, ne-eqb, lt-ltb, le-ltb}
+use Rattle.model.specs.Refusal.{torn, stray-mark, bad-edition, off-scale, Test, Tests, tests, failure, refuse, verdict, all-from}
+use Rattle.model.specs.declared.Verdict.{Verdict}
+use Rattle.model.specs.declared.Verdict.the-variants.{Accepted, Refused}
+use Rattle.model.proofs.Verdicts.{verdict-append, then-accepted, then-refused, accepted-left, accepted-right, accepted-tests, passed-test, both-true}
+use Rattle.sheet.specs.Bytes.{byteAt, wordAt, wholeAt, markedAt}
+use Rattle.sheet.specs.Layout.{editionOf, typesOf, qualsOf, qualAt, proceduresOf, ownerAt, formalsAt, variablesAt, instructionsAt, variableAt, instructionAt, codeAt, kAt, procedureAt}
+use Rattle.sheet.specs.Places.{Places}
+use Rattle.sheet.proofs.Laws.{whole-true}
+use Rattle.form.specs.Scale.{all-below, below-or-none, header-scale, actuals-scale}
+use Rattle.form.specs.WellFormed.{length-tests, record-tests, header-tests, layout-tests, instruction-tests-at, instruction-tests, call-tests-at, call-tests}
+
+-- ---- one list of tests after another
+module _ (xs ys : List Tests) where
+  -- a function that gives back the first verdict because it refuses
+  pub stop-here : (v : Verdict) (n at : ℕ) → v ≡ verdict xs → v ≡ Refused n at → v ≡ verdict (xs ++ ys)
+  stop-here v n at e r = then-refused v (verdict xs) (verdict ys) n at e r ∙ sym (verdict-append xs ys)
+
+  -- and one that gives back the second because the first accepts
+  pub go-on : (v w : Verdict) → v ≡ verdict xs → v ≡ Accepted → w ≡ verdict ys → w ≡ verdict (xs ++ ys)
+  go-on v w e a f = f ∙ sym (verdict-append xs ys ∙ then-accepted v (verdict xs) (verdict ys) e a)
+
+  pub left-accepted : verdict (xs ++ ys) ≡ Accepted → verdict xs ≡ Accepted
+  left-accepted h = accepted-left (verdict xs) (verdict ys) (sym (verdict-append xs ys) ∙ h)
+
+  pub right-accepted : verdict (xs ++ ys) ≡ Accepted → verdict ys ≡ Accepted
+  right-accepted h = accepted-right (verdict xs) (verdict ys) (sym (verdict-append xs ys) ∙ h)
+
+-- ---- tests that all hold, one by one
+abbrev pub Held : List Bool → Type 0
+Held [] = Unit
+Held (t ∷ ts) = (t ≡ true) × Held ts
+
+pub all-held : (b : Bool) (ts : List Bool) → all-from b ts ≡ true → (b ≡ true) × Held ts
+unfolding all-from
+all-held b [] h = (h, tt)
+all-held b (t ∷ ts) h =
+    let m = all-held (b && t) ts h in
+    let n = both-true b t (m .0) in
+    (n .0, (n .1, m .1))
+
+-- ---- single tests
+pub either-true : (a b : Bool) → a || b ≡ true → (a ≡ true) ⊎ (b ≡ true)
+either-true true b h = inl refl
+either-true false b h = inr h
+
+pub implied : (a b : Bool) → not a || b ≡ true → a ≡ true → b ≡ true
+implied a b h e = rw e at h
+
+-- f holds of each number below n
+pub all-below-true : (f : ℕ → Bool) (n : ℕ) → all-below n f ≡ true → (k : ℕ) → k < n → f k ≡ true
+all-below-true f zero h = λ k l. absurd (omega arith)
+all-below-true f (suc n) h =
+    let m = both-true (all-below n f) (f n) h in
+    rw (← add-one) (below-more (λ k. f k ≡ true) n (all-below-true f n (m .0)) (m .1))
+
+pub due-below : (n x : ℕ) (due : Bool) → below-or-none n due x ≡ true → due ≡ true → x < n
+unfolding below-or-none
+due-below n x due h e = ltb-true x n (rw e at h)
+
+-- ---- places
+pub placed : (s table : List ℕ) → Places s table → (k : ℕ) → k ≤ proceduresOf s → k ≤ 64 → getD table k 0 ≡ procedureAt s k
+unfolding Places
+placed s table h = h
+
+-- in a list of bytes the procedures' places are small
+pub procedure-small : (s : List ℕ) → ((k : ℕ) → getD s k 0 < 256) → (p : ℕ) → procedureAt s p ≤ 5000 + 600000 * p
+unfolding procedureAt qualAt qualsOf typesOf instructionAt instructionsAt variableAt variablesAt wordAt byteAt
+procedure-small s b zero = omega (arith, b (0 + 3), b (0 + 4))
+procedure-small s b (suc p) =
+    let pr = procedureAt s p in
+    omega (arith, procedure-small s b p, b (pr + 4), b (pr + 6), b (pr + (6 + 1)))
+
+-- counted from the first instruction's place
+pub instruction-from : (s : List ℕ) (pr first i : ℕ) → first ≡ instructionAt s pr 0 → first + 8 * i ≡ instructionAt s pr i
+unfolding instructionAt
+instruction-from s pr first i e = omega arith
+
+-- the tests of an instruction, from what was read of its procedure
+pub instruction-here : (s : List ℕ) (pr v n owner i at : ℕ)
+    → v ≡ variablesAt s pr → n ≡ instructionsAt s pr → owner ≡ ownerAt s pr → at ≡ instructionAt s pr i
+    → instruction-tests-at s v n owner i at ≡ instruction-tests s pr i
+unfolding instruction-tests
+instruction-here s pr v n owner i at p q r e = rw (p, q, r, e)
+
+pub call-here : (s : List ℕ) (pr v i at : ℕ) → v ≡ variablesAt s pr → at ≡ instructionAt s pr i
+    → _≡_ {A = List Tests} (tests at (call-tests-at s v at) ∷ []) (call-tests s pr i)
+unfolding call-tests
+call-here s pr v i at p e = rw (p, e)
+
+-- ---- what an accepted record says: it stands whole, within its limits
+pub record-formed : (s : List ℕ) (at size m n : ℕ) (scale : Bool) → verdict (record-tests s at size m n scale) ≡ Accepted
+    → (at + size ≤ length s) × (scale ≡ true)
+unfolding record-tests
+record-formed s at size m n scale h =
+    let w = passed-test torn (wholeAt s at size) _ (accepted-tests at _ h) in
+    let k = passed-test stray-mark (markedAt s at m n) _ (w .1) in
+    (whole-true s at size (w .0), passed-test off-scale scale [] (k .1) .0)
+
+-- few types, qualified types and procedures, and at least one procedure
+pub header-small : (s : List ℕ) → verdict (header-tests s) ≡ Accepted
+    → (typesOf s ≤ 32) × (qualsOf s ≤ 64) × (1 ≤ proceduresOf s) × (proceduresOf s ≤ 64)
+unfolding header-tests header-scale
+header-small s h =
+    let w = passed-test torn (wholeAt s 0 6) _ (accepted-tests 0 _ h) in
+    let k = passed-test stray-mark (markedAt s 0 72 68) _ (w .1) in
+    let e = passed-test bad-edition (eqb (editionOf s) 1) _ (k .1) in
+    let l = all-held true _ (passed-test off-scale (header-scale (typesOf s) (qualsOf s) (proceduresOf s)) [] (e .1) .0) .1 in
+    (leb-true (typesOf s) 32 (l .0), leb-true (qualsOf s) 64 (l .1 .0), leb-true 1 (proceduresOf s) (l .1 .1 .0), leb-true (proceduresOf s) 64 (l .1 .1 .1 .0))
+
+-- a record whose tests were counted out: all hold, or the first that fails
+pub tests-pass : (n at : ℕ) (ts : List Test) → n ≡ failure ts → n ≡ 0 → Accepted ≡ verdict (tests at ts ∷ [])
+unfolding verdict refuse
+tests-pass n at ts e h = let q : failure ts ≡ 0 = sym e ∙ h in rw q
+
+pub tests-stop : (n at : ℕ) (ts : List Test) → n ≡ failure ts → (n ≡ 0 → ⊥) → Refused n at ≡ verdict (tests at ts ∷ [])
+unfolding verdict refuse
+tests-stop n at ts e h = rw (← e) (go n h)
+  where
+    go : (n : ℕ) → (n ≡ 0 → ⊥) → Refused n at ≡ refuse n at Accepted
+    go zero h = absurd (h refl)
+    go (suc n) h = refl
+
+-- the tests of a call, from what was read: no call, no such procedure, and else its actuals
+module _ (s : List ℕ) (v at : ℕ) where
+  pub call-none : (code : ℕ) → code ≡ byteAt s at 2 → (code ≡ 16 → ⊥) → 0 ≡ failure (call-tests-at s v at)
+  unfolding call-tests-at codeAt failure
+  call-none code e h = rw (← e, ne-eqb code 16 h)
+
+  module _ (code k p : ℕ) (e : code ≡ byteAt s at 2) (c : code ≡ 16) (d : k ≡ wordAt s at 6) (q : p ≡ byteAt s 0 5) where
+    pub call-outside : p ≤ k → 5 ≡ failure (call-tests-at s v at)
+    unfolding call-tests-at codeAt kAt proceduresOf failure
+    call-outside h = rw (← e, eq-eqb code 16 c, ← d, ← q, le-ltb k p h)
+
+    pub call-inside : k < p → (f b : ℕ) → f ≡ formalsAt s (procedureAt s k) → b ≡ byteAt s at 4 → (t : Bool) → t ≡ actuals-scale f b v
+        → cond t 0 5 ≡ failure (call-tests-at s v at)
+    unfolding call-tests-at codeAt kAt proceduresOf failure
+    call-inside h f b g i t j = rw (← e, eq-eqb code 16 c, ← d, ← q, lt-ltb k p h, ← g, ← i, ← j)
+
+pub layout-small : (s : List ℕ) → verdict (length-tests s ++ layout-tests s) ≡ Accepted
+    → (typesOf s ≤ 32) × (qualsOf s ≤ 64) × (1 ≤ proceduresOf s) × (proceduresOf s ≤ 64)
+unfolding layout-tests
+layout-small s h = header-small s (left-accepted (header-tests s) _ (right-accepted (length-tests s) _ h))

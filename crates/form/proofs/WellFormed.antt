@@ -1,0 +1,377 @@
+-- What a well-formed sheet has: each law from the one fact that none of 1 to 5 is given.
+use Prim.Native.Nat.{ℕ, _+_, _-_, _<_, _≤_}
+use mathlib.Core.Path.{_≡_, refl, sym, _∙_}
+use mathlib.Core.List.{List, [], _∷_, _++_}
+use mathlib.Core.Bool.{Bool, true, false, _&&_, _||_, cond}
+use mathlib.Core.Logic.{_⊎_, inl, inr, ⊎-elim}
+use native.Mathlib.Omega.{arith}
+use lib.ListN.{length}
+use lib.Dec.{eqb, ltb, leb}
+use borrow.Author.Tests.{ltb-true, leb-true, eqb-true, eqb-false, eq-eqb, ne-eqb, lt-ltb, le-leb}
+use Rattle.model.specs.Rules.{callee}
+use Rattle.model.specs.Refusal.{overlong, torn, off-scale, Tests, failure, verdict, each}
+use Rattle.model.specs.declared.Operation.{Operation}
+use Rattle.model.specs.declared.Operation.the-variants.{Call, Return}
+use Rattle.model.specs.declared.Verdict.the-variants.{Accepted}
+use Rattle.model.proofs.Verdicts.{accepted-span, accepted-tests, passed-test, both-true}
+use Rattle.sheet.specs.Bytes.{byteAt}
+use Rattle.sheet.specs.Layout.{typesOf, qualsOf, proceduresOf, typeAt, namedOf, slotsOf, slotOf, qualAt, baseOf, rightsOf, elementOf, ownerAt, formalsAt, variablesAt, resultAt, instructionsAt, variableAt, innerAt, needAt, instructionAt, codeAt, kAt, procedureAt}
+use Rattle.sheet.specs.Decode.{decode, operationAt}
+use Rattle.form.specs.Scale.{all-below, below-or-none, type-scale, rights-scale, qual-scale, procedure-scale, variable-scale, from-to, uses-b, uses-c, a-scale, b-scale, c-scale, k-scale, instruction-scale, actuals-scale}
+use Rattle.form.specs.WellFormed.{length-tests, header-tests, type-tests, qual-tests, head-tests, variable-tests, instruction-tests-at, instruction-tests, procedure-tests-at, procedure-tests, leftover-tests, layout-tests, call-tests-at, call-tests, procedure-calls, calls-tests, form-tests}
+use Rattle.form.proofs.Laws.{left-accepted, right-accepted, Held, all-held, either-true, implied, all-below-true, due-below, record-formed, header-small}
+
+each-accepted : (f : ℕ → List Tests) (n : ℕ) → verdict (each n f) ≡ Accepted → (k : ℕ) → k < n → verdict (f k) ≡ Accepted
+each-accepted f n h k l = let e : 0 + k ≡ k = omega arith in rw e at (accepted-span f n 0 h k l)
+
+-- the fields of instruction i of procedure p
+abbrev pub code-in : List ℕ → ℕ → ℕ → ℕ
+code-in s p i = codeAt s (instructionAt s (procedureAt s p) i)
+
+abbrev pub a-in : List ℕ → ℕ → ℕ → ℕ
+a-in s p i = byteAt s (instructionAt s (procedureAt s p) i) 3
+
+abbrev pub b-in : List ℕ → ℕ → ℕ → ℕ
+b-in s p i = byteAt s (instructionAt s (procedureAt s p) i) 4
+
+abbrev pub c-in : List ℕ → ℕ → ℕ → ℕ
+c-in s p i = byteAt s (instructionAt s (procedureAt s p) i) 5
+
+abbrev pub k-in : List ℕ → ℕ → ℕ → ℕ
+k-in s p i = kAt s (instructionAt s (procedureAt s p) i)
+
+-- ---- limits on plain numbers
+module _ (n slots k : ℕ) where
+  k-jump : (code : ℕ) → code ≡ 5 → k-scale n slots code k ≡ true → k < n
+  unfolding k-scale
+  k-jump code e h = ltb-true k n (rw e at h)
+
+  k-slot : (code : ℕ) → 14 ≤ code → code ≤ 15 → k-scale n slots code k ≡ true → k < slots
+  unfolding k-scale
+  k-slot code l m h =
+      let a : code ≡ 1 → ⊥ = (λ e. omega arith) in
+      let b : code ≡ 16 → ⊥ = (λ e. omega arith) in
+      let c : code ≡ 5 → ⊥ = (λ e. omega arith) in
+      ltb-true k slots (rw (ne-eqb code 1 a, ne-eqb code 16 b, ne-eqb code 5 c, le-leb 14 code l, le-leb code 15 m) at h)
+
+a-named : (v code a : ℕ) → a-scale v code a ≡ true → (a < v) ⊎ ((16 ≤ code) × (a ≡ 255))
+unfolding a-scale
+a-named v code a h =
+    ⊎-elim (λ x. inl (ltb-true a v x))
+    (λ y. let z = both-true (leb 16 code) (eqb a 255) y in inr (leb-true 16 code (z .0), eqb-true a 255 (z .1)))
+    (either-true (ltb a v) (leb 16 code && eqb a 255) h)
+
+uses-b-call : uses-b 16 ≡ false
+unfolding uses-b
+uses-b-call = refl
+
+b-named : (v code b : ℕ) → b-scale v code b ≡ true → uses-b code ≡ true → b < v
+unfolding b-scale
+b-named v code b h u = go (eqb code 16) refl h
+  where
+    go : (t : Bool) → eqb code 16 ≡ t → t || below-or-none v (uses-b code) b ≡ true → b < v
+    go true e h =
+        let x : uses-b 16 ≡ true = rw (eqb-true code 16 e) at u in
+        absurd (let z : _≡_ {A = ℕ} 0 1 = cc uses-b-call in omega arith)
+    go false e h = due-below v b (uses-b code) h u
+
+actuals-named : (f b v : ℕ) → actuals-scale f b v ≡ true → (j : ℕ) → j < f → b + j < v
+unfolding actuals-scale
+actuals-named f b v h j l =
+    let n : f ≡ 0 → ⊥ = (λ e. omega arith) in
+    let m : b + f ≤ v = leb-true (b + f) v (rw (ne-eqb f 0 n) at h) in
+    omega arith
+
+-- ---- the procedure that an operation calls
+module _ (code k : ℕ) where
+  callee-other : (j : ℕ) (x y : Operation) → (j ≡ 16 → ⊥) → callee x ≡ 0 → callee y ≡ cond (eqb code 16) k 0
+      → callee (cond (eqb code j) x y) ≡ cond (eqb code 16) k 0
+  callee-other j x y n e f = go (eqb code j) refl
+    where
+      go : (t : Bool) → eqb code j ≡ t → callee (cond t x y) ≡ cond (eqb code 16) k 0
+      go true h =
+          let q : code ≡ 16 → ⊥ = (λ m. n (sym (eqb-true code j h) ∙ m)) in
+          rw (ne-eqb code 16 q) e
+      go false h = f
+
+  pub callee-decode : (a b c : ℕ) → callee (decode code a b c k) ≡ cond (eqb code 16) k 0
+  unfolding callee decode
+  callee-decode a b c =
+      callee-other 1 _ _ (eqb-false 1 16 refl) refl
+      (callee-other 2 _ _ (eqb-false 2 16 refl) refl
+      (callee-other 3 _ _ (eqb-false 3 16 refl) refl
+      (callee-other 4 _ _ (eqb-false 4 16 refl) refl
+      (callee-other 5 _ _ (eqb-false 5 16 refl) refl
+      (callee-other 6 _ _ (eqb-false 6 16 refl) refl
+      (callee-other 7 _ _ (eqb-false 7 16 refl) refl
+      (callee-other 8 _ _ (eqb-false 8 16 refl) refl
+      (callee-other 9 _ _ (eqb-false 9 16 refl) refl
+      (callee-other 10 _ _ (eqb-false 10 16 refl) refl
+      (callee-other 11 _ _ (eqb-false 11 16 refl) refl
+      (callee-other 12 _ _ (eqb-false 12 16 refl) refl
+      (callee-other 13 _ _ (eqb-false 13 16 refl) refl
+      (callee-other 14 _ _ (eqb-false 14 16 refl) refl
+      (callee-other 15 _ _ (eqb-false 15 16 refl) refl
+      (last (eqb code 16))))))))))))))))
+    where
+      last : (t : Bool) → callee (cond t (Call a b k) (Return a)) ≡ cond t k 0
+      last true = refl
+      last false = refl
+
+-- ---- a well-formed sheet
+module _ (s : List ℕ) (wf : verdict (form-tests s) ≡ Accepted) where
+  layout-accepted : verdict (layout-tests s) ≡ Accepted
+  unfolding form-tests
+  layout-accepted = left-accepted (layout-tests s) (calls-tests s) (right-accepted (length-tests s) _ wf)
+
+  calls-accepted : verdict (calls-tests s) ≡ Accepted
+  unfolding form-tests
+  calls-accepted = right-accepted (layout-tests s) (calls-tests s) (right-accepted (length-tests s) _ wf)
+
+  after-types : verdict (each (qualsOf s) (qual-tests s) ++ (each (proceduresOf s) (procedure-tests s) ++ leftover-tests s (procedureAt s (proceduresOf s)))) ≡ Accepted
+  unfolding layout-tests
+  after-types = right-accepted (each (typesOf s) (type-tests s)) _ (right-accepted (header-tests s) _ layout-accepted)
+
+  after-quals : verdict (each (proceduresOf s) (procedure-tests s) ++ leftover-tests s (procedureAt s (proceduresOf s))) ≡ Accepted
+  after-quals = right-accepted (each (qualsOf s) (qual-tests s)) _ after-types
+
+  -- at most 32,768 bytes
+  pub form-short : length s ≤ 32768
+  unfolding form-tests length-tests
+  form-short =
+      leb-true (length s) 32768 (passed-test overlong (leb (length s) 32768) [] (accepted-tests 0 _ (left-accepted (length-tests s) _ wf)) .0)
+
+  -- few types, qualified types and procedures, and at least one procedure
+  pub form-small : (typesOf s ≤ 32) × (qualsOf s ≤ 64) × (1 ≤ proceduresOf s) × (proceduresOf s ≤ 64)
+  unfolding layout-tests
+  form-small = header-small s (left-accepted (header-tests s) _ layout-accepted)
+
+  -- the last procedure ends where the sheet ends
+  pub form-ends : procedureAt s (proceduresOf s) ≡ length s
+  unfolding leftover-tests
+  form-ends =
+      let e = procedureAt s (proceduresOf s) in
+      let h = right-accepted (each (proceduresOf s) (procedure-tests s)) (leftover-tests s e) after-quals in
+      eqb-true e (length s) (passed-test torn (eqb e (length s)) [] (accepted-tests e _ h) .0)
+
+  -- a declared type
+  module _ (t : ℕ) (d : 2 ≤ t) (l : t < typesOf s + 2) where
+    type-formed : verdict (type-tests s (t - 2)) ≡ Accepted
+    unfolding layout-tests
+    type-formed =
+        each-accepted (type-tests s) (typesOf s) (left-accepted (each (typesOf s) (type-tests s)) _ (right-accepted (header-tests s) _ layout-accepted))
+        (t - 2) (omega arith)
+
+    type-held : Held (leb (namedOf s t) 15 ∷ leb (slotsOf s t) 8 ∷ all-below 8 (λ k. below-or-none (qualsOf s) (ltb k (slotsOf s t)) (slotOf s t k)) ∷ [])
+    unfolding type-tests type-scale
+    type-held =
+        let e : 2 + (t - 2) ≡ t = omega arith in
+        all-held true _ (record-formed s (typeAt t) 12 84 89 _ (rw e at type-formed) .1) .1
+
+    pub named-few : namedOf s t ≤ 15
+    named-few = leb-true (namedOf s t) 15 (type-held .0)
+
+    pub slots-few : slotsOf s t ≤ 8
+    slots-few = leb-true (slotsOf s t) 8 (type-held .1 .0)
+
+    pub slot-below : (k : ℕ) → k < slotsOf s t → slotOf s t k < qualsOf s
+    slot-below k m =
+        due-below (qualsOf s) (slotOf s t k) (ltb k (slotsOf s t))
+        (all-below-true (λ k. below-or-none (qualsOf s) (ltb k (slotsOf s t)) (slotOf s t k)) 8 (type-held .1 .1 .0) k (omega (arith, slots-few)))
+        (lt-ltb k (slotsOf s t) m)
+
+  -- a qualified type
+  module _ (j : ℕ) (l : j < qualsOf s) where
+    qual-held : Held (ltb (baseOf s j) (typesOf s + 2) ∷ rights-scale (namedOf s (baseOf s j)) (baseOf s j) (rightsOf s j) ∷ below-or-none j (eqb (baseOf s j) 1) (elementOf s j) ∷ [])
+    unfolding qual-tests qual-scale
+    qual-held =
+        let h = each-accepted (qual-tests s) (qualsOf s) (left-accepted (each (qualsOf s) (qual-tests s)) _ after-types) j l in
+        all-held true _ (record-formed s (qualAt s j) 6 81 84 _ h .1) .1
+
+    pub base-below : baseOf s j < typesOf s + 2
+    base-below = ltb-true (baseOf s j) (typesOf s + 2) (qual-held .0)
+
+    pub rights-fit : rights-scale (namedOf s (baseOf s j)) (baseOf s j) (rightsOf s j) ≡ true
+    rights-fit = qual-held .1 .0
+
+    pub element-falls : baseOf s j ≡ 1 → elementOf s j < j
+    element-falls b = due-below j (elementOf s j) (eqb (baseOf s j) 1) (qual-held .1 .1 .0) (eq-eqb (baseOf s j) 1 b)
+
+  -- a procedure
+  module _ (p : ℕ) (l : p < proceduresOf s) where
+    procedure-formed : verdict (procedure-tests-at s p (procedureAt s p)) ≡ Accepted
+    unfolding procedure-tests
+    procedure-formed =
+        each-accepted (procedure-tests s) (proceduresOf s) (left-accepted (each (proceduresOf s) (procedure-tests s)) _ after-quals) p l
+
+    after-head : verdict (each (variablesAt s (procedureAt s p)) (variable-tests s (procedureAt s p)) ++ each (instructionsAt s (procedureAt s p)) (instruction-tests s (procedureAt s p))) ≡ Accepted
+    unfolding procedure-tests-at
+    after-head = right-accepted (head-tests s p (procedureAt s p)) _ procedure-formed
+
+    head-true : procedure-scale (typesOf s) (qualsOf s) p (ownerAt s (procedureAt s p)) (formalsAt s (procedureAt s p)) (variablesAt s (procedureAt s p)) (resultAt s (procedureAt s p)) (instructionsAt s (procedureAt s p)) ≡ true
+    unfolding procedure-tests-at head-tests
+    head-true =
+        let pr = procedureAt s p in
+        record-formed s pr 8 80 82 _ (left-accepted (head-tests s p pr) _ procedure-formed) .1
+
+    pub owner-kind : (ownerAt s (procedureAt s p) ≡ 0) ⊎ ((2 ≤ ownerAt s (procedureAt s p)) × (ownerAt s (procedureAt s p) < typesOf s + 2))
+    unfolding procedure-scale
+    owner-kind =
+        let o = ownerAt s (procedureAt s p) in
+        let h = all-held true _ head-true .1 in
+        ⊎-elim (λ x. inl (eqb-true o 0 x))
+        (λ y. let z = both-true (leb 2 o) (ltb o (typesOf s + 2)) y in inr (leb-true 2 o (z .0), ltb-true o (typesOf s + 2) (z .1)))
+        (either-true (eqb o 0) (leb 2 o && ltb o (typesOf s + 2)) (h .0))
+
+    pub formals-few : formalsAt s (procedureAt s p) ≤ 8
+    unfolding procedure-scale
+    formals-few = leb-true (formalsAt s (procedureAt s p)) 8 (all-held true _ head-true .1 .1 .0)
+
+    pub formals-first : formalsAt s (procedureAt s p) ≤ variablesAt s (procedureAt s p)
+    unfolding procedure-scale
+    formals-first = leb-true (formalsAt s (procedureAt s p)) (variablesAt s (procedureAt s p)) (all-held true _ head-true .1 .1 .1 .0)
+
+    pub variables-few : variablesAt s (procedureAt s p) ≤ 32
+    unfolding procedure-scale
+    variables-few = leb-true (variablesAt s (procedureAt s p)) 32 (all-held true _ head-true .1 .1 .1 .1 .0)
+
+    pub result-below : (resultAt s (procedureAt s p) ≡ 255 → ⊥) → resultAt s (procedureAt s p) < qualsOf s
+    unfolding procedure-scale
+    result-below n =
+        let r = resultAt s (procedureAt s p) in
+        ltb-true r (qualsOf s) (rw (ne-eqb r 255 n) at (all-held true _ head-true .1 .1 .1 .1 .1 .0))
+
+    pub instructions-some : 1 ≤ instructionsAt s (procedureAt s p)
+    unfolding procedure-scale
+    instructions-some = leb-true 1 (instructionsAt s (procedureAt s p)) (all-held true _ head-true .1 .1 .1 .1 .1 .1 .0)
+
+    pub instructions-few : instructionsAt s (procedureAt s p) ≤ 1000
+    unfolding procedure-scale
+    instructions-few = leb-true (instructionsAt s (procedureAt s p)) 1000 (all-held true _ head-true .1 .1 .1 .1 .1 .1 .1 .0)
+
+    -- a variable of it
+    module _ (x : ℕ) (m : x < variablesAt s (procedureAt s p)) where
+      variable-held : Held (ltb (innerAt s (procedureAt s p) x) (qualsOf s) ∷ below-or-none (qualsOf s) (ltb x (formalsAt s (procedureAt s p))) (needAt s (procedureAt s p) x) ∷ [])
+      unfolding variable-tests variable-scale
+      variable-held =
+          let pr = procedureAt s p in
+          let h = each-accepted (variable-tests s pr) (variablesAt s pr) (left-accepted (each (variablesAt s pr) (variable-tests s pr)) _ after-head) x m in
+          all-held true _ (record-formed s (variableAt pr x) 4 86 82 _ h .1) .1
+
+      pub inner-below : innerAt s (procedureAt s p) x < qualsOf s
+      inner-below = ltb-true (innerAt s (procedureAt s p) x) (qualsOf s) (variable-held .0)
+
+    pub need-below : (x : ℕ) → x < formalsAt s (procedureAt s p) → needAt s (procedureAt s p) x < qualsOf s
+    need-below x m =
+        let pr = procedureAt s p in
+        due-below (qualsOf s) (needAt s pr x) (ltb x (formalsAt s pr)) (variable-held x (omega (arith, formals-first)) .1 .0) (lt-ltb x (formalsAt s pr) m)
+
+    -- an instruction of it
+    module _ (i : ℕ) (m : i < instructionsAt s (procedureAt s p)) where
+      instruction-formed :
+          (instructionAt s (procedureAt s p) i + 8 ≤ length s)
+          × (instruction-scale (variablesAt s (procedureAt s p)) (instructionsAt s (procedureAt s p)) (ownerAt s (procedureAt s p)) (slotsOf s (ownerAt s (procedureAt s p))) i
+          (code-in s p i) (a-in s p i) (b-in s p i) (c-in s p i) (k-in s p i) ≡ true)
+      unfolding instruction-tests instruction-tests-at
+      instruction-formed =
+          let pr = procedureAt s p in
+          record-formed s (instructionAt s pr i) 8 73 78 _
+          (each-accepted (instruction-tests s pr) (instructionsAt s pr) (right-accepted (each (variablesAt s pr) (variable-tests s pr)) _ after-head) i m)
+
+      -- its eight bytes stand within the sheet
+      pub instruction-whole : instructionAt s (procedureAt s p) i + 8 ≤ length s
+      instruction-whole = instruction-formed .0
+
+      pub code-known : (1 ≤ code-in s p i) × (code-in s p i ≤ 17)
+      unfolding instruction-scale
+      code-known =
+          let code = code-in s p i in
+          let h = both-true (leb 1 code) (leb code 17) (all-held true _ (instruction-formed .1) .1 .0) in
+          (leb-true 1 code (h .0), leb-true code 17 (h .1))
+
+      -- a is a variable, or 255 of a call or a return
+      pub a-below : (a-in s p i < variablesAt s (procedureAt s p)) ⊎ ((16 ≤ code-in s p i) × (a-in s p i ≡ 255))
+      unfolding instruction-scale
+      a-below = a-named _ _ _ (all-held true _ (instruction-formed .1) .1 .1 .0)
+
+      pub b-below : uses-b (code-in s p i) ≡ true → b-in s p i < variablesAt s (procedureAt s p)
+      unfolding instruction-scale
+      b-below u = b-named _ _ _ (all-held true _ (instruction-formed .1) .1 .1 .1 .0) u
+
+      pub c-below : uses-c (code-in s p i) ≡ true → c-in s p i < variablesAt s (procedureAt s p)
+      unfolding instruction-scale c-scale
+      c-below u = due-below _ _ _ (all-held true _ (instruction-formed .1) .1 .1 .1 .1 .0) u
+
+      -- a jump goes to an instruction of the procedure
+      pub jump-below : code-in s p i ≡ 5 → k-in s p i < instructionsAt s (procedureAt s p)
+      unfolding instruction-scale
+      jump-below e = k-jump _ _ _ _ e (all-held true _ (instruction-formed .1) .1 .1 .1 .1 .1 .0)
+
+      pub slot-named : 14 ≤ code-in s p i → code-in s p i ≤ 15 → k-in s p i < slotsOf s (ownerAt s (procedureAt s p))
+      unfolding instruction-scale
+      slot-named f g = k-slot _ _ _ _ f g (all-held true _ (instruction-formed .1) .1 .1 .1 .1 .1 .0)
+
+      -- codes 13 to 15 have an owner
+      pub owner-there : 13 ≤ code-in s p i → code-in s p i ≤ 15 → 2 ≤ ownerAt s (procedureAt s p)
+      unfolding instruction-scale
+      owner-there f g =
+          let code = code-in s p i in
+          leb-true 2 (ownerAt s (procedureAt s p))
+          (implied (from-to 13 15 code) _ (all-held true _ (instruction-formed .1) .1 .1 .1 .1 .1 .1 .0) (rw (le-leb 13 code f, le-leb code 15 g)))
+
+      -- the last instruction is a return
+      pub last-returns : i + 1 ≡ instructionsAt s (procedureAt s p) → code-in s p i ≡ 17
+      unfolding instruction-scale
+      last-returns e =
+          let n = instructionsAt s (procedureAt s p) in
+          eqb-true (code-in s p i) 17
+          (implied (eqb (i + 1) n) _ (all-held true _ (instruction-formed .1) .1 .1 .1 .1 .1 .1 .1 .0) (eq-eqb (i + 1) n e))
+
+      call-passed : failure (call-tests-at s (variablesAt s (procedureAt s p)) (instructionAt s (procedureAt s p) i)) ≡ 0
+      unfolding calls-tests procedure-calls call-tests
+      call-passed =
+          let pr = procedureAt s p in
+          let at = instructionAt s pr i in
+          let c = each-accepted (procedure-calls s) (proceduresOf s) calls-accepted p l in
+          accepted-tests at (call-tests-at s (variablesAt s pr) at) (each-accepted (call-tests s pr) (instructionsAt s pr) c i m)
+
+      call-held : code-in s p i ≡ 16
+          → (ltb (k-in s p i) (proceduresOf s) ≡ true)
+          × (actuals-scale (formalsAt s (procedureAt s (k-in s p i))) (b-in s p i) (variablesAt s (procedureAt s p)) ≡ true)
+      unfolding call-tests-at
+      call-held e =
+          let at = instructionAt s (procedureAt s p) i in
+          let h = passed-test off-scale (ltb (kAt s at) (proceduresOf s)) _ (rw (eq-eqb (codeAt s at) 16 e) at call-passed) in
+          (h .0, passed-test off-scale _ [] (h .1) .0)
+
+      -- a call names a procedure of the sheet, and as many variables as that has formals
+      pub call-below : code-in s p i ≡ 16 → k-in s p i < proceduresOf s
+      call-below e = ltb-true _ _ (call-held e .0)
+
+      pub actual-below : code-in s p i ≡ 16 → (j : ℕ) → j < formalsAt s (procedureAt s (k-in s p i))
+          → b-in s p i + j < variablesAt s (procedureAt s p)
+      actual-below e = actuals-named _ _ _ (call-held e .1)
+
+      pub callee-below : callee (operationAt s (instructionAt s (procedureAt s p) i)) < proceduresOf s
+      unfolding operationAt
+      callee-below =
+          let at = instructionAt s (procedureAt s p) i in
+          rw (callee-decode (codeAt s at) (kAt s at) (byteAt s at 3) (byteAt s at 4) (byteAt s at 5)) (go (eqb (codeAt s at) 16) refl)
+        where
+          go : (t : Bool) → eqb (code-in s p i) 16 ≡ t → cond t (k-in s p i) 0 < proceduresOf s
+          go true e = call-below (eqb-true _ _ e)
+          go false e = form-small .2
+
+    pub last-return : code-in s p (instructionsAt s (procedureAt s p) - 1) ≡ 17
+    last-return =
+        let n = instructionsAt s (procedureAt s p) in
+        last-returns (n - 1) (omega (arith, instructions-some)) (omega (arith, instructions-some))
+
+  -- procedure 0 is main: no owner, no formals, no result
+  pub main-plain : (ownerAt s (procedureAt s 0) ≡ 0) × (formalsAt s (procedureAt s 0) ≡ 0) × (resultAt s (procedureAt s 0) ≡ 255)
+  unfolding procedure-scale
+  main-plain =
+      let pr = procedureAt s 0 in
+      let h = both-true (eqb (ownerAt s pr) 0 && eqb (formalsAt s pr) 0) (eqb (resultAt s pr) 255) (all-held true _ (head-true 0 (form-small .2)) .1 .1 .1 .1 .1 .1 .1 .1 .0) in
+      let g = both-true (eqb (ownerAt s pr) 0) (eqb (formalsAt s pr) 0) (h .0) in
+      (eqb-true (ownerAt s pr) 0 (g .0), eqb-true (formalsAt s pr) 0 (g .1), eqb-true (resultAt s pr) 255 (h .1))

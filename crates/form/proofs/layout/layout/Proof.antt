@@ -1,0 +1,185 @@
+-- The first pass that refuses is the verdict, else the last one is. An accepted header has at most 64 procedures, which the table has room for.
+use mathlib.Core.Path.{sym, _∙_}
+use native.Mathlib.Omega.{arith}
+use borrow.Author.Needs.{needs}
+use Rattle.sheet.specs.Layout.{typesOf, qualsOf, proceduresOf}
+use Rattle.form.specs.WellFormed.{layout-tests}
+use Rattle.form.proofs.Laws.{stop-here, go-on, placed, header-small}
+use Rattle.form.proofs.layout.layout.Statement.{statement}
+use Rattle.form.proofs.layout.layout.Tie as tie
+
+overlong-requires : tie.Need-overlong-requires
+overlong-requires c κs = search needs
+
+enum-told : tie.Need-enum-told
+enum-told c = search needs
+
+enum-told-2 : tie.Need-enum-told-2
+enum-told-2 c = search needs
+
+returns : tie.Need-returns
+returns c = stop-here _ _ _ _ _ (c .before .before .overlong .ensures) (c .enum-told2 .given .1)
+
+header-requires : tie.Need-header-requires
+header-requires c κs = search needs
+
+enum-told-3 : tie.Need-enum-told-3
+enum-told-3 c = search needs
+
+enum-told-4 : tie.Need-enum-told-4
+enum-told-4 c = search needs
+
+returns-2 : tie.Need-returns-2
+unfolding layout-tests
+returns-2 c =
+    let d = c .before .before .before in
+    go-on _ _ _ _ (d .before .before .overlong .ensures) (d .enum-told .given .1)
+    (stop-here _ _ _ _ _ (c .before .before .header .ensures) (c .enum-told4 .given .1))
+
+byte-requires : tie.Need-byte-requires
+byte-requires c κs = search needs
+
+types-pass-requires : tie.Need-types-pass-requires
+types-pass-requires c κs = search needs
+
+enum-told-5 : tie.Need-enum-told-5
+enum-told-5 c = search needs
+
+enum-told-6 : tie.Need-enum-told-6
+enum-told-6 c = search needs
+
+returns-3 : tie.Need-returns-3
+unfolding layout-tests typesOf
+returns-3 c =
+    let h = c .before .before .before .before in
+    let types = rw (c .before .before .before .byte .ensures) at (c .before .before .types-pass .ensures) in
+    go-on _ _ _ _ (h .before .before .before .before .before .overlong .ensures) (h .before .before .before .enum-told .given .1)
+    (go-on _ _ _ _ (h .before .before .header .ensures) (h .enum-told3 .given .1)
+    (stop-here _ _ _ _ _ types (c .enum-told6 .given .1)))
+
+byte-requires-2 : tie.Need-byte-requires-2
+byte-requires-2 c κs = search needs
+
+quals-pass-requires : tie.Need-quals-pass-requires
+quals-pass-requires c κs = search needs
+
+enum-told-7 : tie.Need-enum-told-7
+enum-told-7 c = search needs
+
+enum-told-8 : tie.Need-enum-told-8
+enum-told-8 c = search needs
+
+returns-4 : tie.Need-returns-4
+unfolding layout-tests typesOf qualsOf
+returns-4 c =
+    let t = c .before .before .before .before in
+    let h = t .before .before .before .before in
+    let types = rw (t .before .before .before .byte .ensures) at (t .before .before .types-pass .ensures) in
+    let quals = rw (c .before .before .before .byte2 .ensures) at (c .before .before .quals-pass .ensures) in
+    go-on _ _ _ _ (h .before .before .before .before .before .overlong .ensures) (h .before .before .before .enum-told .given .1)
+    (go-on _ _ _ _ (h .before .before .header .ensures) (h .enum-told3 .given .1)
+    (go-on _ _ _ _ types (t .enum-told5 .given .1)
+    (stop-here _ _ _ _ _ quals (c .enum-told8 .given .1))))
+
+byte-requires-3 : tie.Need-byte-requires-3
+byte-requires-3 c κs = search needs
+
+cast-n : tie.Need-cast-n
+cast-n c = search needs
+
+procedures-pass-requires : tie.Need-procedures-pass-requires
+unfolding proceduresOf
+procedures-pass-requires c κs =
+    let h = c .before .before .before .before .before .before .before .before .before in
+    let small = header-small _ (sym (h .before .before .header .ensures) ∙ h .enum-told3 .given .1) in
+    (h .before .before .before .before .before .before .before .pre, (omega (arith, small .3), c .byte3 .ensures))
+
+enum-told-9 : tie.Need-enum-told-9
+enum-told-9 c = search needs
+
+enum-told-10 : tie.Need-enum-told-10
+enum-told-10 c = search needs
+
+returns-5 : tie.Need-returns-5
+unfolding layout-tests typesOf qualsOf proceduresOf
+returns-5 c =
+    let q = c .before .before .before .before in
+    let t = q .before .before .before .before in
+    let h = t .before .before .before .before in
+    let types = rw (t .before .before .before .byte .ensures) at (t .before .before .types-pass .ensures) in
+    let quals = rw (q .before .before .before .byte2 .ensures) at (q .before .before .quals-pass .ensures) in
+    let procedures = rw (c .before .before .before .byte3 .ensures) at (c .before .before .procedures-pass .ensures) in
+    go-on _ _ _ _ (h .before .before .before .before .before .overlong .ensures) (h .before .before .before .enum-told .given .1)
+    (go-on _ _ _ _ (h .before .before .header .ensures) (h .enum-told3 .given .1)
+    (go-on _ _ _ _ types (t .enum-told5 .given .1)
+    (go-on _ _ _ _ quals (q .enum-told7 .given .1)
+    (stop-here _ _ _ _ _ procedures (c .enum-told10 .given .1)))))
+
+mul-leftover : tie.Need-mul-leftover
+mul-leftover c = search needs
+
+element-copy-out-leftover : tie.Need-element-copy-out-leftover
+unfolding proceduresOf
+element-copy-out-leftover c =
+    let h = c .before .before .before .before .before .before .before .before .before .before .before .before in
+    let small = header-small _ (sym (h .before .before .header .ensures) ∙ h .enum-told3 .given .1) in
+    omega (arith, small .3, c .before .before .before .byte3 .ensures)
+
+leftover-requires : tie.Need-leftover-requires
+leftover-requires c κs = search needs
+
+returns-6 : tie.Need-returns-6
+unfolding layout-tests typesOf qualsOf proceduresOf
+returns-6 c =
+    let n = c .before .before in
+    let q = n .before .before .before .before in
+    let t = q .before .before .before .before in
+    let h = t .before .before .before .before in
+    let a = h .before .before .before .before .before .before .before in
+    let s = a .args .s .now in
+    let k = n .before .before .before .byte3 .result in
+    let small = header-small s (sym (h .before .before .header .ensures) ∙ h .enum-told3 .given .1) in
+    let e = n .before .before .before .byte3 .ensures in
+    let types = rw (t .before .before .before .byte .ensures) at (t .before .before .types-pass .ensures) in
+    let quals = rw (q .before .before .before .byte2 .ensures) at (q .before .before .quals-pass .ensures) in
+    let procedures = rw e at (n .before .before .procedures-pass .ensures) in
+    let end = placed s (a .args .table .now) (a .pre) k (omega (arith, e)) (omega (arith, e, small .3)) in
+    let over = rw (end, e) at (c .leftover .ensures) in
+    go-on _ _ _ _ (h .before .before .before .before .before .overlong .ensures) (h .before .before .before .enum-told .given .1)
+    (go-on _ _ _ _ (h .before .before .header .ensures) (h .enum-told3 .given .1)
+    (go-on _ _ _ _ types (t .enum-told5 .given .1)
+    (go-on _ _ _ _ quals (q .enum-told7 .given .1)
+    (go-on _ _ _ _ procedures (n .enum-told9 .given .1) over))))
+
+pub layout-spec : {M : Type 1} → statement M
+layout-spec =
+    tie.close
+    (tie.spec
+    overlong-requires
+    enum-told
+    enum-told-2
+    returns
+    header-requires
+    enum-told-3
+    enum-told-4
+    returns-2
+    byte-requires
+    types-pass-requires
+    enum-told-5
+    enum-told-6
+    returns-3
+    byte-requires-2
+    quals-pass-requires
+    enum-told-7
+    enum-told-8
+    returns-4
+    byte-requires-3
+    cast-n
+    procedures-pass-requires
+    enum-told-9
+    enum-told-10
+    returns-5
+    mul-leftover
+    element-copy-out-leftover
+    leftover-requires
+    returns-6)

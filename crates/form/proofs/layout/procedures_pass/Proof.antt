@@ -1,0 +1,82 @@
+-- The loop over the procedures: what is left to say is the verdict from the present one on. The table holds where each one stands.
+use Prim.Native.Nat.{ℕ, _-_}
+use mathlib.Core.Path.{_≡_, ap, _∙_}
+use native.Mathlib.Omega.{arith}
+use borrow.Author.Needs.{needs}
+use Rattle.model.specs.Refusal.{verdict}
+use Rattle.model.proofs.Verdicts.{Passing, pass-start, pass-next, pass-stop, pass-end}
+use Rattle.form.specs.WellFormed.{procedure-tests-at, procedure-tests}
+use Rattle.form.proofs.Laws.{placed}
+use Rattle.form.proofs.layout.procedures_pass.Statement.{statement}
+use Rattle.form.proofs.layout.procedures_pass.Tie as tie
+
+abbrev Inv-loop : tie.InvT-loop
+Inv-loop s table n p₀ p = Passing (procedure-tests s) n p
+
+abbrev μ-loop : tie.MeasureT-loop
+μ-loop s table n p₀ p = n - p
+
+loop-holds : tie.Need-loop-holds Inv-loop μ-loop
+loop-holds c = pass-start _ _
+
+mul-procedure-pass : tie.Need-mul-procedure-pass Inv-loop μ-loop
+mul-procedure-pass c = omega arith
+
+element-copy-out-procedure-pass : tie.Need-element-copy-out-procedure-pass Inv-loop μ-loop
+element-copy-out-procedure-pass c = omega arith
+
+procedure-pass-requires : tie.Need-procedure-pass-requires Inv-loop μ-loop
+procedure-pass-requires c κs = search needs
+
+enum-told : tie.Need-enum-told Inv-loop μ-loop
+enum-told c = search needs
+
+enum-told-2 : tie.Need-enum-told-2 Inv-loop μ-loop
+enum-told-2 c = search needs
+
+as-defined : (c : tie.After-procedure-pass Inv-loop μ-loop) →
+    let l = c .before .before .before in
+    c .procedure-pass .result ≡ verdict (procedure-tests (l .before .before .args .s .now) (l .loop .p))
+unfolding procedure-tests
+as-defined c =
+    let l = c .before .before .before in
+    let a = l .before .before in
+    let at = placed (a .args .s .now) (a .args .table .now) (a .pre .0) (l .loop .p) (omega arith) (omega arith) in
+    c .procedure-pass .ensures ∙ ap (λ (pr : ℕ). verdict (procedure-tests-at (a .args .s .now) (l .loop .p) pr)) at
+
+returns : tie.Need-returns Inv-loop μ-loop
+returns c =
+    let l = c .before .before .before .before in
+    pass-stop _ _ _ (l .before .loop .inv) (l .loop-test .taken) _ _ _ (as-defined (c .before .before)) (c .enum-told2 .given .1)
+
+add-p : tie.Need-add-p Inv-loop μ-loop
+add-p c = omega arith
+
+loop-less : tie.Need-loop-less Inv-loop μ-loop
+loop-less c = omega arith
+
+loop-again : tie.Need-loop-again Inv-loop μ-loop
+loop-again c =
+    let l = c .before .before .before .before in
+    pass-next _ _ _ (l .before .loop .inv) (l .loop-test .taken) _ (as-defined (c .before .before)) (c .enum-told .given .1)
+
+returns-2 : tie.Need-returns-2 Inv-loop μ-loop
+returns-2 c = pass-end _ _ _ (c .before .loop .inv) (c .loop-test .left)
+
+pub procedures-pass-spec : {M : Type 1} → statement M
+procedures-pass-spec =
+    tie.close
+    (tie.spec
+    Inv-loop
+    μ-loop
+    loop-holds
+    mul-procedure-pass
+    element-copy-out-procedure-pass
+    procedure-pass-requires
+    enum-told
+    enum-told-2
+    returns
+    add-p
+    loop-less
+    loop-again
+    returns-2)

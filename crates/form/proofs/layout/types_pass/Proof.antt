@@ -1,0 +1,61 @@
+-- The loop over the TY records: what is left to say is the verdict from the present record on.
+use Prim.Native.Nat.{_-_}
+use native.Mathlib.Omega.{arith}
+use borrow.Author.Needs.{needs}
+use Rattle.model.proofs.Verdicts.{Passing, pass-start, pass-next, pass-stop, pass-end}
+use Rattle.form.specs.WellFormed.{type-tests}
+use Rattle.form.proofs.layout.types_pass.Statement.{statement}
+use Rattle.form.proofs.layout.types_pass.Tie as tie
+
+abbrev Inv-loop : tie.InvT-loop
+Inv-loop s t i₀ i = Passing (type-tests s) t i
+
+abbrev μ-loop : tie.MeasureT-loop
+μ-loop s t i₀ i = t - i
+
+loop-holds : tie.Need-loop-holds Inv-loop μ-loop
+loop-holds c = pass-start _ _
+
+type-record-requires : tie.Need-type-record-requires Inv-loop μ-loop
+type-record-requires c κs = search needs
+
+enum-told : tie.Need-enum-told Inv-loop μ-loop
+enum-told c = search needs
+
+enum-told-2 : tie.Need-enum-told-2 Inv-loop μ-loop
+enum-told-2 c = search needs
+
+returns : tie.Need-returns Inv-loop μ-loop
+returns c =
+    let l = c .before .before .before in
+    pass-stop _ _ _ (l .before .loop .inv) (l .loop-test .taken) _ _ _ (c .before .before .type-record .ensures) (c .enum-told2 .given .1)
+
+add-i : tie.Need-add-i Inv-loop μ-loop
+add-i c = omega arith
+
+loop-less : tie.Need-loop-less Inv-loop μ-loop
+loop-less c = omega arith
+
+loop-again : tie.Need-loop-again Inv-loop μ-loop
+loop-again c =
+    let l = c .before .before .before in
+    pass-next _ _ _ (l .before .loop .inv) (l .loop-test .taken) _ (c .before .before .type-record .ensures) (c .enum-told .given .1)
+
+returns-2 : tie.Need-returns-2 Inv-loop μ-loop
+returns-2 c = pass-end _ _ _ (c .before .loop .inv) (c .loop-test .left)
+
+pub types-pass-spec : {M : Type 1} → statement M
+types-pass-spec =
+    tie.close
+    (tie.spec
+    Inv-loop
+    μ-loop
+    loop-holds
+    type-record-requires
+    enum-told
+    enum-told-2
+    returns
+    add-i
+    loop-less
+    loop-again
+    returns-2)

@@ -1,0 +1,97 @@
+-- Each way through the tests is a way through the definition.
+use mathlib.Core.Path.{sym, _∙_}
+use borrow.Author.Needs.{needs}
+use borrow.Author.Tests.{eq-eqb, ne-eqb}
+use Rattle.model.specs.Refusal.{verdict, refuse, failure}
+use Rattle.sheet.specs.Layout.{editionOf, typesOf, qualsOf, proceduresOf}
+use Rattle.form.specs.WellFormed.{header-tests}
+use Rattle.form.proofs.records.header.Statement.{statement}
+use Rattle.form.proofs.records.header.Tie as tie
+
+byte-requires : tie.Need-byte-requires
+byte-requires c κs = search needs
+
+byte-requires-2 : tie.Need-byte-requires-2
+byte-requires-2 c κs = search needs
+
+byte-requires-3 : tie.Need-byte-requires-3
+byte-requires-3 c κs = search needs
+
+header-scale-requires : tie.Need-header-scale-requires
+header-scale-requires c κs = search needs
+
+whole-requires : tie.Need-whole-requires
+whole-requires c κs = search needs
+
+marked-requires : tie.Need-marked-requires
+marked-requires c κs = search needs
+
+byte-requires-4 : tie.Need-byte-requires-4
+byte-requires-4 c κs = search needs
+
+returns : tie.Need-returns
+unfolding verdict refuse failure header-tests editionOf typesOf qualsOf proceduresOf
+returns c =
+    rw (
+      sym (c .before .before .before .before .before .before .whole .ensures) ∙ c .before .before .before .before .before .if1 .taken,
+      sym (c .before .before .before .before .marked .ensures) ∙ c .before .before .before .if2 .taken,
+      ← c .before .before .byte4 .ensures,
+      eq-eqb _ 1 (c .before .if3 .taken),
+      ← c .before .before .before .before .before .before .before .before .byte3 .ensures,
+      ← c .before .before .before .before .before .before .before .before .before .byte2 .ensures,
+      ← c .before .before .before .before .before .before .before .before .before .before .byte .ensures,
+      sym (c .before .before .before .before .before .before .before .header-scale .ensures) ∙ c .if4 .taken,
+    )
+
+returns-2 : tie.Need-returns-2
+unfolding verdict refuse failure header-tests editionOf typesOf qualsOf proceduresOf
+returns-2 c =
+    rw (
+      sym (c .before .before .before .before .before .before .whole .ensures) ∙ c .before .before .before .before .before .if1 .taken,
+      sym (c .before .before .before .before .marked .ensures) ∙ c .before .before .before .if2 .taken,
+      ← c .before .before .byte4 .ensures,
+      eq-eqb _ 1 (c .before .if3 .taken),
+      ← c .before .before .before .before .before .before .before .before .byte3 .ensures,
+      ← c .before .before .before .before .before .before .before .before .before .byte2 .ensures,
+      ← c .before .before .before .before .before .before .before .before .before .before .byte .ensures,
+      sym (c .before .before .before .before .before .before .before .header-scale .ensures) ∙ c .if4 .left,
+    )
+
+returns-3 : tie.Need-returns-3
+unfolding verdict refuse failure header-tests editionOf typesOf qualsOf proceduresOf
+returns-3 c =
+    rw (
+      sym (c .before .before .before .before .before .whole .ensures) ∙ c .before .before .before .before .if1 .taken,
+      sym (c .before .before .before .marked .ensures) ∙ c .before .before .if2 .taken,
+      ← c .before .byte4 .ensures,
+      ne-eqb _ 1 (c .if3 .left),
+    )
+
+returns-4 : tie.Need-returns-4
+unfolding verdict refuse failure header-tests editionOf typesOf qualsOf proceduresOf
+returns-4 c =
+    rw (
+      sym (c .before .before .before .whole .ensures) ∙ c .before .before .if1 .taken,
+      sym (c .before .marked .ensures) ∙ c .if2 .left,
+    )
+
+returns-5 : tie.Need-returns-5
+unfolding verdict refuse failure header-tests editionOf typesOf qualsOf proceduresOf
+returns-5 c = rw (sym (c .before .whole .ensures) ∙ c .if1 .left)
+
+pub header-spec : {M : Type 1} → statement M
+header-spec =
+    tie.close
+    (tie.spec
+    byte-requires
+    byte-requires-2
+    byte-requires-3
+    header-scale-requires
+    whole-requires
+    marked-requires
+    byte-requires-4
+    returns
+    returns-2
+    returns-3
+    returns-4
+    returns-5)

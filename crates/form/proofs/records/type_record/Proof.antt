@@ -1,0 +1,47 @@
+-- TY number i is that of type 2 + i, so it stands at 6 + 12 * i; the rest is what the calls ensure.
+use Prim.Native.Nat.{ℕ, _+_, _*_}
+use mathlib.Core.Path.{_≡_, ap}
+use mathlib.Core.List.{List}
+use native.Mathlib.Omega.{arith}
+use borrow.Author.Needs.{needs}
+use Rattle.model.specs.Refusal.{Tests}
+use Rattle.sheet.specs.Bytes.{byteAt}
+use Rattle.sheet.specs.Layout.{typeAt, qualsOf, namedOf, slotsOf, slotOf}
+use Rattle.form.specs.Scale.{type-scale}
+use Rattle.form.specs.WellFormed.{record-tests, type-tests}
+use Rattle.form.proofs.records.type_record.Statement.{statement}
+use Rattle.form.proofs.records.type_record.Tie as tie
+
+type-place : (i : ℕ) → typeAt (2 + i) ≡ 6 + 12 * i
+unfolding typeAt
+type-place i = omega arith
+
+abbrev tests-at : List ℕ → ℕ → List Tests
+tests-at s at = record-tests s at 12 84 89 (type-scale (byteAt s 0 4) (byteAt s at 2) (byteAt s at 3) (λ k. byteAt s at (4 + k)))
+
+type-tests-at : (s : List ℕ) (i : ℕ) → type-tests s i ≡ tests-at s (6 + 12 * i)
+unfolding type-tests qualsOf namedOf slotsOf slotOf
+type-tests-at s i = ap (tests-at s) (type-place i)
+
+mul-at : tie.Need-mul-at
+mul-at c = search needs
+
+add-at : tie.Need-add-at
+add-at c = search needs
+
+byte-requires : tie.Need-byte-requires
+byte-requires c κs = search needs
+
+type-scale-requires : tie.Need-type-scale-requires
+type-scale-requires c κs = search needs
+
+record-requires : tie.Need-record-requires
+record-requires c κs = search needs
+
+returns : tie.Need-returns
+returns c =
+    rw (c .«record» .ensures, c .before .type-scale .ensures, c .before .before .byte .ensures, type-tests-at)
+
+pub type-record-spec : {M : Type 1} → statement M
+type-record-spec =
+    tie.close (tie.spec mul-at add-at byte-requires type-scale-requires record-requires returns)

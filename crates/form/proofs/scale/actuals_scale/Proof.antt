@@ -1,0 +1,18 @@
+-- The code is the definition, with what the calls ensure in place of their results.
+use borrow.Author.Needs.{needs}
+use Rattle.form.specs.Scale.{actuals-scale}
+use Rattle.form.proofs.scale.actuals_scale.Statement.{statement}
+use Rattle.form.proofs.scale.actuals_scale.Tie as tie
+
+add-pick : tie.Need-add-pick
+add-pick c = search needs
+
+pick-requires : tie.Need-pick-requires
+pick-requires c κs = search needs
+
+returns : tie.Need-returns
+unfolding actuals-scale
+returns c = rw (c .pick .ensures)
+
+pub actuals-scale-spec : {M : Type 1} → statement M
+actuals-scale-spec = tie.close (tie.spec add-pick pick-requires returns)

@@ -1,0 +1,15 @@
+-- The code is the definition, with what the calls ensure in place of their results.
+use borrow.Author.Needs.{needs}
+use Rattle.form.specs.Scale.{below-or-none}
+use Rattle.form.proofs.scale.below_or_none.Statement.{statement}
+use Rattle.form.proofs.scale.below_or_none.Tie as tie
+
+pick-requires : tie.Need-pick-requires
+pick-requires c κs = search needs
+
+returns : tie.Need-returns
+unfolding below-or-none
+returns c = rw (c .pick .ensures)
+
+pub below-or-none-spec : {M : Type 1} → statement M
+below-or-none-spec = tie.close (tie.spec pick-requires returns)

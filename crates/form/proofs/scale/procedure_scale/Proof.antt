@@ -1,0 +1,17 @@
+-- The code is the definition.
+use mathlib.Core.Path.{refl}
+use borrow.Author.Needs.{needs}
+use Rattle.model.specs.Refusal.{all-from}
+use Rattle.form.specs.Scale.{procedure-scale}
+use Rattle.form.proofs.scale.procedure_scale.Statement.{statement}
+use Rattle.form.proofs.scale.procedure_scale.Tie as tie
+
+add-result : tie.Need-add-result
+add-result c = search needs
+
+returns : tie.Need-returns
+unfolding procedure-scale all-from
+returns c = refl
+
+pub procedure-scale-spec : {M : Type 1} → statement M
+procedure-scale-spec = tie.close (tie.spec add-result returns)

@@ -1,0 +1,16 @@
+-- The code is the definition, with what the calls ensure in place of their results.
+use borrow.Author.Needs.{needs}
+use Rattle.model.specs.Refusal.{all-from}
+use Rattle.form.specs.Scale.{variable-scale}
+use Rattle.form.proofs.scale.variable_scale.Statement.{statement}
+use Rattle.form.proofs.scale.variable_scale.Tie as tie
+
+below-or-none-requires : tie.Need-below-or-none-requires
+below-or-none-requires c κs = search needs
+
+returns : tie.Need-returns
+unfolding variable-scale all-from
+returns c = rw (c .below-or-none .ensures)
+
+pub variable-scale-spec : {M : Type 1} → statement M
+variable-scale-spec = tie.close (tie.spec below-or-none-requires returns)

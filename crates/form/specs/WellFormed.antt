@@ -1,0 +1,107 @@
+-- Refusals 1 to 5 in their order (document 01): "1; then record by record 2, 3, 4, 5 in field order; leftover bytes 2;
+-- then, call by call, the 5s that wait for the procedure called".
+use Prim.Native.Nat.{ℕ, _+_}
+use mathlib.Core.List.{List, [], _∷_, _++_}
+use mathlib.Core.Bool.{Bool, cond}
+use lib.ListN.{length}
+use lib.Dec.{leb, ltb, eqb}
+use Rattle.model.specs.Refusal.{overlong, torn, stray-mark, bad-edition, off-scale, Test, test, Tests, tests, each}
+use Rattle.sheet.specs.Bytes.{byteAt, wholeAt, markedAt}
+use Rattle.sheet.specs.Layout.{hd-size, ty-size, qt-size, pr-size, vr-size, in-size, editionOf, typesOf, qualsOf, proceduresOf, typeAt, namedOf, slotsOf, slotOf, qualAt, baseOf, rightsOf, elementOf, ownerAt, formalsAt, variablesAt, resultAt, instructionsAt, variableAt, innerAt, needAt, instructionAt, codeAt, kAt, procedureAt}
+use Rattle.form.specs.Scale.{header-scale, type-scale, qual-scale, procedure-scale, variable-scale, instruction-scale, actuals-scale}
+
+-- 1: "more than 32,768 bytes"
+unfoldable pub length-tests : List ℕ → List Tests
+length-tests s = tests 0 (test overlong (leb (length s) 32768) ∷ []) ∷ []
+
+-- a record of a size, under its mark (two bytes), within its limits: 2 torn, 3 stray mark, 5 off scale
+unfoldable pub record-tests : List ℕ → (at size m n : ℕ) → Bool → List Tests
+record-tests s at size m n scale =
+    tests at (test torn (wholeAt s at size) ∷ test stray-mark (markedAt s at m n) ∷ test off-scale scale ∷ []) ∷ []
+
+-- HD; 4 is "not 1"
+unfoldable pub header-tests : List ℕ → List Tests
+header-tests s =
+    tests 0 (
+      test torn (wholeAt s 0 hd-size) ∷
+      test stray-mark (markedAt s 0 72 68) ∷
+      test bad-edition (eqb (editionOf s) 1) ∷
+      test off-scale (header-scale (typesOf s) (qualsOf s) (proceduresOf s)) ∷
+      [])
+    ∷ []
+
+-- TY number i, of type 2 + i
+unfoldable pub type-tests : List ℕ → ℕ → List Tests
+type-tests s i =
+    record-tests s (typeAt (2 + i)) ty-size 84 89
+    (type-scale (qualsOf s) (namedOf s (2 + i)) (slotsOf s (2 + i)) (slotOf s (2 + i)))
+
+-- QT number j
+unfoldable pub qual-tests : List ℕ → ℕ → List Tests
+qual-tests s j =
+    record-tests s (qualAt s j) qt-size 81 84
+    (qual-scale (typesOf s) (namedOf s (baseOf s j)) j (baseOf s j) (rightsOf s j) (elementOf s j))
+
+-- PR number p, at `pr`
+unfoldable pub head-tests : List ℕ → (p pr : ℕ) → List Tests
+head-tests s p pr =
+    record-tests s pr pr-size 80 82
+    (procedure-scale (typesOf s) (qualsOf s) p (ownerAt s pr) (formalsAt s pr) (variablesAt s pr) (resultAt s pr) (instructionsAt s pr))
+
+-- VR number x of the procedure at `pr`
+unfoldable pub variable-tests : List ℕ → (pr x : ℕ) → List Tests
+variable-tests s pr x =
+    record-tests s (variableAt pr x) vr-size 86 82
+    (variable-scale (qualsOf s) (formalsAt s pr) x (innerAt s pr x) (needAt s pr x))
+
+-- IN number i, at `at`, in a procedure with v variables, n instructions and an owner
+unfoldable pub instruction-tests-at : List ℕ → (v n owner i at : ℕ) → List Tests
+instruction-tests-at s v n owner i at =
+    record-tests s at in-size 73 78
+    (instruction-scale v n owner (slotsOf s owner) i (codeAt s at) (byteAt s at 3) (byteAt s at 4) (byteAt s at 5) (kAt s at))
+
+unfoldable pub instruction-tests : List ℕ → (pr i : ℕ) → List Tests
+instruction-tests s pr i =
+    instruction-tests-at s (variablesAt s pr) (instructionsAt s pr) (ownerAt s pr) i (instructionAt s pr i)
+
+-- procedure p, at `pr`: its PR, VRs, INs
+unfoldable pub procedure-tests-at : List ℕ → (p pr : ℕ) → List Tests
+procedure-tests-at s p pr =
+    head-tests s p pr ++ (each (variablesAt s pr) (variable-tests s pr) ++ each (instructionsAt s pr) (instruction-tests s pr))
+
+unfoldable pub procedure-tests : List ℕ → ℕ → List Tests
+procedure-tests s p = procedure-tests-at s p (procedureAt s p)
+
+-- "the first leftover byte where bytes are left over": none is left after the last record, which ends at `end`
+unfoldable pub leftover-tests : List ℕ → ℕ → List Tests
+leftover-tests s end = tests end (test torn (eqb end (length s)) ∷ []) ∷ []
+
+unfoldable pub layout-tests : List ℕ → List Tests
+layout-tests s =
+    header-tests s
+    ++ (each (typesOf s) (type-tests s)
+    ++ (each (qualsOf s) (qual-tests s)
+    ++ (each (proceduresOf s) (procedure-tests s)
+    ++ leftover-tests s (procedureAt s (proceduresOf s)))))
+
+-- "call by call": "k<p, then b"; an IN that is no call is asked nothing
+unfoldable pub call-tests-at : List ℕ → (v at : ℕ) → List Test
+call-tests-at s v at =
+    cond (eqb (codeAt s at) 16)
+    (test off-scale (ltb (kAt s at) (proceduresOf s))
+    ∷ test off-scale (actuals-scale (formalsAt s (procedureAt s (kAt s at))) (byteAt s at 4) v)
+    ∷ [])
+    []
+
+unfoldable pub call-tests : List ℕ → (pr i : ℕ) → List Tests
+call-tests s pr i = tests (instructionAt s pr i) (call-tests-at s (variablesAt s pr) (instructionAt s pr i)) ∷ []
+
+unfoldable pub procedure-calls : List ℕ → ℕ → List Tests
+procedure-calls s p = each (instructionsAt s (procedureAt s p)) (call-tests s (procedureAt s p))
+
+unfoldable pub calls-tests : List ℕ → List Tests
+calls-tests s = each (proceduresOf s) (procedure-calls s)
+
+-- a sheet is well-formed when none of 1 to 5 is given
+unfoldable pub form-tests : List ℕ → List Tests
+form-tests s = length-tests s ++ (layout-tests s ++ calls-tests s)

@@ -1,0 +1,94 @@
+// The limits of a call that wait for the procedure called.
+use crate::layout::layout;
+use crate::scale::actuals_scale;
+use model::Verdict;
+use sheet::bytes::byte;
+use sheet::bytes::word;
+use sheet::places::instruction_at;
+ghost use mathlib.Core.Path.{_≡_};
+ghost use Prim.Native.Nat.{_≤_, _<_};
+ghost use mathlib.Core.List.{[], _∷_};
+ghost use Rattle.model.specs.Refusal.{verdict, failure, tests, each};
+ghost use Rattle.sheet.specs.Layout.{proceduresOf, instructionsAt, instructionAt};
+ghost use Rattle.sheet.specs.Places.{Places};
+ghost use Rattle.form.specs.WellFormed.{call-tests-at, call-tests, procedure-calls, calls-tests, form-tests};
+
+// The number of the refusal of the IN at a place, in a procedure with v variables; 0 where there is none.
+fn call_number(s: &[u8], table: &[u32; 65], v: u8, at: usize) -> u8
+    requires { ⌜ Places (now s) (now table) ⌝ }
+    requires { ⌜ proceduresOf (now s) ≤ 64 ⌝ }
+    ensures { λ r. ⌜ r ≡ failure (call-tests-at (now (s .entry)) v at) ⌝ }
+{
+    if byte(s, at, 2) == 16 {
+        let k = word(s, at, 6) as usize;
+        if k < (byte(s, 0, 5) as usize) {
+            let pr = table[k];
+            if actuals_scale(byte(s, pr as usize, 3), byte(s, at, 4), v) {
+                return 0;
+            }
+            return 5;
+        }
+        return 5;
+    }
+    0
+}
+
+fn call_record(s: &[u8], table: &[u32; 65], v: u8, at: usize) -> Verdict
+    requires { ⌜ Places (now s) (now table) ⌝ }
+    requires { ⌜ proceduresOf (now s) ≤ 64 ⌝ }
+    ensures { λ r. ⌜ r ≡ verdict (tests at (call-tests-at (now (s .entry)) v at) ∷ []) ⌝ }
+{
+    let n = call_number(s, table, v, at);
+    if n == 0 {
+        return Verdict::Accepted;
+    }
+    Verdict::Refused(n, at)
+}
+
+fn calls_pass(s: &[u8], table: &[u32; 65], pr: u32) -> Verdict
+    requires { ⌜ Places (now s) (now table) ⌝ }
+    requires { ⌜ proceduresOf (now s) ≤ 64 ⌝ }
+    ensures { λ r. ⌜ r ≡ verdict (each (instructionsAt (now (s .entry)) pr) (call-tests (now (s .entry)) pr)) ⌝ }
+{
+    let vars = byte(s, pr as usize, 4);
+    let n = word(s, pr as usize, 6);
+    let first = instruction_at(s, pr, 0);
+    let mut i: u16 = 0;
+    while i < n {
+        let v = call_record(s, table, vars, first + 8 * (i as usize));
+        let Verdict::Accepted = v else {
+            return v;
+        };
+        i += 1;
+    }
+    Verdict::Accepted
+}
+
+fn calls(s: &[u8], table: &[u32; 65], n: usize) -> Verdict
+    requires { ⌜ Places (now s) (now table) ⌝ }
+    requires { ⌜ proceduresOf (now s) ≤ 64 ⌝ }
+    requires { ⌜ n ≡ proceduresOf (now s) ⌝ }
+    ensures { λ r. ⌜ r ≡ verdict (calls-tests (now (s .entry))) ⌝ }
+{
+    let mut p = 0;
+    while p < n {
+        let v = calls_pass(s, table, table[p]);
+        let Verdict::Accepted = v else {
+            return v;
+        };
+        p += 1;
+    }
+    Verdict::Accepted
+}
+
+// Refusals 1 to 5.
+pub fn well_formed(s: &[u8], table: &[u32; 65]) -> Verdict
+    requires { ⌜ Places (now s) (now table) ⌝ }
+    ensures { λ r. ⌜ r ≡ verdict (form-tests (now (s .entry))) ⌝ }
+{
+    let v = layout(s, table);
+    let Verdict::Accepted = v else {
+        return v;
+    };
+    calls(s, table, byte(s, 0, 5) as usize)
+}

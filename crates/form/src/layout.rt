@@ -1,0 +1,161 @@
+// The pass over all records in their order, one loop a kind, and the bytes left over.
+use crate::records::head_record;
+use crate::records::header;
+use crate::records::instruction_record;
+use crate::records::qual_record;
+use crate::records::type_record;
+use crate::records::variable_record;
+use model::Verdict;
+use sheet::bytes::byte;
+use sheet::bytes::word;
+use sheet::places::instruction_at;
+ghost use mathlib.Core.Path.{_≡_};
+ghost use mathlib.Core.List.{_++_};
+ghost use Prim.Native.Nat.{_≤_, _<_};
+ghost use lib.ListN.{length};
+ghost use Rattle.model.specs.Refusal.{verdict, each};
+ghost use Rattle.sheet.specs.Layout.{typesOf, qualsOf, proceduresOf, variablesAt, instructionsAt, procedureAt};
+ghost use Rattle.sheet.specs.Places.{Places};
+ghost use Rattle.form.specs.WellFormed.{length-tests, type-tests, qual-tests, variable-tests, instruction-tests, procedure-tests-at, procedure-tests, leftover-tests, layout-tests};
+
+fn types_pass(s: &[u8], t: u8) -> Verdict
+    ensures { λ r. ⌜ r ≡ verdict (each t (type-tests (now (s .entry)))) ⌝ }
+{
+    let mut i = 0;
+    while i < t {
+        let v = type_record(s, i);
+        let Verdict::Accepted = v else {
+            return v;
+        };
+        i += 1;
+    }
+    Verdict::Accepted
+}
+
+fn quals_pass(s: &[u8], q: u8) -> Verdict
+    ensures { λ r. ⌜ r ≡ verdict (each q (qual-tests (now (s .entry)))) ⌝ }
+{
+    let mut j = 0;
+    while j < q {
+        let v = qual_record(s, j);
+        let Verdict::Accepted = v else {
+            return v;
+        };
+        j += 1;
+    }
+    Verdict::Accepted
+}
+
+fn variables_pass(s: &[u8], pr: u32) -> Verdict
+    ensures { λ r. ⌜ r ≡ verdict (each (variablesAt (now (s .entry)) pr) (variable-tests (now (s .entry)) pr)) ⌝ }
+{
+    let n = byte(s, pr as usize, 4);
+    let mut x = 0;
+    while x < n {
+        let v = variable_record(s, pr, x);
+        let Verdict::Accepted = v else {
+            return v;
+        };
+        x += 1;
+    }
+    Verdict::Accepted
+}
+
+fn instructions_pass(s: &[u8], pr: u32) -> Verdict
+    ensures { λ r. ⌜ r ≡ verdict (each (instructionsAt (now (s .entry)) pr) (instruction-tests (now (s .entry)) pr)) ⌝ }
+{
+    let owner = byte(s, pr as usize, 2);
+    let vars = byte(s, pr as usize, 4);
+    let n = word(s, pr as usize, 6);
+    let first = instruction_at(s, pr, 0);
+    let mut i: u16 = 0;
+    while i < n {
+        let v = instruction_record(s, vars, n, owner, i, first + 8 * (i as usize));
+        let Verdict::Accepted = v else {
+            return v;
+        };
+        i += 1;
+    }
+    Verdict::Accepted
+}
+
+// Procedure p, at a place: its PR, VRs, INs.
+fn procedure_pass(s: &[u8], p: usize, pr: u32) -> Verdict
+    ensures { λ r. ⌜ r ≡ verdict (procedure-tests-at (now (s .entry)) p pr) ⌝ }
+{
+    let head = head_record(s, p, pr);
+    let Verdict::Accepted = head else {
+        return head;
+    };
+    let variables = variables_pass(s, pr);
+    let Verdict::Accepted = variables else {
+        return variables;
+    };
+    instructions_pass(s, pr)
+}
+
+fn procedures_pass(s: &[u8], table: &[u32; 65], n: usize) -> Verdict
+    requires { ⌜ Places (now s) (now table) ⌝ }
+    requires { ⌜ n ≤ 64 ⌝ }
+    requires { ⌜ n ≡ proceduresOf (now s) ⌝ }
+    ensures { λ r. ⌜ r ≡ verdict (each n (procedure-tests (now (s .entry)))) ⌝ }
+{
+    let mut p = 0;
+    while p < n {
+        let v = procedure_pass(s, p, table[p]);
+        let Verdict::Accepted = v else {
+            return v;
+        };
+        p += 1;
+    }
+    Verdict::Accepted
+}
+
+// No byte is left over after the last record.
+fn leftover(s: &[u8], end: u32) -> Verdict
+    ensures { λ r. ⌜ r ≡ verdict (leftover-tests (now (s .entry)) end) ⌝ }
+{
+    let at = end as usize;
+    if at == s.len() {
+        return Verdict::Accepted;
+    }
+    Verdict::Refused(2, at)
+}
+
+fn overlong(s: &[u8]) -> Verdict
+    ensures { λ r. ⌜ r ≡ verdict (length-tests (now (s .entry))) ⌝ }
+{
+    if s.len() <= 32768 {
+        return Verdict::Accepted;
+    }
+    Verdict::Refused(1, 0)
+}
+
+// Refusal 1, then 2 to 5 record by record, then bytes left over.
+pub fn layout(s: &[u8], table: &[u32; 65]) -> Verdict
+    requires { ⌜ Places (now s) (now table) ⌝ }
+    ensures { λ r. ⌜ r ≡ verdict (length-tests (now (s .entry)) ++ layout-tests (now (s .entry))) ⌝ }
+{
+    let long = overlong(s);
+    let Verdict::Accepted = long else {
+        return long;
+    };
+    let head = header(s);
+    let Verdict::Accepted = head else {
+        return head;
+    };
+    let types = types_pass(s, byte(s, 0, 3));
+    let Verdict::Accepted = types else {
+        return types;
+    };
+    let quals = quals_pass(s, byte(s, 0, 4));
+    let Verdict::Accepted = quals else {
+        return quals;
+    };
+    let n = byte(s, 0, 5) as usize;
+    let procedures = procedures_pass(s, table, n);
+    let Verdict::Accepted = procedures else {
+        return procedures;
+    };
+    leftover(s, table[n])
+}

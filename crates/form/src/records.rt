@@ -1,0 +1,136 @@
+// One record of each kind: whole, under its mark, within its limits.
+use crate::scale::below_or_none;
+use crate::scale::header_scale;
+use crate::scale::instruction_scale;
+use crate::scale::procedure_scale;
+use crate::scale::qual_scale;
+use crate::scale::variable_scale;
+use model::Verdict;
+use sheet::bytes::byte;
+use sheet::bytes::marked;
+use sheet::bytes::whole;
+use sheet::bytes::word;
+use sheet::places::qual_at;
+use sheet::places::type_at;
+use sheet::places::variable_at;
+ghost use mathlib.Core.Path.{_≡_};
+ghost use Prim.Native.Nat.{_+_, _<_};
+ghost use lib.Dec.{ltb};
+ghost use Rattle.model.specs.Refusal.{verdict};
+ghost use Rattle.sheet.specs.Bytes.{byteAt};
+ghost use Rattle.sheet.specs.Layout.{qualsOf, namedOf, slotsOf, slotOf, typeAt};
+ghost use Rattle.form.specs.Scale.{below-or-none, type-scale};
+ghost use Rattle.form.specs.WellFormed.{record-tests, header-tests, type-tests, qual-tests, head-tests, variable-tests, instruction-tests-at};
+
+// A record of a size under its mark: 2, 3 or 5, in this order.
+fn record(s: &[u8], at: usize, size: usize, m: u8, n: u8, scale: bool) -> Verdict
+    ensures { λ r. ⌜ r ≡ verdict (record-tests (now (s .entry)) at size m n scale) ⌝ }
+{
+    if whole(s, at, size) {
+        if marked(s, at, m, n) {
+            if scale {
+                return Verdict::Accepted;
+            }
+            return Verdict::Refused(5, at);
+        }
+        return Verdict::Refused(3, at);
+    }
+    Verdict::Refused(2, at)
+}
+
+pub fn header(s: &[u8]) -> Verdict
+    ensures { λ r. ⌜ r ≡ verdict (header-tests (now (s .entry))) ⌝ }
+{
+    let scale = header_scale(byte(s, 0, 3), byte(s, 0, 4), byte(s, 0, 5));
+    if whole(s, 0, 6) {
+        if marked(s, 0, b'H', b'D') {
+            if byte(s, 0, 2) == 1 {
+                if scale {
+                    return Verdict::Accepted;
+                }
+                return Verdict::Refused(5, 0);
+            }
+            return Verdict::Refused(4, 0);
+        }
+        return Verdict::Refused(3, 0);
+    }
+    Verdict::Refused(2, 0)
+}
+
+// Slot byte k of the TY at a place with n slots.
+fn slot_scale(s: &[u8], q: u8, at: usize, n: u8, k: u8) -> bool
+    ensures { λ r. ⌜ r ≡ below-or-none q (ltb k n) (byteAt (now (s .entry)) at (4 + k)) ⌝ }
+{
+    below_or_none(q, k < n, byte(s, at, 4 + (k as usize)))
+}
+
+fn type_scale(s: &[u8], q: u8, at: usize) -> bool
+    ensures { λ r. ⌜ r ≡ type-scale q (byteAt (now (s .entry)) at 2) (byteAt (now (s .entry)) at 3) (λ k. byteAt (now (s .entry)) at (4 + k)) ⌝ }
+{
+    let n = byte(s, at, 3);
+    let slots = slot_scale(s, q, at, n, 0)
+        & slot_scale(s, q, at, n, 1)
+        & slot_scale(s, q, at, n, 2)
+        & slot_scale(s, q, at, n, 3)
+        & slot_scale(s, q, at, n, 4)
+        & slot_scale(s, q, at, n, 5)
+        & slot_scale(s, q, at, n, 6)
+        & slot_scale(s, q, at, n, 7);
+    (byte(s, at, 2) <= 15) & (n <= 8) & slots
+}
+
+// TY number i, of type 2 + i.
+pub fn type_record(s: &[u8], i: u8) -> Verdict
+    ensures { λ r. ⌜ r ≡ verdict (type-tests (now (s .entry)) i) ⌝ }
+{
+    let at = 6 + 12 * (i as usize);
+    record(s, at, 12, b'T', b'Y', type_scale(s, byte(s, 0, 4), at))
+}
+
+pub fn qual_record(s: &[u8], j: u8) -> Verdict
+    ensures { λ r. ⌜ r ≡ verdict (qual-tests (now (s .entry)) j) ⌝ }
+{
+    let at = qual_at(s, j);
+    let base = byte(s, at, 2);
+    let named = byte(s, type_at(base), 2);
+    let scale = qual_scale(byte(s, 0, 3), named, j, base, word(s, at, 3), byte(s, at, 5));
+    record(s, at, 6, b'Q', b'T', scale)
+}
+
+// PR number p, at a place.
+pub fn head_record(s: &[u8], p: usize, pr: u32) -> Verdict
+    ensures { λ r. ⌜ r ≡ verdict (head-tests (now (s .entry)) p pr) ⌝ }
+{
+    let at = pr as usize;
+    let t = byte(s, 0, 3);
+    let q = byte(s, 0, 4);
+    let owner = byte(s, at, 2);
+    let f = byte(s, at, 3);
+    let v = byte(s, at, 4);
+    let result = byte(s, at, 5);
+    let scale = procedure_scale(t, q, p, owner, f, v, result, word(s, at, 6));
+    record(s, at, 8, b'P', b'R', scale)
+}
+
+// VR number x of the procedure at a place.
+pub fn variable_record(s: &[u8], pr: u32, x: u8) -> Verdict
+    ensures { λ r. ⌜ r ≡ verdict (variable-tests (now (s .entry)) pr x) ⌝ }
+{
+    let at = variable_at(pr, x);
+    let f = byte(s, pr as usize, 3);
+    let scale = variable_scale(byte(s, 0, 4), f, x, byte(s, at, 2), byte(s, at, 3));
+    record(s, at, 4, b'V', b'R', scale)
+}
+
+// IN number i, at a place, in a procedure with v variables, n instructions and an owner.
+pub fn instruction_record(s: &[u8], v: u8, n: u16, owner: u8, i: u16, at: usize) -> Verdict
+    ensures { λ r. ⌜ r ≡ verdict (instruction-tests-at (now (s .entry)) v n owner i at) ⌝ }
+{
+    let slots = byte(s, type_at(owner), 3);
+    let code = byte(s, at, 2);
+    let a = byte(s, at, 3);
+    let b = byte(s, at, 4);
+    let c = byte(s, at, 5);
+    let scale = instruction_scale(v, n, owner, slots, i, code, a, b, c, word(s, at, 6));
+    record(s, at, 8, b'I', b'N', scale)
+}

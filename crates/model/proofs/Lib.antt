@@ -1,0 +1,14 @@
+pub mod Verdicts
+pub mod Rights
+pub mod Order
+pub mod Allowed
+pub mod Fits
+pub mod Relate
+pub mod Table
+pub mod Agree
+pub mod Cases
+pub mod Steps
+pub mod Typing
+pub mod Run
+pub mod Open
+pub mod Sample

@@ -1,0 +1,10 @@
+pub mod Rights
+pub mod Qualified
+pub mod Program
+pub mod Refusal
+pub mod Rules
+pub mod Outcome
+pub mod Modes
+pub mod Machine
+pub mod Run
+pub mod Claim

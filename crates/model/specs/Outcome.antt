@@ -1,0 +1,45 @@
+-- What a step of a machine comes to: a value, one of document 01's stops, or stuck.
+use Prim.Native.Nat.{ℕ}
+use mathlib.Core.Bool.{Bool, true, false}
+use mathlib.Core.Option.{Option, none, some}
+
+pub data Stop : Type 0 where
+  done fuel-spent blank past-end input-ended output-full memory-full wrong-kind missing-right : Stop
+
+-- the paper's number of each: done, fuel spent, blank, past the tray, reads ended, report full, bench full, mixed sample, unlicensed
+abbrev pub number : Stop → ℕ
+number done = 11
+number fuel-spent = 12
+number blank = 13
+number past-end = 14
+number input-ended = 15
+number output-full = 16
+number memory-full = 17
+number wrong-kind = 18
+number missing-right = 19
+
+pub data Res (A : Type 0) : Type 0 where
+  ok : A → Res A
+  stop : Stop → Res A
+  stuck : Res A
+
+infixl 20 _>>=_ _>>_
+unfoldable pub _>>=_ : {A B : Type 0} → Res A → (A → Res B) → Res B
+ok a >>= f = f a
+stop s >>= f = stop s
+stuck >>= f = stuck
+
+unfoldable pub _>>_ : {A B : Type 0} → Res A → Res B → Res B
+ok a >> r = r
+stop s >> r = stop s
+stuck >> r = stuck
+
+-- a stop where the test fails
+unfoldable pub test : Stop → Bool → Res (Unit {0})
+test s true = ok tt
+test s false = stop s
+
+-- what is there, or a stop where nothing is
+unfoldable pub found : {A : Type 0} → Stop → Option A → Res A
+found s none = stop s
+found s (some a) = ok a

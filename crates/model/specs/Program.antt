@@ -1,0 +1,31 @@
+-- A program (document 01: worksheet) as the rules and the machines read it: functions of numbers, and no bytes.
+use Prim.Native.Nat.{ℕ}
+use mathlib.Core.Option.{Option}
+use Rattle.model.specs.Qualified.{Qual}
+use Rattle.model.specs.declared.Operation.{Operation}
+
+pub record Program : Type 0 where
+  -- declared types are numbered from 2; qualified types from 0
+  pub types : ℕ
+  pub quals : ℕ
+  pub qual : ℕ → Qual
+  -- the named rights, beside open, and the slots of a declared type
+  pub named : ℕ → ℕ
+  pub slots : ℕ → ℕ
+  pub slot : ℕ → ℕ → Qual
+  -- procedures: the owner's type (0 none), formals, variables, result, instructions
+  pub procedures : ℕ
+  pub owner : ℕ → ℕ
+  pub formals : ℕ → ℕ
+  pub variables : ℕ → ℕ
+  pub result : ℕ → Option Qual
+  pub inner : ℕ → ℕ → Qual
+  pub need : ℕ → ℕ → Qual
+  pub instructions : ℕ → ℕ
+  pub operation : ℕ → ℕ → Operation
+  -- the bytes at which the records of a type, a qualified type, a procedure, a variable, an instruction start
+  pub type-at : ℕ → ℕ
+  pub qual-at : ℕ → ℕ
+  pub procedure-at : ℕ → ℕ
+  pub variable-at : ℕ → ℕ → ℕ
+  pub instruction-at : ℕ → ℕ → ℕ

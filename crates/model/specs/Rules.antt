@@ -1,0 +1,187 @@
+-- The access rules (document 01, "Access rules"): what each record is asked, in the paper's order.
+use Prim.Native.Nat.{ℕ, _+_}
+use mathlib.Core.Bool.{Bool, true, false, not, _&&_, _||_, cond}
+use mathlib.Core.List.{List, [], _∷_, _++_}
+use mathlib.Core.Option.{Option, none, some}
+use lib.Dec.{eqb, leb, ltb}
+use Rattle.model.specs.Rights.{within, has, none-above, open-right, fetch-right, store-right, size-right, array-rights}
+use Rattle.model.specs.Qualified.{Qual, base, rights, element, isInteger, isArray, same, alike}
+use Rattle.model.specs.Program.{Program}
+use Rattle.model.specs.Refusal.{open-exposed, false-raise, wrong-kind, missing-right, Test, test, Tests, tests, each}
+use Rattle.model.specs.declared.Operation.{Operation}
+use Rattle.model.specs.declared.Operation.the-variants.{Set, Add, Subtract, Less, JumpZero, Bind, Take, Put, NewArray, Fetch, Store, Size, NewRecord, GetSlot, SetSlot, Call, Return}
+
+-- "255: drop the result", "return a (or 255)": a variable, or none
+unfoldable pub optional : ℕ → Option ℕ
+optional a = cond (eqb a 255) none (some a)
+
+-- "Each movement needs source ≥ destination" (8 before 9 within each)
+unfoldable pub moves : (source destination : Qual) → List Test
+moves s d = test wrong-kind (alike s d) ∷ test missing-right (within (rights d) (rights s)) ∷ []
+
+-- a qualified type is of the owner's type; owner 0 is none
+unfoldable pub owned-by : (owner : ℕ) → Qual → Bool
+owned-by o q = leb 2 o && eqb (base q) o
+
+-- ---- Instructions, by the declared types of their variables
+
+-- "Arithmetic, jumps, sizes, indexes, take and put use integer variables"
+unfoldable pub one-integer : Qual → List Test
+one-integer a = test wrong-kind (isInteger a) ∷ []
+
+unfoldable pub three-integers : Qual → Qual → Qual → List Test
+three-integers a b c = test wrong-kind (isInteger a && isInteger b && isInteger c) ∷ []
+
+-- "9 and 13 give all rights": the new value has a's own type and element, so that its movement into a asks that a's rights are among all
+unfoldable pub new-array-rule : Qual → Qual → List Test
+new-array-rule a b = test wrong-kind (isInteger b && isArray a) ∷ test missing-right (within (rights a) array-rights) ∷ []
+
+unfoldable pub new-record-rule : (owner named : ℕ) → Qual → List Test
+new-record-rule o n a = test wrong-kind (owned-by o a) ∷ test missing-right (none-above n (rights a)) ∷ []
+
+-- "Codes 10, 11, 12 need fetch, store, size on the tray"
+unfoldable pub fetch-rule : Qual → Qual → Qual → List Test
+fetch-rule a b c =
+    test wrong-kind (isArray b && isInteger c) ∷ test missing-right (has fetch-right (rights b)) ∷ moves (element b) a
+
+unfoldable pub store-rule : Qual → Qual → Qual → List Test
+store-rule a b c =
+    test wrong-kind (isArray a && isInteger b) ∷ test missing-right (has store-right (rights a)) ∷ moves c (element a)
+
+-- "the size of 12 going into a is one" of the movements: it comes after the right
+unfoldable pub size-rule : Qual → Qual → List Test
+size-rule a b = test wrong-kind (isArray b) ∷ test missing-right (has size-right (rights b)) ∷ one-integer a
+
+-- "14 and 15 need open on a variable of the owner's type"
+unfoldable pub get-slot-rule : (owner : ℕ) → Qual → Qual → Qual → List Test
+get-slot-rule o a b slot =
+    test wrong-kind (owned-by o b) ∷ test missing-right (has open-right (rights b)) ∷ moves slot a
+
+unfoldable pub set-slot-rule : (owner : ℕ) → Qual → Qual → Qual → List Test
+set-slot-rule o a b slot =
+    test wrong-kind (owned-by o a) ∷ test missing-right (has open-right (rights a)) ∷ moves b slot
+
+-- "A return has a variable exactly if its PR has a result"
+unfoldable pub return-rule : Option Qual → Option Qual → List Test
+return-rule none none = []
+return-rule (some v) (some r) = moves v r
+return-rule none (some r) = test wrong-kind false ∷ []
+return-rule (some v) none = test wrong-kind false ∷ []
+
+-- "a call keeps one only then"; "a kept result last"
+unfoldable pub keeps : Option Qual → Option Qual → Bool
+keeps none r = true
+keeps (some a) (some r) = true
+keeps (some a) none = false
+
+unfoldable pub kept-rule : Option Qual → Option Qual → List Test
+kept-rule (some a) (some r) = moves r a
+kept-rule none r = []
+kept-rule (some a) none = []
+
+-- "an inner QT whose base is the procedure's owner" may have open, and nothing else may
+unfoldable pub closed : Qual → Bool
+closed q = not (has open-right (rights q))
+
+unfoldable pub closed-result : Option Qual → Bool
+closed-result none = true
+closed-result (some q) = closed q
+
+-- "For a formal whose inner has the owner's base, need must have that base and rights may differ"; else "need and inner are equal"
+unfoldable pub agrees : (owner : ℕ) → (need inner : Qual) → Bool
+agrees o need inner = cond (owned-by o inner) (owned-by o need) (same need inner)
+
+unfoldable pub formal-rule : (owner : ℕ) → (need inner : Qual) → List Test
+formal-rule o need inner =
+    test open-exposed (closed need && (owned-by o inner || closed inner)) ∷ test false-raise (agrees o need inner) ∷ []
+
+unfoldable pub local-rule : (owner : ℕ) → (inner : Qual) → List Test
+local-rule o inner = test open-exposed (owned-by o inner || closed inner) ∷ []
+
+unfoldable pub declaration-rule : (owner formals x : ℕ) → (need inner : Qual) → List Test
+declaration-rule o f x need inner = cond (ltb x f) (formal-rule o need inner) (local-rule o inner)
+
+unfoldable pub optional-variable : (ℕ → Qual) → Option ℕ → Option Qual
+optional-variable f none = none
+optional-variable f (some a) = some (f a)
+
+-- "Within an instruction: return form, kinds, tray or open right, then each movement in turn, actuals in order and a kept result last":
+-- a call, with variables from b on, of a procedure with its needs, its number of formals and its result; actual j moves to need j
+unfoldable pub call-rule : (inner need : ℕ → Qual) → (formals : ℕ) → (result : Option Qual) → (a b : ℕ) → List Test
+call-rule inner need formals result a b =
+    test wrong-kind (keeps (optional-variable inner (optional a)) result)
+    ∷ (each formals (λ j. moves (inner (b + j)) (need j)) ++ kept-rule (optional-variable inner (optional a)) result)
+
+-- ---- Records
+
+-- "6 is given at the TY whose slot, the QT whose element, the PR whose result or the VR whose need or inner has it otherwise"
+unfoldable pub closed-rule : Qual → List Test
+closed-rule q = test open-exposed (closed q) ∷ []
+
+module _ (g : Program) where
+  -- one line a code
+  unfoldable pub rule : (p : ℕ) → Operation → List Test
+  rule p (Set a k) = one-integer (g .inner p a)
+  rule p (Add a b c) = three-integers (g .inner p a) (g .inner p b) (g .inner p c)
+  rule p (Subtract a b c) = three-integers (g .inner p a) (g .inner p b) (g .inner p c)
+  rule p (Less a b c) = three-integers (g .inner p a) (g .inner p b) (g .inner p c)
+  rule p (JumpZero a k) = one-integer (g .inner p a)
+  rule p (Bind a b) = moves (g .inner p b) (g .inner p a)
+  rule p (Take a) = one-integer (g .inner p a)
+  rule p (Put a) = one-integer (g .inner p a)
+  rule p (NewArray a b) = new-array-rule (g .inner p a) (g .inner p b)
+  rule p (Fetch a b c) = fetch-rule (g .inner p a) (g .inner p b) (g .inner p c)
+  rule p (Store a b c) = store-rule (g .inner p a) (g .inner p b) (g .inner p c)
+  rule p (Size a b) = size-rule (g .inner p a) (g .inner p b)
+  rule p (NewRecord a) = new-record-rule (g .owner p) (g .named (g .owner p)) (g .inner p a)
+  rule p (GetSlot a b k) = get-slot-rule (g .owner p) (g .inner p a) (g .inner p b) (g .slot (g .owner p) k)
+  rule p (SetSlot a b k) = set-slot-rule (g .owner p) (g .inner p a) (g .inner p b) (g .slot (g .owner p) k)
+  rule p (Call a b k) = call-rule (g .inner p) (g .need k) (g .formals k) (g .result k) a b
+  rule p (Return a) = return-rule (optional-variable (g .inner p) (optional a)) (g .result p)
+
+  unfoldable pub type-rules : ℕ → List Tests
+  type-rules i = tests (g .type-at (2 + i)) (each (g .slots (2 + i)) (λ k. closed-rule (g .slot (2 + i) k))) ∷ []
+
+  unfoldable pub qual-rules : ℕ → List Tests
+  qual-rules j = tests (g .qual-at j) (closed-rule (element (g .qual j))) ∷ []
+
+  unfoldable pub variable-rule : (p x : ℕ) → List Test
+  variable-rule p x = declaration-rule (g .owner p) (g .formals p) x (g .need p x) (g .inner p x)
+
+  unfoldable pub variable-rules : (p x : ℕ) → List Tests
+  variable-rules p x = tests (g .variable-at p x) (variable-rule p x) ∷ []
+
+  unfoldable pub instruction-rules : (p i : ℕ) → List Tests
+  instruction-rules p i = tests (g .instruction-at p i) (rule p (g .operation p i)) ∷ []
+
+  unfoldable pub head-rules : (p : ℕ) → List Tests
+  head-rules p = tests (g .procedure-at p) (test open-exposed (closed-result (g .result p)) ∷ []) ∷ []
+
+  unfoldable pub procedure-rules : ℕ → List Tests
+  procedure-rules p =
+      head-rules p ++ (each (g .variables p) (variable-rules p) ++ each (g .instructions p) (instruction-rules p))
+
+  -- "then record by record 6, 7, 8, 9"
+  unfoldable pub access-rules : List Tests
+  access-rules =
+      each (g .types) type-rules ++ (each (g .quals) qual-rules ++ each (g .procedures) procedure-rules)
+
+-- the procedure that an operation calls; 0, main, of one that calls none
+unfoldable pub callee : Operation → ℕ
+callee (Call a b k) = k
+callee (Set a k) = 0
+callee (Add a b c) = 0
+callee (Subtract a b c) = 0
+callee (Less a b c) = 0
+callee (JumpZero a k) = 0
+callee (Bind a b) = 0
+callee (Take a) = 0
+callee (Put a) = 0
+callee (NewArray a b) = 0
+callee (Fetch a b c) = 0
+callee (Store a b c) = 0
+callee (Size a b) = 0
+callee (NewRecord a) = 0
+callee (GetSlot a b k) = 0
+callee (SetSlot a b k) = 0
+callee (Return a) = 0

@@ -1,0 +1,15 @@
+use mathlib.Core.Path.{refl}
+use borrow.Author.Needs.{needs}
+use Rattle.model.specs.Rights.{has}
+use Rattle.rights.proofs.has_right.Statement.{statement}
+use Rattle.rights.proofs.has_right.Tie as tie
+
+shr-result : tie.Need-shr-result
+shr-result c = search needs
+
+returns : tie.Need-returns
+unfolding has
+returns c = refl
+
+pub has-right-spec : {M : Type 1} → statement M
+has-right-spec = tie.close (tie.spec shr-result returns)

@@ -1,0 +1,132 @@
+-- Laws of the definitions in specs/, which the functions' proofs and the layers above cite.
+use Prim.Native.Nat.{ℕ, zero, suc, _+_, _<_, _≤_}
+use mathlib.Core.Path.{_≡_, refl, sym, ap, _∙_}
+use mathlib.Core.List.{List}
+use mathlib.Core.Logic.{_⊎_, inl, inr}
+use mathlib.Core.Bool.{Bool, true, false, _&&_, cond}
+use native.Mathlib.Omega.{arith}
+use native.Mathlib.Numerals.{add-one}
+use lib.Dec.{leb, ltb}
+use lib.ListN.{length, getD, set}
+use lib.Seq.{getD-set-same, getD-set-other}
+use borrow.Author.Count.{below-more}
+use borrow.Author.Tests.{leb-true, leb-false, le-leb, lt-leb, ltb-true, ltb-false, le-ltb}
+use Rattle.model.specs.Qualified.{Qual, integer, array, declared, base}
+use Rattle.sheet.specs.Bytes.{wholeAt}
+use Rattle.sheet.specs.Layout.{qualsOf, rightsOf, elementOf, instructionAt, instructionsAt, procedureAt}
+use Rattle.sheet.specs.Meaning.{shaped, baseIn, elementIn, tree, qualOf}
+
+-- ---- tests
+-- the test of a loop with two ends: in a turn, and after it
+pub both-below : (i n m : ℕ) → ltb i n && ltb i m ≡ true → (i < n) × (i < m)
+both-below i n m h = go (ltb i n) (ltb i m) refl refl h
+  where
+    go : (a b : Bool) → ltb i n ≡ a → ltb i m ≡ b → a && b ≡ true → (i < n) × (i < m)
+    go true true p q h = (ltb-true i n p, ltb-true i m q)
+    go true false p q h = absurd (let z : _≡_ {A = ℕ} 0 1 = cc in omega arith)
+    go false b p q h = absurd (let z : _≡_ {A = ℕ} 0 1 = cc in omega arith)
+
+pub one-passed : (i n m : ℕ) → ltb i n && ltb i m ≡ false → (n ≤ i) ⊎ (m ≤ i)
+one-passed i n m h = go (ltb i n) (ltb i m) refl refl h
+  where
+    go : (a b : Bool) → ltb i n ≡ a → ltb i m ≡ b → a && b ≡ false → (n ≤ i) ⊎ (m ≤ i)
+    go true true p q h = absurd (let z : _≡_ {A = ℕ} 0 1 = cc in omega arith)
+    go true false p q h = inr (ltb-false i m q)
+    go false b p q h = inl (ltb-false i n p)
+
+-- two orders that say the same are one test
+pub leb-iff : (a b c d : ℕ) → (a ≤ b → c ≤ d) → (c ≤ d → a ≤ b) → leb a b ≡ leb c d
+leb-iff a b c d f g = same (leb c d) (λ e. g (leb-true c d e)) (λ e. other (leb a b) refl e)
+  where
+    same : (t : Bool) → (t ≡ true → a ≤ b) → (t ≡ false → b < a) → leb a b ≡ t
+    same true f g = le-leb a b (f refl)
+    same false f g = lt-leb a b (g refl)
+
+    other : (t : Bool) → leb a b ≡ t → leb c d ≡ false → b < a
+    other true h e = let z : c ≤ d = f (leb-true a b h) in let w : d < c = leb-false c d e in omega arith
+    other false h e = leb-false a b h
+
+-- n bytes that stand whole end within the list
+pub whole-true : (s : List ℕ) (at n : ℕ) → wholeAt s at n ≡ true → at + n ≤ length s
+unfolding wholeAt
+whole-true s at n h = leb-true (at + n) (length s) h
+
+-- ---- the places of procedures
+-- a table whose first i entries are those of f, and one entry more
+pub filled-more : (f : ℕ → ℕ) (i v : ℕ) (l : List ℕ) → i < length l → v ≡ f i
+    → ((k : ℕ) → k < i → getD l k 0 ≡ f k) → (k : ℕ) → k < i + 1 → getD (set l i v) k 0 ≡ f k
+filled-more f i v l h e g =
+    below-more (λ k. getD (set l i v) k 0 ≡ f k) i
+    (λ k b. let n : k ≡ i → ⊥ = (λ q. omega arith) in getD-set-other l i k v 0 n ∙ g k b) (getD-set-same l i v 0 h ∙ e)
+
+-- the next procedure starts where the instructions of this one end
+pub procedure-next : (s : List ℕ) (i at : ℕ) → at ≡ procedureAt s i → instructionAt s at (instructionsAt s at) ≡ procedureAt s (i + 1)
+unfolding procedureAt
+procedure-next s i at e = rw (add-one, e)
+
+-- ---- the qualified types that a sheet means
+base-shaped : (b r : ℕ) (e : Qual) → base (shaped b r e) ≡ b
+unfolding base shaped
+base-shaped zero r e = refl
+base-shaped (suc zero) r e = refl
+base-shaped (suc (suc t)) r e = refl
+
+shaped-declared : (b r : ℕ) (e : Qual) → 2 ≤ b → shaped b r e ≡ declared b r
+unfolding shaped
+shaped-declared zero r e h = absurd (omega arith)
+shaped-declared (suc zero) r e h = absurd (omega arith)
+shaped-declared (suc (suc t)) r e h = refl
+
+pub base-qual : (s : List ℕ) (j : ℕ) → base (qualOf s j) ≡ baseIn s j
+unfolding qualOf tree
+base-qual s j = base-shaped (baseIn s j) (rightsOf s j) (tree s j (elementIn s j))
+
+pub qual-integer : (s : List ℕ) (j : ℕ) → baseIn s j ≡ 0 → qualOf s j ≡ integer
+unfolding qualOf tree shaped
+qual-integer s j b = rw b
+
+pub qual-declared : (s : List ℕ) (j : ℕ) → 2 ≤ baseIn s j → qualOf s j ≡ declared (baseIn s j) (rightsOf s j)
+unfolding qualOf tree
+qual-declared s j b = shaped-declared (baseIn s j) (rightsOf s j) (tree s j (elementIn s j)) b
+
+-- an element's number is below its own array's, or 255
+element-below : (s : List ℕ) (j : ℕ) → (elementIn s j < j) ⊎ (elementIn s j ≡ 255)
+unfolding elementIn
+element-below s j = go (ltb (elementOf s j) j) refl
+  where
+    go : (t : Bool) → ltb (elementOf s j) j ≡ t → (cond t (elementOf s j) 255 < j) ⊎ (cond t (elementOf s j) 255 ≡ 255)
+    go true e = inl (ltb-true (elementOf s j) j e)
+    go false e = inr refl
+
+module _ (s : List ℕ) (q : qualsOf s ≤ 255) where
+  base-none : baseIn s 255 ≡ 0
+  unfolding baseIn
+  base-none = rw (le-ltb 255 (qualsOf s) q)
+
+  -- no QT has the number 255: it is read as an integer
+  pub none-qual : qualOf s 255 ≡ integer
+  none-qual = qual-integer s 255 base-none
+
+  tree-none : (n : ℕ) → tree s n 255 ≡ integer
+  unfolding tree shaped
+  tree-none zero = refl
+  tree-none (suc n) = rw base-none
+
+  -- the depth does not matter as long as it is above j, since an element's number falls
+  pub tree-enough : (n m j : ℕ) → j < n → j < m → tree s n j ≡ tree s m j
+  unfolding tree
+  tree-enough zero m j l k = absurd (omega arith)
+  tree-enough (suc n) zero j l k = absurd (omega arith)
+  tree-enough (suc n) (suc m) j l k = ap (shaped (baseIn s j) (rightsOf s j)) (go (tree-enough n m (elementIn s j)) (element-below s j))
+    where
+      go : (elementIn s j < n → elementIn s j < m → tree s n (elementIn s j) ≡ tree s m (elementIn s j)) → (elementIn s j < j) ⊎ (elementIn s j ≡ 255) → tree s n (elementIn s j) ≡ tree s m (elementIn s j)
+      go f (inl h) = f (omega arith) (omega arith)
+      go f (inr h) = rw h (tree-none n ∙ sym (tree-none m))
+
+  pub qual-array : (j : ℕ) → baseIn s j ≡ 1 → qualOf s j ≡ array (rightsOf s j) (qualOf s (elementIn s j))
+  unfolding qualOf tree shaped
+  qual-array j b = rw b (ap (array (rightsOf s j)) (go (element-below s j)))
+    where
+      go : (elementIn s j < j) ⊎ (elementIn s j ≡ 255) → tree s j (elementIn s j) ≡ tree s (suc (elementIn s j)) (elementIn s j)
+      go (inl h) = tree-enough j (suc (elementIn s j)) (elementIn s j) h (omega arith)
+      go (inr h) = rw h (tree-none j ∙ sym (tree-none 256))

@@ -1,0 +1,113 @@
+-- Each arm is a `cond` of the definition at its code; in the last every test fails.
+use borrow.Author.Tests.{ne-eqb}
+use Rattle.sheet.specs.Decode.{decode}
+use Rattle.sheet.proofs.decode.operation_of.Statement.{statement}
+use Rattle.sheet.proofs.decode.operation_of.Tie as tie
+
+returns : tie.Need-returns
+unfolding decode
+returns c = rw (c .match .keys1)
+
+returns-2 : tie.Need-returns-2
+unfolding decode
+returns-2 c = rw (c .match .keys2)
+
+returns-3 : tie.Need-returns-3
+unfolding decode
+returns-3 c = rw (c .match .keys3)
+
+returns-4 : tie.Need-returns-4
+unfolding decode
+returns-4 c = rw (c .match .keys4)
+
+returns-5 : tie.Need-returns-5
+unfolding decode
+returns-5 c = rw (c .match .keys5)
+
+returns-6 : tie.Need-returns-6
+unfolding decode
+returns-6 c = rw (c .match .keys6)
+
+returns-7 : tie.Need-returns-7
+unfolding decode
+returns-7 c = rw (c .match .keys7)
+
+returns-8 : tie.Need-returns-8
+unfolding decode
+returns-8 c = rw (c .match .keys8)
+
+returns-9 : tie.Need-returns-9
+unfolding decode
+returns-9 c = rw (c .match .keys9)
+
+returns-10 : tie.Need-returns-10
+unfolding decode
+returns-10 c = rw (c .match .keys10)
+
+returns-11 : tie.Need-returns-11
+unfolding decode
+returns-11 c = rw (c .match .keys11)
+
+returns-12 : tie.Need-returns-12
+unfolding decode
+returns-12 c = rw (c .match .keys12)
+
+returns-13 : tie.Need-returns-13
+unfolding decode
+returns-13 c = rw (c .match .keys13)
+
+returns-14 : tie.Need-returns-14
+unfolding decode
+returns-14 c = rw (c .match .keys14)
+
+returns-15 : tie.Need-returns-15
+unfolding decode
+returns-15 c = rw (c .match .keys15)
+
+returns-16 : tie.Need-returns-16
+unfolding decode
+returns-16 c = rw (c .match .keys16)
+
+returns-17 : tie.Need-returns-17
+unfolding decode
+returns-17 c =
+    rw (
+      ne-eqb _ 1 (c .match .rest .0 .0 .0 .0 .0 .0 .0 .0 .0 .0 .0 .0 .0 .0 .0 .1),
+      ne-eqb _ 2 (c .match .rest .0 .0 .0 .0 .0 .0 .0 .0 .0 .0 .0 .0 .0 .0 .1),
+      ne-eqb _ 3 (c .match .rest .0 .0 .0 .0 .0 .0 .0 .0 .0 .0 .0 .0 .0 .1),
+      ne-eqb _ 4 (c .match .rest .0 .0 .0 .0 .0 .0 .0 .0 .0 .0 .0 .0 .1),
+      ne-eqb _ 5 (c .match .rest .0 .0 .0 .0 .0 .0 .0 .0 .0 .0 .0 .1),
+      ne-eqb _ 6 (c .match .rest .0 .0 .0 .0 .0 .0 .0 .0 .0 .0 .1),
+      ne-eqb _ 7 (c .match .rest .0 .0 .0 .0 .0 .0 .0 .0 .0 .1),
+      ne-eqb _ 8 (c .match .rest .0 .0 .0 .0 .0 .0 .0 .0 .1),
+      ne-eqb _ 9 (c .match .rest .0 .0 .0 .0 .0 .0 .0 .1),
+      ne-eqb _ 10 (c .match .rest .0 .0 .0 .0 .0 .0 .1),
+      ne-eqb _ 11 (c .match .rest .0 .0 .0 .0 .0 .1),
+      ne-eqb _ 12 (c .match .rest .0 .0 .0 .0 .1),
+      ne-eqb _ 13 (c .match .rest .0 .0 .0 .1),
+      ne-eqb _ 14 (c .match .rest .0 .0 .1),
+      ne-eqb _ 15 (c .match .rest .0 .1),
+      ne-eqb _ 16 (c .match .rest .1),
+    )
+
+pub operation-of-spec : {M : Type 1} → statement M
+operation-of-spec =
+    tie.close
+    (tie.spec
+    returns
+    returns-2
+    returns-3
+    returns-4
+    returns-5
+    returns-6
+    returns-7
+    returns-8
+    returns-9
+    returns-10
+    returns-11
+    returns-12
+    returns-13
+    returns-14
+    returns-15
+    returns-16
+    returns-17)

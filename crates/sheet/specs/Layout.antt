@@ -1,0 +1,104 @@
+-- Document 01, "Bytes of a worksheet": where each record and each of its fields stands.
+-- "Order: HD, all TY, all QT, then for each procedure its PR, VRs, INs."
+use Prim.Native.Nat.{ℕ, zero, suc, _+_, _*_, _-_}
+use mathlib.Core.List.{List}
+use Rattle.sheet.specs.Bytes.{byteAt, wordAt}
+
+-- sizes in bytes
+abbrev pub hd-size : ℕ
+hd-size = 6
+
+abbrev pub ty-size : ℕ
+ty-size = 12
+
+abbrev pub qt-size : ℕ
+qt-size = 6
+
+abbrev pub pr-size : ℕ
+pr-size = 8
+
+abbrev pub vr-size : ℕ
+vr-size = 4
+
+abbrev pub in-size : ℕ
+in-size = 8
+
+-- HD: edition, types t, qualified types q, procedures p
+unfoldable pub editionOf : List ℕ → ℕ
+editionOf s = byteAt s 0 2
+
+unfoldable pub typesOf : List ℕ → ℕ
+typesOf s = byteAt s 0 3
+
+unfoldable pub qualsOf : List ℕ → ℕ
+qualsOf s = byteAt s 0 4
+
+unfoldable pub proceduresOf : List ℕ → ℕ
+proceduresOf s = byteAt s 0 5
+
+-- TY: "the first TY is type 2"; named rights, slots, eight slot bytes
+unfoldable pub typeAt : ℕ → ℕ
+typeAt t = hd-size + ty-size * (t - 2)
+
+unfoldable pub namedOf : List ℕ → ℕ → ℕ
+namedOf s t = byteAt s (typeAt t) 2
+
+unfoldable pub slotsOf : List ℕ → ℕ → ℕ
+slotsOf s t = byteAt s (typeAt t) 3
+
+unfoldable pub slotOf : List ℕ → ℕ → ℕ → ℕ
+slotOf s t k = byteAt s (typeAt t) (4 + k)
+
+-- QT: base, rights, element
+unfoldable pub qualAt : List ℕ → ℕ → ℕ
+qualAt s j = hd-size + ty-size * typesOf s + qt-size * j
+
+unfoldable pub baseOf : List ℕ → ℕ → ℕ
+baseOf s j = byteAt s (qualAt s j) 2
+
+unfoldable pub rightsOf : List ℕ → ℕ → ℕ
+rightsOf s j = wordAt s (qualAt s j) 3
+
+unfoldable pub elementOf : List ℕ → ℕ → ℕ
+elementOf s j = byteAt s (qualAt s j) 5
+
+-- PR at `pr`: owner, formals, variables, result, instructions
+unfoldable pub ownerAt : List ℕ → ℕ → ℕ
+ownerAt s pr = byteAt s pr 2
+
+unfoldable pub formalsAt : List ℕ → ℕ → ℕ
+formalsAt s pr = byteAt s pr 3
+
+unfoldable pub variablesAt : List ℕ → ℕ → ℕ
+variablesAt s pr = byteAt s pr 4
+
+unfoldable pub resultAt : List ℕ → ℕ → ℕ
+resultAt s pr = byteAt s pr 5
+
+unfoldable pub instructionsAt : List ℕ → ℕ → ℕ
+instructionsAt s pr = wordAt s pr 6
+
+-- VR x of the procedure at `pr`: inner, need
+unfoldable pub variableAt : ℕ → ℕ → ℕ
+variableAt pr x = pr + (pr-size + vr-size * x)
+
+unfoldable pub innerAt : List ℕ → ℕ → ℕ → ℕ
+innerAt s pr x = byteAt s (variableAt pr x) 2
+
+unfoldable pub needAt : List ℕ → ℕ → ℕ → ℕ
+needAt s pr x = byteAt s (variableAt pr x) 3
+
+-- IN i of the procedure at `pr`: code, a, b, c, k
+unfoldable pub instructionAt : List ℕ → ℕ → ℕ → ℕ
+instructionAt s pr i = variableAt pr (variablesAt s pr) + in-size * i
+
+unfoldable pub codeAt : List ℕ → ℕ → ℕ
+codeAt s at = byteAt s at 2
+
+unfoldable pub kAt : List ℕ → ℕ → ℕ
+kAt s at = wordAt s at 6
+
+-- procedure p: after the QTs, and after the INs of those before it
+unfoldable pub procedureAt : List ℕ → ℕ → ℕ
+procedureAt s zero = qualAt s (qualsOf s)
+procedureAt s (suc p) = instructionAt s (procedureAt s p) (instructionsAt s (procedureAt s p))

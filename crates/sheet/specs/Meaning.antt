@@ -1,0 +1,72 @@
+-- The program that a sheet's bytes mean. It is total: where a well-formed sheet has no such number, the value is of no account.
+use Prim.Native.Nat.{ℕ, zero, suc, _+_}
+use mathlib.Core.List.{List}
+use mathlib.Core.Bool.{Bool, cond}
+use mathlib.Core.Option.{Option, none, some}
+use lib.Dec.{eqb, ltb}
+use Rattle.model.specs.Rights.{Rights}
+use Rattle.model.specs.Qualified.{Qual, integer, array, declared}
+use Rattle.model.specs.Program.{Program}
+use Rattle.sheet.specs.Layout.{typesOf, qualsOf, proceduresOf, typeAt, namedOf, slotsOf, slotOf, qualAt, baseOf, rightsOf, elementOf, ownerAt, formalsAt, variablesAt, resultAt, instructionsAt, variableAt, innerAt, needAt, instructionAt, procedureAt}
+use Rattle.sheet.specs.Decode.{operationAt}
+
+-- "Types 0 and 1 are integer and tray"
+unfoldable pub shaped : (base : ℕ) → Rights → Qual → Qual
+shaped zero r e = integer
+shaped (suc zero) r e = array r e
+shaped (suc (suc t)) r e = declared (suc (suc t)) r
+
+-- the base of QT j, read as an integer where the sheet has no QT j
+unfoldable pub baseIn : List ℕ → ℕ → ℕ
+baseIn s j = cond (ltb j (qualsOf s)) (baseOf s j) 0
+
+-- "Element: for a tray, a QT number below its own; else 255", which no QT has
+unfoldable pub elementIn : List ℕ → ℕ → ℕ
+elementIn s j = cond (ltb (elementOf s j) j) (elementOf s j) 255
+
+-- the qualified type of QT j, read at most n levels deep; its element's number is below its own, so j + 1 levels are enough
+unfoldable pub tree : List ℕ → ℕ → ℕ → Qual
+tree s zero j = integer
+tree s (suc n) j = shaped (baseIn s j) (rightsOf s j) (tree s n (elementIn s j))
+
+unfoldable pub qualOf : List ℕ → ℕ → Qual
+qualOf s j = tree s (suc j) j
+
+-- the types of slot k of type t, and of variable x of the procedure at `pr`
+unfoldable pub slotIn : List ℕ → (t k : ℕ) → Qual
+slotIn s t k = qualOf s (slotOf s t k)
+
+unfoldable pub innerIn : List ℕ → (pr x : ℕ) → Qual
+innerIn s pr x = qualOf s (innerAt s pr x)
+
+unfoldable pub needIn : List ℕ → (pr x : ℕ) → Qual
+needIn s pr x = qualOf s (needAt s pr x)
+
+-- "result (QT number or 255 none)"
+unfoldable pub resultIn : List ℕ → ℕ → Option Qual
+resultIn s pr = cond (eqb (resultAt s pr) 255) none (some (qualOf s (resultAt s pr)))
+
+abbrev pub programOf : List ℕ → Program
+programOf s =
+    record {
+      types = typesOf s;
+      quals = qualsOf s;
+      qual = qualOf s;
+      named = namedOf s;
+      slots = slotsOf s;
+      slot = slotIn s;
+      procedures = proceduresOf s;
+      owner = λ p. ownerAt s (procedureAt s p);
+      formals = λ p. formalsAt s (procedureAt s p);
+      variables = λ p. variablesAt s (procedureAt s p);
+      result = λ p. resultIn s (procedureAt s p);
+      inner = λ p. innerIn s (procedureAt s p);
+      need = λ p. needIn s (procedureAt s p);
+      instructions = λ p. instructionsAt s (procedureAt s p);
+      operation = λ p i. operationAt s (instructionAt s (procedureAt s p) i);
+      type-at = typeAt;
+      qual-at = qualAt s;
+      procedure-at = procedureAt s;
+      variable-at = λ p x. variableAt (procedureAt s p) x;
+      instruction-at = λ p i. instructionAt s (procedureAt s p) i;
+    }

@@ -1,0 +1,184 @@
+//! Bytes that are mostly not sheets, and valid sheets with something changed.
+
+use crate::limits::{fields, Field};
+use crate::random::Random;
+use crate::records::RecordKind;
+use crate::sheet::Sheet;
+
+const MAX_SHEET: usize = 32_768;
+
+/// Random bytes: without any order, or records with right marks and small
+/// random fields.
+pub fn random_bytes(random: &mut Random) -> Vec<u8> {
+    if random.one_in(3) {
+        let count = random.below(200);
+        return random.bytes(count);
+    }
+    let mut bytes = Vec::new();
+    let counts = [1, random.below(3), random.below(4), random.between(1, 3)];
+    bytes.extend(RecordKind::Header.mark());
+    bytes.extend(counts.map(|count| count as u8));
+    for (kind, count) in [RecordKind::Type, RecordKind::Qualified]
+        .into_iter()
+        .zip([counts[1], counts[2]])
+    {
+        for _ in 0..count {
+            marked_record(random, kind, &mut bytes);
+        }
+    }
+    for _ in 0..random.below(12) {
+        let kind = RecordKind::ALL[random.between(3, 5)];
+        marked_record(random, kind, &mut bytes);
+    }
+    bytes
+}
+
+/// A record with its mark and fields that are often in range.
+fn marked_record(random: &mut Random, kind: RecordKind, bytes: &mut Vec<u8>) {
+    bytes.extend(kind.mark());
+    for _ in 2..kind.size() {
+        bytes.push(match random.below(8) {
+            0 => random.byte(),
+            1..=3 => 255,
+            4 => random.below(18) as u8,
+            _ => random.below(3) as u8,
+        });
+    }
+}
+
+/// The bytes of the sheet with one to three changes.
+pub fn damaged(random: &mut Random, sheet: &Sheet) -> Vec<u8> {
+    let mut bytes = sheet.encode();
+    for _ in 0..random.between(1, 3) {
+        change(random, sheet, &mut bytes);
+        if !random.one_in(4) {
+            break;
+        }
+    }
+    bytes
+}
+
+fn change(random: &mut Random, sheet: &Sheet, bytes: &mut Vec<u8>) {
+    match random.below(12) {
+        0 => flip_bits(random, bytes),
+        1 => cut(random, sheet, bytes),
+        2 => extend(random, bytes),
+        3 => replace_bytes(random, bytes),
+        4 => exchange_mark(random, sheet, bytes),
+        5 => drop_record(random, sheet, bytes),
+        6 => repeat_record(random, sheet, bytes),
+        _ => set_field(random, sheet, bytes),
+    }
+}
+
+fn flip_bits(random: &mut Random, bytes: &mut [u8]) {
+    for _ in 0..random.between(1, 4) {
+        if !bytes.is_empty() {
+            let place = random.below(bytes.len());
+            bytes[place] ^= 1 << random.below(8);
+        }
+    }
+}
+
+/// Cuts anywhere, or within a record of a random kind.
+fn cut(random: &mut Random, sheet: &Sheet, bytes: &mut Vec<u8>) {
+    let length = if random.one_in(2) {
+        random.below(bytes.len() + 1)
+    } else {
+        let (place, kind) = some_record(random, sheet);
+        place + random.below(kind.size())
+    };
+    bytes.truncate(length);
+}
+
+/// Adds a few bytes, a record, or enough to be too long.
+fn extend(random: &mut Random, bytes: &mut Vec<u8>) {
+    match random.below(20) {
+        0 => {
+            let length = MAX_SHEET - 1 + random.below(4);
+            bytes.resize(length, random.byte());
+        }
+        1..=8 => {
+            let kind = RecordKind::ALL[random.below(6)];
+            marked_record(random, kind, bytes);
+        }
+        _ => {
+            let count = random.between(1, 12);
+            let more = random.bytes(count);
+            bytes.extend(more);
+        }
+    }
+}
+
+fn replace_bytes(random: &mut Random, bytes: &mut [u8]) {
+    for _ in 0..random.between(1, 3) {
+        if !bytes.is_empty() {
+            let place = random.below(bytes.len());
+            bytes[place] = random.byte();
+        }
+    }
+}
+
+/// A record of a random kind, with its place in the undamaged sheet.
+fn some_record(random: &mut Random, sheet: &Sheet) -> (usize, RecordKind) {
+    let kind = RecordKind::ALL[random.below(6)];
+    let places = sheet.places();
+    let of_kind: Vec<usize> = places
+        .iter()
+        .filter(|(at, _)| at.kind() == kind)
+        .map(|&(_, place)| place)
+        .collect();
+    match random.pick(&of_kind) {
+        Some(place) => (place, kind),
+        None => (0, RecordKind::Header),
+    }
+}
+
+fn exchange_mark(random: &mut Random, sheet: &Sheet, bytes: &mut [u8]) {
+    let (place, _) = some_record(random, sheet);
+    let mark = match random.below(4) {
+        0 => [random.byte(), random.byte()],
+        _ => RecordKind::ALL[random.below(6)].mark(),
+    };
+    for (byte, new) in bytes.iter_mut().skip(place).zip(mark) {
+        *byte = new;
+    }
+}
+
+fn drop_record(random: &mut Random, sheet: &Sheet, bytes: &mut Vec<u8>) {
+    let (place, kind) = some_record(random, sheet);
+    let end = (place + kind.size()).min(bytes.len());
+    bytes.drain(place.min(end)..end);
+}
+
+fn repeat_record(random: &mut Random, sheet: &Sheet, bytes: &mut Vec<u8>) {
+    let (place, kind) = some_record(random, sheet);
+    let end = (place + kind.size()).min(bytes.len());
+    let again = bytes[place.min(end)..end].to_vec();
+    bytes.splice(end..end, again);
+}
+
+/// Sets a field near one of its limits.
+fn set_field(random: &mut Random, sheet: &Sheet, bytes: &mut [u8]) {
+    let kind = RecordKind::ALL[random.below(6)];
+    let places = sheet.places();
+    let of_kind: Vec<_> = places.iter().filter(|(at, _)| at.kind() == kind).collect();
+    let Some((at, place)) = random.pick(&of_kind) else {
+        return;
+    };
+    let all = fields(sheet, *at);
+    let field = &all[random.below(all.len())];
+    if let Some(value) = random.pick(&field.values) {
+        write_field(bytes, *place, field, value);
+    }
+}
+
+/// Writes a value into a field of the record at the place, as far as the
+/// bytes reach.
+pub fn write_field(bytes: &mut [u8], place: usize, field: &Field, value: u16) {
+    let new = value.to_le_bytes();
+    let target = bytes.iter_mut().skip(place + field.offset);
+    for (byte, new) in target.zip(new).take(field.width) {
+        *byte = new;
+    }
+}

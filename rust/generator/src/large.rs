@@ -1,0 +1,98 @@
+//! Accepted sheets of the largest sizes, for the benchmark.
+
+use crate::operations::{add, bind, call, give_back, jump_if_zero, leave, less, put, set, take};
+use crate::records::{InstructionRecord, ARRAY_ALL, FETCH, NONE};
+use crate::sheet::{Procedure, Sheet, SheetBuilder};
+
+const MAX_INSTRUCTIONS: usize = 1000;
+
+/// As near below the byte count as instructions of integers can fill it.
+pub fn mostly_instructions(bytes: usize) -> Sheet {
+    let pattern = |step: usize| match step % 7 {
+        0 => set(0, step as u16),
+        1 => take(1),
+        2 => add(0, 0, 1),
+        3 => less(1, 0, 1),
+        4 => jump_if_zero(1, 0),
+        5 => put(0),
+        _ => bind(1, 0),
+    };
+    let start = SheetBuilder::new().integer();
+    filled(start, bytes, &[0, 0], pattern)
+}
+
+/// Two chains of arrays, each 31 deep, equal all the way down without sharing
+/// a record, and binds between the ends of the two.
+pub fn two_deep_arrays(bytes: usize) -> Sheet {
+    let mut start = SheetBuilder::new().integer().integer();
+    for number in 2..62 {
+        start = start.array(number - 2, ARRAY_ALL);
+    }
+    start = start.array(60, ARRAY_ALL).array(61, FETCH);
+    filled(start, bytes, &[62, 63], |_| bind(1, 0))
+}
+
+/// One chain of 63 qualified types nested in each other, and binds between two
+/// arrays of its end, so that it is compared with itself.
+pub fn one_deep_array(bytes: usize) -> Sheet {
+    let mut start = SheetBuilder::new().integer();
+    for number in 1..63 {
+        start = start.array(number - 1, ARRAY_ALL);
+    }
+    start = start.array(61, FETCH);
+    filled(start, bytes, &[62, 63], |_| bind(1, 0))
+}
+
+/// Adds procedures of at most 1,000 instructions until no further
+/// instruction fits.
+fn filled(
+    mut start: SheetBuilder,
+    bytes: usize,
+    variables: &[u8],
+    pattern: impl Fn(usize) -> InstructionRecord,
+) -> Sheet {
+    let mut used = start.byte_count();
+    let head = 8 + 4 * variables.len();
+    loop {
+        let room = bytes.saturating_sub(used + head) / 8;
+        if room == 0 {
+            return start.build();
+        }
+        let length = room.min(MAX_INSTRUCTIONS);
+        let mut body: Vec<InstructionRecord> = (1..length).map(&pattern).collect();
+        body.push(leave());
+        start = start.procedure(Procedure::main().variables(variables).body(&body));
+        used += head + 8 * length;
+    }
+}
+
+/// Sixty-four procedures that call each other with eight actuals.
+pub fn many_procedures(bytes: usize) -> Sheet {
+    let mut sheet = SheetBuilder::new()
+        .record_type(15, &[])
+        .integer()
+        .record(2, 0xfffe)
+        .array(1, ARRAY_ALL)
+        .build();
+    let formals = [0, 1, 2, 0, 1, 2, 0, 1];
+    let length = (bytes - sheet.byte_count()) / 64;
+    for number in 0..64 {
+        let mut procedure = if number == 0 {
+            Procedure::main().variables(&formals)
+        } else {
+            let callable = Procedure::new(0, 0);
+            formals
+                .iter()
+                .fold(callable, |all, &inner| all.formal(inner, inner))
+        };
+        for step in 1..(length - 8 - 4 * formals.len()) / 8 {
+            let callee = (number + step) % 63 + 1;
+            let kept = if step % 2 == 0 { 0 } else { NONE };
+            procedure = procedure.body(&[call(kept, 0, callee as u16)]);
+        }
+        let last = if number == 0 { leave() } else { give_back(0) };
+        sheet.procedures.push(procedure.body(&[last]));
+    }
+    sheet.seal();
+    sheet
+}

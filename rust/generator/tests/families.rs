@@ -1,0 +1,156 @@
+//! What the generator promises about its sheets, asked of the second engine.
+
+use generator::accepted::accepted;
+use generator::breach::Flaw;
+use generator::damage::damaged;
+use generator::large::{many_procedures, mostly_instructions, one_deep_array, two_deep_arrays};
+use generator::runs::families::{MISDECLARED, RUNNABLE, TRIALS};
+use generator::showcase::showcase;
+use generator::wellformed::wellformed;
+use generator::Random;
+use reference::{check, Verdict};
+
+#[test]
+fn accepted_sheets_are_accepted() {
+    for seed in 0..5_000 {
+        let sheet = accepted(&mut Random::new(seed)).encode();
+        assert_eq!(check(&sheet), Verdict::Accepted, "seed {seed}");
+    }
+}
+
+/// The largest count of each kind stands in some accepted sheet, so that a
+/// limit that is one too low shows.
+#[test]
+fn accepted_sheets_reach_every_limit() {
+    let mut largest = [0; 8];
+    for seed in 0..5_000 {
+        let sheet = accepted(&mut Random::new(seed));
+        let rights = sheet.types.iter().map(|record| record.named_rights);
+        let slots = sheet.types.iter().map(|record| record.slot_count);
+        let formals = sheet.procedures.iter().map(|p| p.head.formals);
+        let variables = sheet.procedures.iter().map(|p| p.variables.len());
+        let lengths = sheet.procedures.iter().map(|p| p.instructions.len());
+        let counts = [
+            sheet.types.len(),
+            sheet.qualified.len(),
+            sheet.procedures.len(),
+            rights.max().map_or(0, usize::from),
+            slots.max().map_or(0, usize::from),
+            formals.max().map_or(0, usize::from),
+            variables.max().unwrap_or(0),
+            lengths.max().unwrap_or(0),
+        ];
+        for (most, count) in largest.iter_mut().zip(counts) {
+            *most = count.max(*most);
+        }
+    }
+    assert_eq!(largest, [32, 64, 64, 15, 8, 8, 32, 1000]);
+}
+
+#[test]
+fn wellformed_sheets_parse_and_some_are_refused() {
+    let mut refused = 0;
+    for seed in 0..5_000 {
+        let sheet = wellformed(&mut Random::new(seed)).encode();
+        assert!(reference::parse(&sheet).is_ok(), "seed {seed}");
+        refused += usize::from(check(&sheet) != Verdict::Accepted);
+    }
+    assert!((1_000..4_900).contains(&refused), "{refused}");
+}
+
+#[test]
+fn flaws_are_refused_where_they_are() {
+    for flaw in Flaw::all() {
+        for seed in 0..50 {
+            let breach = flaw.build(&mut Random::new(seed));
+            let expected = Verdict::Refused {
+                number: breach.number,
+                place: breach.broken.place(breach.at),
+            };
+            assert_eq!(
+                check(&breach.sound.encode()),
+                Verdict::Accepted,
+                "{flaw:?} {seed}"
+            );
+            assert_eq!(check(&breach.broken.encode()), expected, "{flaw:?} {seed}");
+        }
+    }
+}
+
+/// The two sheets of a flaw have the same records but for one.
+#[test]
+fn flaws_change_one_record() {
+    for flaw in Flaw::all() {
+        let breach = flaw.build(&mut Random::new(7));
+        let sound = breach.sound.encode();
+        let broken = breach.broken.encode();
+        assert_eq!(sound.len(), broken.len(), "{flaw:?}");
+        let places = breach.sound.places();
+        let changed = places
+            .iter()
+            .filter(|(at, place)| {
+                let span = *place..place + at.kind().size();
+                sound[span.clone()] != broken[span]
+            })
+            .count();
+        assert_eq!(changed, 1, "{flaw:?}");
+    }
+}
+
+#[test]
+fn a_seed_gives_one_sheet() {
+    for seed in 0..50 {
+        let make = || {
+            let mut random = Random::new(seed);
+            let sheet = accepted(&mut random);
+            damaged(&mut random, &sheet)
+        };
+        assert_eq!(make(), make());
+    }
+    let first = accepted(&mut Random::new(1));
+    assert!((2..50).any(|seed| accepted(&mut Random::new(seed)) != first));
+}
+
+#[test]
+fn large_sheets_fill_the_bytes_given() {
+    for make in [
+        mostly_instructions,
+        one_deep_array,
+        two_deep_arrays,
+        many_procedures,
+    ] {
+        let sheet = make(32_768).encode();
+        assert!((32_000..=32_768).contains(&sheet.len()), "{}", sheet.len());
+        assert_eq!(check(&sheet), Verdict::Accepted);
+    }
+}
+
+#[test]
+fn showcase_has_every_code() {
+    let sheet = showcase();
+    assert_eq!(check(&sheet.encode()), Verdict::Accepted);
+    let instructions = sheet.procedures.iter().flat_map(|p| &p.instructions);
+    let codes: Vec<u8> = instructions.map(|record| record.code).collect();
+    assert!((1..=17).all(|code| codes.contains(&code)));
+}
+
+#[test]
+fn runnable_sheets_are_accepted() {
+    for seed in 0..5_000 {
+        let sheet = RUNNABLE.sheet(seed).encode();
+        assert_eq!(check(&sheet), Verdict::Accepted, "seed {seed}");
+    }
+}
+
+#[test]
+fn trials_and_misdeclared_sheets_parse_and_most_are_refused() {
+    for family in [TRIALS, MISDECLARED] {
+        let mut refused = 0;
+        for seed in 0..5_000 {
+            let sheet = family.sheet(seed).encode();
+            assert!(reference::parse(&sheet).is_ok(), "{} {seed}", family.name);
+            refused += usize::from(check(&sheet) != Verdict::Accepted);
+        }
+        assert!(refused > 2_500, "{}: {refused}", family.name);
+    }
+}

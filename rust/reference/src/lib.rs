@@ -1,0 +1,43 @@
+//! The second engine: worksheets checked and run with plain data structures.
+//!
+//! It is written from document 01 alone, so that what it says can be held
+//! against what the proved engine says. [`parse`] reads the bytes into a
+//! [`Program`] (refusals 1 to 5); [`access::check`] applies the access rules
+//! to it (refusals 6 to 9); [`check`] does one after the other. [`run`] runs
+//! an accepted sheet on the plain machine, [`watch`] a well-formed one on the
+//! watched machine; [`machine`] has both, to be driven step by step.
+
+pub mod access;
+mod calls;
+mod decode;
+mod layout;
+pub mod machine;
+mod order;
+mod program;
+mod refusal;
+
+pub use machine::{run, watch, Outcome, Place, Stop};
+pub use program::{
+    Instruction, Kind, Operation, Procedure, Program, QualifiedType, RecordType, Rights, Variable,
+};
+pub use refusal::{Reason, Refusal, Verdict};
+
+/// The longest sheet that is read at all.
+pub const MAX_SHEET: usize = 32_768;
+
+/// Reads a well-formed sheet: the layout pass, then leftover bytes, then the
+/// fields of calls that wait for the procedure called.
+pub fn parse(sheet: &[u8]) -> Result<Program, Refusal> {
+    if sheet.len() > MAX_SHEET {
+        return Err(Refusal::new(Reason::TooLong, 0));
+    }
+    let program = layout::read(sheet)?;
+    calls::check(&program)?;
+    Ok(program)
+}
+
+/// Accepts a sheet, or refuses it with the number and the place of document 01.
+pub fn check(sheet: &[u8]) -> Verdict {
+    let outcome = parse(sheet).and_then(|program| access::check(&program));
+    Verdict::from(outcome)
+}

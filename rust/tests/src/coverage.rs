@@ -1,0 +1,152 @@
+//! Which refusals have come up where, and which codes were accepted and
+//! refused.
+
+use crate::walk::{Due, Walk};
+use generator::records::RecordKind;
+use reference::Verdict;
+use std::collections::BTreeMap;
+
+/// Where a refusal can arise.
+#[derive(Clone, Copy, Debug, PartialEq, Eq, PartialOrd, Ord)]
+pub enum Site {
+    /// The sheet as a whole.
+    Whole,
+    Record(RecordKind),
+    LeftoverBytes,
+    /// A field that waits for the procedure called.
+    CallPass,
+    /// The need or the inner type of a variable.
+    Need,
+    Inner,
+}
+
+/// The refusals that are possible, all of which must come up.
+pub fn possible() -> Vec<(u8, Site)> {
+    let mut all = vec![
+        (1, Site::Whole),
+        (2, Site::LeftoverBytes),
+        (4, Site::Record(RecordKind::Header)),
+        (5, Site::CallPass),
+        (6, Site::Record(RecordKind::Type)),
+        (6, Site::Record(RecordKind::Qualified)),
+        (6, Site::Record(RecordKind::Procedure)),
+        (6, Site::Need),
+        (6, Site::Inner),
+        (7, Site::Record(RecordKind::Variable)),
+        (8, Site::Record(RecordKind::Instruction)),
+        (9, Site::Record(RecordKind::Instruction)),
+    ];
+    for number in [2, 3, 5] {
+        all.extend(RecordKind::ALL.map(|kind| (number, Site::Record(kind))));
+    }
+    all
+}
+
+/// The refusals of instructions that are possible, by number and code.
+pub fn possible_codes() -> Vec<(u8, usize)> {
+    let mut all = Vec::new();
+    for number in [5, 8] {
+        all.extend((1..=17).map(|code| (number, code)));
+    }
+    all.extend([6, 10, 11, 12, 14, 15, 16, 17].map(|code| (9, code)));
+    all
+}
+
+#[derive(Default)]
+pub struct Coverage {
+    pub sheets: usize,
+    pub accepted: usize,
+    pub accepted_codes: BTreeMap<usize, usize>,
+    pub refused: BTreeMap<(u8, Site), usize>,
+    pub refused_codes: BTreeMap<(u8, usize), usize>,
+}
+
+impl Coverage {
+    pub fn add(&mut self, sheet: &[u8], verdict: Verdict) {
+        self.sheets += 1;
+        let walk = Walk { sheet };
+        match verdict {
+            Verdict::Accepted => {
+                self.accepted += 1;
+                for code in walk.codes() {
+                    *self.accepted_codes.entry(code).or_default() += 1;
+                }
+            }
+            Verdict::Refused { number, place } => {
+                if let Some(site) = site(&walk, number, place) {
+                    *self.refused.entry((number, site)).or_default() += 1;
+                }
+                self.add_code(&walk, number, place);
+            }
+        }
+    }
+
+    /// Counts the code of a refused instruction; a mark or code that is none
+    /// has nothing to count.
+    fn add_code(&mut self, walk: &Walk, number: u8, place: usize) {
+        let code = walk.byte(place + 2);
+        let is_instruction = walk.due(place).kind() == Some(RecordKind::Instruction);
+        if is_instruction && number >= 5 && (1..=17).contains(&code) {
+            *self.refused_codes.entry((number, code)).or_default() += 1;
+        }
+    }
+
+    pub fn merge(&mut self, other: Coverage) {
+        self.sheets += other.sheets;
+        self.accepted += other.accepted;
+        merge_counts(&mut self.accepted_codes, other.accepted_codes);
+        merge_counts(&mut self.refused, other.refused);
+        merge_counts(&mut self.refused_codes, other.refused_codes);
+    }
+
+    /// What should have come up and has not, and what has come up and is not
+    /// possible.
+    pub fn faults(&self) -> Vec<String> {
+        let mut faults = Vec::new();
+        for code in (1..=17).filter(|code| !self.accepted_codes.contains_key(code)) {
+            faults.push(format!("code {code} in no accepted sheet"));
+        }
+        differences(&mut faults, &possible(), &self.refused);
+        differences(&mut faults, &possible_codes(), &self.refused_codes);
+        faults
+    }
+}
+
+fn merge_counts<Key: Ord>(into: &mut BTreeMap<Key, usize>, from: BTreeMap<Key, usize>) {
+    for (key, count) in from {
+        *into.entry(key).or_default() += count;
+    }
+}
+
+fn differences<Key: Ord + std::fmt::Debug>(
+    faults: &mut Vec<String>,
+    possible: &[Key],
+    counts: &BTreeMap<Key, usize>,
+) {
+    let lacking = possible.iter().filter(|key| !counts.contains_key(key));
+    faults.extend(lacking.map(|key| format!("never refused: {key:?}")));
+    let strange = counts.keys().filter(|key| !possible.contains(key));
+    faults.extend(strange.map(|key| format!("not possible: {key:?}")));
+}
+
+/// Where a refusal arose; None where it may be the need or the inner type.
+fn site(walk: &Walk, number: u8, place: usize) -> Option<Site> {
+    if number == 1 {
+        return Some(Site::Whole);
+    }
+    match (number, walk.due(place)) {
+        (_, Due::Nothing) => Some(Site::LeftoverBytes),
+        (6, Due::Variable { procedure }) => match walk.open_in_variable(procedure, place) {
+            (true, false) => Some(Site::Need),
+            (false, true) => Some(Site::Inner),
+            (true, true) => None,
+            (false, false) => Some(Site::Record(RecordKind::Variable)),
+        },
+        (5, Due::Instruction { procedure, is_last })
+            if !is_last && walk.call_waits(procedure, place) =>
+        {
+            Some(Site::CallPass)
+        }
+        (_, due) => due.kind().map(Site::Record),
+    }
+}

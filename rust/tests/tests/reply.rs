@@ -1,0 +1,41 @@
+//! The words of the reply: the first gets the place, no other is touched.
+
+use generator::showcase::showcase;
+use wennathig::check_into;
+
+const UNTOUCHED: u64 = 0xDEAD_BEEF_0BAD_CAFE;
+
+/// Checks with a reply of so many words out of five, and gives the number and
+/// all five.
+fn replied(sheet: &[u8], words: usize) -> (u64, [u64; 5]) {
+    let mut memory = [UNTOUCHED; 5];
+    let number = check_into(sheet, &mut memory[..words]);
+    (number, memory)
+}
+
+/// Expects the number and place for replies of 0 to 5 words.
+fn expect(sheet: &[u8], number: u64, place: u64) {
+    for words in 0..=5 {
+        let mut memory = [UNTOUCHED; 5];
+        if words > 0 {
+            memory[0] = place;
+        }
+        assert_eq!(replied(sheet, words), (number, memory), "{words} words");
+    }
+}
+
+#[test]
+fn refused_sheets() {
+    let mut sheet = showcase().encode();
+    let end = sheet.len() as u64;
+    sheet.push(0);
+    expect(&sheet, 2, end);
+    expect(&[], 2, 0);
+    expect(&vec![0; 32_769], 1, 0);
+    expect(&sheet[..30], 2, 30);
+}
+
+#[test]
+fn accepted_sheets() {
+    expect(&showcase().encode(), 0, 0);
+}

@@ -1,0 +1,33 @@
+#!/usr/bin/env bash
+# The header alone, from C and from C++, then each C test; a C test's last line is 'N passed, M failed'.
+set -uo pipefail
+cd "$(dirname "${BASH_SOURCE[0]}")/.." || exit 1
+
+passed=0 failed=0
+tally() { # STATUS WHAT
+    if [ "$1" -eq 0 ]; then passed=$((passed + 1)); else failed=$((failed + 1)); echo "FAILED: $2"; fi
+}
+
+gcc -std=c99 -Wall -Wextra -Werror -pedantic -fsyntax-only -x c include/wennathig.h
+tally $? "the header alone, as C99"
+g++ -std=c++11 -Wall -Wextra -Werror -pedantic -fsyntax-only -x c++ include/wennathig.h
+tally $? "the header alone, as C++"
+
+for source in c/test_*.c; do
+    name=$(basename "$source" .c)
+    if ! make --no-print-directory "build/$name"; then
+        tally 1 "$source does not compile and link"
+        continue
+    fi
+    said=$("build/$name")
+    status=$?
+    printf '%s\n' "$said"
+    if [[ ${said##*$'\n'} =~ ^([0-9]+)\ passed,\ ([0-9]+)\ failed$ ]]; then
+        passed=$((passed + BASH_REMATCH[1])) failed=$((failed + BASH_REMATCH[2]))
+        [ "$status" -eq 0 ] || [ "${BASH_REMATCH[2]}" -gt 0 ] || tally 1 "$name ended with status $status"
+    else
+        tally 1 "$name ended without its count, with status $status"
+    fi
+done
+echo "$passed passed, $failed failed"
+[ "$failed" -eq 0 ]
