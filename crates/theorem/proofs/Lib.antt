@@ -1,2 +1,5 @@
 pub mod Formed
 pub mod Condition3
+pub mod Computing
+pub mod Exhibit
+pub mod Vectors

@@ -1,1 +1,3 @@
 pub mod Condition3
+pub mod Exhibit
+pub mod Vectors
