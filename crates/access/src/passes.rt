@@ -112,7 +112,10 @@ fn instruction_access(s: &[u8], table: &[u32; 65], p: usize, pr: u32, i: u16) ->
     ensures { λ r. ⌜ r ≡ verdict (instruction-rules (programOf (now (s .entry))) p i) ⌝ }
 {
     let read = instruction_in(s, pr, p, i);
-    refused(instruction_number(s, table, pr, read), instruction_at(s, pr, i))
+    refused(
+        instruction_number(s, table, pr, read),
+        instruction_at(s, pr, i),
+    )
 }
 
 fn instructions_access(s: &[u8], table: &[u32; 65], p: usize, pr: u32) -> Verdict

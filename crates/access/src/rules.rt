@@ -67,7 +67,11 @@ pub fn fetch_rule(s: &[u8], pr: u32, a: u8, b: u8, c: u8) -> u8
     let from = inner_of(s, pr, b);
     let kinds = is_array(s, from) & is_integer(s, inner_of(s, pr, c));
     let moved = movement(s, element_of(s, from), inner_of(s, pr, a));
-    require(kinds, 8, require(has_right(1, rights_of(s, from)), 9, moved))
+    require(
+        kinds,
+        8,
+        require(has_right(1, rights_of(s, from)), 9, moved),
+    )
 }
 
 pub fn store_rule(s: &[u8], pr: u32, a: u8, b: u8, c: u8) -> u8
@@ -84,7 +88,11 @@ pub fn size_rule(s: &[u8], pr: u32, a: u8, b: u8) -> u8
 {
     let of = inner_of(s, pr, b);
     let moved = integer_rule(s, pr, a);
-    require(is_array(s, of), 8, require(has_right(3, rights_of(s, of)), 9, moved))
+    require(
+        is_array(s, of),
+        8,
+        require(has_right(3, rights_of(s, of)), 9, moved),
+    )
 }
 
 pub fn record_rule(s: &[u8], pr: u32, a: u8) -> u8
@@ -93,7 +101,11 @@ pub fn record_rule(s: &[u8], pr: u32, a: u8) -> u8
     let owner = byte(s, pr as usize, 2);
     let named = byte(s, type_at(owner), 2);
     let to = inner_of(s, pr, a);
-    require(is_owned(s, owner, to), 8, require(has_none_above(named, rights_of(s, to)), 9, 0))
+    require(
+        is_owned(s, owner, to),
+        8,
+        require(has_none_above(named, rights_of(s, to)), 9, 0),
+    )
 }
 
 // The QT number that declares slot k of a type; k is below the type's slots, which are at most 8.
@@ -109,7 +121,11 @@ pub fn get_slot_rule(s: &[u8], pr: u32, a: u8, b: u8, k: u16) -> u8
     let owner = byte(s, pr as usize, 2);
     let from = inner_of(s, pr, b);
     let moved = movement(s, slot_of(s, owner, k), inner_of(s, pr, a));
-    require(is_owned(s, owner, from), 8, require(has_right(0, rights_of(s, from)), 9, moved))
+    require(
+        is_owned(s, owner, from),
+        8,
+        require(has_right(0, rights_of(s, from)), 9, moved),
+    )
 }
 
 pub fn set_slot_rule(s: &[u8], pr: u32, a: u8, b: u8, k: u16) -> u8
@@ -118,5 +134,9 @@ pub fn set_slot_rule(s: &[u8], pr: u32, a: u8, b: u8, k: u16) -> u8
     let owner = byte(s, pr as usize, 2);
     let to = inner_of(s, pr, a);
     let moved = movement(s, inner_of(s, pr, b), slot_of(s, owner, k));
-    require(is_owned(s, owner, to), 8, require(has_right(0, rights_of(s, to)), 9, moved))
+    require(
+        is_owned(s, owner, to),
+        8,
+        require(has_right(0, rights_of(s, to)), 9, moved),
+    )
 }

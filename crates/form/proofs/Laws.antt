@@ -9,13 +9,13 @@ use native.Mathlib.Numerals.{add-one}
 use lib.ListN.{length, getD}
 use lib.Dec.{eqb}
 use borrow.Author.Count.{below-more}
-use borrow.Author.Tests.{leb-true, ltb-true, eq-eqb, ne-eqb, lt-ltb, le-ltb}
+use borrow.Author.Tests.{leb-true, ltb-true, eq-eqb, ne-eqb, le-leb, lt-ltb, le-ltb}
 use Rattle.model.specs.Refusal.{torn, stray-mark, bad-edition, off-scale, Test, Tests, tests, failure, refuse, verdict, all-from}
 use Rattle.model.specs.declared.Verdict.{Verdict}
 use Rattle.model.specs.declared.Verdict.the-variants.{Accepted, Refused}
 use Rattle.model.proofs.Verdicts.{verdict-append, then-accepted, then-refused, accepted-left, accepted-right, accepted-tests, passed-test, both-true}
 use Rattle.sheet.specs.Bytes.{byteAt, wordAt, wholeAt, markedAt}
-use Rattle.sheet.specs.Layout.{editionOf, typesOf, qualsOf, qualAt, proceduresOf, ownerAt, formalsAt, variablesAt, instructionsAt, variableAt, instructionAt, codeAt, kAt, procedureAt}
+use Rattle.sheet.specs.Layout.{editionOf, typesOf, qualsOf, qualAt, proceduresOf, slotsOf, ownerAt, formalsAt, variablesAt, instructionsAt, variableAt, instructionAt, codeAt, kAt, procedureAt}
 use Rattle.sheet.specs.Places.{Places}
 use Rattle.sheet.proofs.Laws.{whole-true}
 use Rattle.form.specs.Scale.{all-below, below-or-none, header-scale, actuals-scale}
@@ -69,6 +69,16 @@ pub due-below : (n x : ℕ) (due : Bool) → below-or-none n due x ≡ true → 
 unfolding below-or-none
 due-below n x due h e = ltb-true x n (rw e at h)
 
+-- n bytes that end within the list stand whole
+pub whole-here : (s : List ℕ) (at n : ℕ) → at + n ≤ length s → wholeAt s at n ≡ true
+unfolding wholeAt
+whole-here s at n h = le-leb (at + n) (length s) h
+
+-- a mark by its two bytes
+pub mark-here : (s : List ℕ) (at m n : ℕ) → markedAt s at m n ≡ eqb (getD s at 0) m && eqb (getD s (at + 1) 0) n
+unfolding markedAt byteAt
+mark-here s at m n = let e : at + 0 ≡ at = omega arith in rw e
+
 -- ---- places
 pub placed : (s table : List ℕ) → Places s table → (k : ℕ) → k ≤ proceduresOf s → k ≤ 64 → getD table k 0 ≡ procedureAt s k
 unfolding Places
@@ -88,11 +98,11 @@ unfolding instructionAt
 instruction-from s pr first i e = omega arith
 
 -- the tests of an instruction, from what was read of its procedure
-pub instruction-here : (s : List ℕ) (pr v n owner i at : ℕ)
-    → v ≡ variablesAt s pr → n ≡ instructionsAt s pr → owner ≡ ownerAt s pr → at ≡ instructionAt s pr i
-    → instruction-tests-at s v n owner i at ≡ instruction-tests s pr i
+pub instruction-here : (s : List ℕ) (pr v n owner slots i at : ℕ)
+    → v ≡ variablesAt s pr → n ≡ instructionsAt s pr → owner ≡ ownerAt s pr → slots ≡ slotsOf s owner → at ≡ instructionAt s pr i
+    → instruction-tests-at s v n owner slots i at ≡ instruction-tests s pr i
 unfolding instruction-tests
-instruction-here s pr v n owner i at p q r e = rw (p, q, r, e)
+instruction-here s pr v n owner slots i at p q r t e = rw (p, q, t, r, e)
 
 pub call-here : (s : List ℕ) (pr v i at : ℕ) → v ≡ variablesAt s pr → at ≡ instructionAt s pr i
     → _≡_ {A = List Tests} (tests at (call-tests-at s v at) ∷ []) (call-tests s pr i)

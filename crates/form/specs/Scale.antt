@@ -39,15 +39,15 @@ qual-scale t named j base rights element =
 unfoldable pub procedure-scale : (t q i owner f v result n : ℕ) → Bool
 procedure-scale t q i owner f v result n =
     all (
-      (eqb owner 0 || (leb 2 owner && ltb owner (t + 2))) ∷
-      leb f 8 ∷
-      leb f v ∷
-      leb v 32 ∷
-      (eqb result 255 || ltb result q) ∷
-      leb 1 n ∷
-      leb n 1000 ∷
-      (not (eqb i 0) || (eqb owner 0 && eqb f 0 && eqb result 255)) ∷
-      [])
+    (eqb owner 0 || (leb 2 owner && ltb owner (t + 2))) ∷
+    leb f 8 ∷
+    leb f v ∷
+    leb v 32 ∷
+    (eqb result 255 || ltb result q) ∷
+    leb 1 n ∷
+    leb n 1000 ∷
+    (not (eqb i 0) || (eqb owner 0 && eqb f 0 && eqb result 255)) ∷
+    [])
 
 -- VR number x of a procedure with f formals: "inner QT, need QT (255 unless a formal). Formals come first."
 unfoldable pub variable-scale : (q f x inner need : ℕ) → Bool
@@ -87,14 +87,14 @@ k-scale n slots code k =
 unfoldable pub instruction-scale : (v n owner slots i code a b c k : ℕ) → Bool
 instruction-scale v n owner slots i code a b c k =
     all (
-      from-to 1 17 code ∷
-      a-scale v code a ∷
-      b-scale v code b ∷
-      c-scale v code c ∷
-      k-scale n slots code k ∷
-      (not (from-to 13 15 code) || leb 2 owner) ∷
-      (not (eqb (i + 1) n) || eqb code 17) ∷
-      [])
+    from-to 1 17 code ∷
+    a-scale v code a ∷
+    b-scale v code b ∷
+    c-scale v code c ∷
+    k-scale n slots code k ∷
+    (not (from-to 13 15 code) || leb 2 owner) ∷
+    (not (eqb (i + 1) n) || eqb code 17) ∷
+    [])
 
 -- ---- a call of a procedure with f formals: "b (255 exactly if f is 0, else b to b+f−1 all below v)"
 unfoldable pub actuals-scale : (f b v : ℕ) → Bool

@@ -23,11 +23,11 @@ record-tests s at size m n scale =
 unfoldable pub header-tests : List ℕ → List Tests
 header-tests s =
     tests 0 (
-      test torn (wholeAt s 0 hd-size) ∷
-      test stray-mark (markedAt s 0 72 68) ∷
-      test bad-edition (eqb (editionOf s) 1) ∷
-      test off-scale (header-scale (typesOf s) (qualsOf s) (proceduresOf s)) ∷
-      [])
+    test torn (wholeAt s 0 hd-size) ∷
+    test stray-mark (markedAt s 0 72 68) ∷
+    test bad-edition (eqb (editionOf s) 1) ∷
+    test off-scale (header-scale (typesOf s) (qualsOf s) (proceduresOf s)) ∷
+    [])
     ∷ []
 
 -- TY number i, of type 2 + i
@@ -54,15 +54,15 @@ variable-tests s pr x =
     record-tests s (variableAt pr x) vr-size 86 82
     (variable-scale (qualsOf s) (formalsAt s pr) x (innerAt s pr x) (needAt s pr x))
 
--- IN number i, at `at`, in a procedure with v variables, n instructions and an owner
-unfoldable pub instruction-tests-at : List ℕ → (v n owner i at : ℕ) → List Tests
-instruction-tests-at s v n owner i at =
+-- IN number i, at `at`, in a procedure with v variables and n instructions, whose owner has `slots` slots
+unfoldable pub instruction-tests-at : List ℕ → (v n owner slots i at : ℕ) → List Tests
+instruction-tests-at s v n owner slots i at =
     record-tests s at in-size 73 78
-    (instruction-scale v n owner (slotsOf s owner) i (codeAt s at) (byteAt s at 3) (byteAt s at 4) (byteAt s at 5) (kAt s at))
+    (instruction-scale v n owner slots i (codeAt s at) (byteAt s at 3) (byteAt s at 4) (byteAt s at 5) (kAt s at))
 
 unfoldable pub instruction-tests : List ℕ → (pr i : ℕ) → List Tests
 instruction-tests s pr i =
-    instruction-tests-at s (variablesAt s pr) (instructionsAt s pr) (ownerAt s pr) i (instructionAt s pr i)
+    instruction-tests-at s (variablesAt s pr) (instructionsAt s pr) (ownerAt s pr) (slotsOf s (ownerAt s pr)) i (instructionAt s pr i)
 
 -- procedure p, at `pr`: its PR, VRs, INs
 unfoldable pub procedure-tests-at : List ℕ → (p pr : ℕ) → List Tests

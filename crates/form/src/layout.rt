@@ -9,6 +9,7 @@ use model::Verdict;
 use sheet::bytes::byte;
 use sheet::bytes::word;
 use sheet::places::instruction_at;
+use sheet::places::type_at;
 ghost use mathlib.Core.Path.{_≡_};
 ghost use mathlib.Core.List.{_++_};
 ghost use Prim.Native.Nat.{_≤_, _<_};
@@ -65,12 +66,13 @@ fn instructions_pass(s: &[u8], pr: u32) -> Verdict
     ensures { λ r. ⌜ r ≡ verdict (each (instructionsAt (now (s .entry)) pr) (instruction-tests (now (s .entry)) pr)) ⌝ }
 {
     let owner = byte(s, pr as usize, 2);
+    let slots = byte(s, type_at(owner), 3);
     let vars = byte(s, pr as usize, 4);
     let n = word(s, pr as usize, 6);
     let first = instruction_at(s, pr, 0);
     let mut i: u16 = 0;
     while i < n {
-        let v = instruction_record(s, vars, n, owner, i, first + 8 * (i as usize));
+        let v = instruction_record(s, vars, n, owner, slots, i, first + 8 * (i as usize));
         let Verdict::Accepted = v else {
             return v;
         };

@@ -1,9 +1,9 @@
 // One record of each kind: whole, under its mark, within its limits.
 use crate::scale::below_or_none;
 use crate::scale::header_scale;
-use crate::scale::instruction_scale;
 use crate::scale::procedure_scale;
 use crate::scale::qual_scale;
+use crate::scale::scale_by_code;
 use crate::scale::variable_scale;
 use model::Verdict;
 use sheet::bytes::byte;
@@ -14,8 +14,9 @@ use sheet::places::qual_at;
 use sheet::places::type_at;
 use sheet::places::variable_at;
 ghost use mathlib.Core.Path.{_≡_};
-ghost use Prim.Native.Nat.{_+_, _<_};
+ghost use Prim.Native.Nat.{_+_, _<_, _≤_};
 ghost use lib.Dec.{ltb};
+ghost use lib.ListN.{length};
 ghost use Rattle.model.specs.Refusal.{verdict};
 ghost use Rattle.sheet.specs.Bytes.{byteAt};
 ghost use Rattle.sheet.specs.Layout.{qualsOf, namedOf, slotsOf, slotOf, typeAt};
@@ -93,7 +94,14 @@ pub fn qual_record(s: &[u8], j: u8) -> Verdict
     let at = qual_at(s, j);
     let base = byte(s, at, 2);
     let named = byte(s, type_at(base), 2);
-    let scale = qual_scale(byte(s, 0, 3), named, j, base, word(s, at, 3), byte(s, at, 5));
+    let scale = qual_scale(
+        byte(s, 0, 3),
+        named,
+        j,
+        base,
+        word(s, at, 3),
+        byte(s, at, 5),
+    );
     record(s, at, 6, b'Q', b'T', scale)
 }
 
@@ -122,15 +130,47 @@ pub fn variable_record(s: &[u8], pr: u32, x: u8) -> Verdict
     record(s, at, 4, b'V', b'R', scale)
 }
 
-// IN number i, at a place, in a procedure with v variables, n instructions and an owner.
-pub fn instruction_record(s: &[u8], v: u8, n: u16, owner: u8, i: u16, at: usize) -> Verdict
-    ensures { λ r. ⌜ r ≡ verdict (instruction-tests-at (now (s .entry)) v n owner i at) ⌝ }
+// IN number i, which stands whole at a place, in a procedure with v variables, n instructions and an owner with so many slots. It is read without asking again where the sheet ends.
+fn whole_instruction(s: &[u8], v: u8, n: u16, owner: u8, slots: u8, i: u16, at: usize) -> Verdict
+    requires { ⌜ at + 8 ≤ length (now s) ⌝ }
+    ensures { λ r. ⌜ r ≡ verdict (instruction-tests-at (now (s .entry)) v n owner slots i at) ⌝ }
 {
-    let slots = byte(s, type_at(owner), 3);
-    let code = byte(s, at, 2);
-    let a = byte(s, at, 3);
-    let b = byte(s, at, 4);
-    let c = byte(s, at, 5);
-    let scale = instruction_scale(v, n, owner, slots, i, code, a, b, c, word(s, at, 6));
-    record(s, at, 8, b'I', b'N', scale)
+    let k = (s[at + 6] as u16) + 256 * (s[at + 7] as u16);
+    let scale = scale_by_code(
+        v,
+        n,
+        owner,
+        slots,
+        i,
+        s[at + 2],
+        s[at + 3],
+        s[at + 4],
+        s[at + 5],
+        k,
+    );
+    if (s[at] == b'I') & (s[at + 1] == b'N') {
+        if scale {
+            return Verdict::Accepted;
+        }
+        return Verdict::Refused(5, at);
+    }
+    Verdict::Refused(3, at)
+}
+
+// IN number i, at a place.
+pub fn instruction_record(
+    s: &[u8],
+    v: u8,
+    n: u16,
+    owner: u8,
+    slots: u8,
+    i: u16,
+    at: usize,
+) -> Verdict
+    ensures { λ r. ⌜ r ≡ verdict (instruction-tests-at (now (s .entry)) v n owner slots i at) ⌝ }
+{
+    if whole(s, at, 8) {
+        return whole_instruction(s, v, n, owner, slots, i, at);
+    }
+    Verdict::Refused(2, at)
 }

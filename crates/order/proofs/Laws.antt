@@ -5,7 +5,7 @@ use mathlib.Core.List.{List}
 use mathlib.Core.Bool.{Bool, true, false, _&&_, cond}
 use native.Mathlib.Omega.{arith}
 use lib.Dec.{eqb, ltb}
-use borrow.Author.Tests.{ltb-true, eqb-true, eqb-false, ne-eqb}
+use borrow.Author.Tests.{ltb-true, lt-ltb, le-ltb, eqb-true, ne-eqb}
 use Rattle.model.specs.Rights.{Rights, within}
 use Rattle.model.specs.Qualified.{Qual, integer, array, declared, base, rights, element, isInteger, isArray, same, alike, order}
 use Rattle.model.specs.Refusal.{failure}
@@ -67,13 +67,13 @@ same-parts (a-declared t r h) an-integer = rw (ne-eqb t 0 (λ z. omega arith))
 same-parts (a-declared t r h) (an-array s f) = rw (ne-eqb t 1 (λ z. omega arith))
 same-parts (a-declared t r h) (a-declared u s k) = rw (ne-eqb t 1 (λ z. omega arith)) (else-and (eqb t u && eqb r s) true)
 
-flag : (t : Bool) → t ≡ cond t true false
-flag true = refl
-flag false = refl
+-- of two heads whose rights agree and whose base is 1
+pub array-head : (r u b : ℕ) → eqb r u && eqb b 1 ≡ true → b ≡ 1
+array-head r u b h = eqb-true b 1 (both-true (eqb r u) (eqb b 1) h .1)
 
 -- and the order without the rights at the top
 pub alike-parts : {a b : Qual} → Proper a → Proper b
-    → alike a b ≡ cond (eqb (base a) (base b)) (cond (eqb (base a) 1) (same (element a) (element b)) true) false
+    → alike a b ≡ cond (eqb (base a) (base b) && eqb (base a) 1) (same (element a) (element b)) (eqb (base a) (base b))
 unfolding alike base element
 alike-parts an-integer an-integer = refl
 alike-parts an-integer (an-array s f) = refl
@@ -83,7 +83,7 @@ alike-parts (an-array r e) (an-array s f) = refl
 alike-parts (an-array r e) (a-declared u s k) = rw (ne-eqb 1 u (λ z. omega arith))
 alike-parts (a-declared t r h) an-integer = rw (ne-eqb t 0 (λ z. omega arith))
 alike-parts (a-declared t r h) (an-array s f) = rw (ne-eqb t 1 (λ z. omega arith))
-alike-parts (a-declared t r h) (a-declared u s k) = rw (ne-eqb t 1 (λ z. omega arith)) (flag (eqb t u))
+alike-parts (a-declared t r h) (a-declared u s k) = rw (ne-eqb t 1 (λ z. omega arith)) (else-and (eqb t u) (same integer integer))
 
 -- a movement that the order allows passes both tests; of another, bases and elements tell 9 from 8
 pub moves-failure : (a b : Qual) → failure (moves a b) ≡ cond (order a b) 0 (cond (alike a b) 9 8)
@@ -131,39 +131,38 @@ element-none : (s : List ℕ) (j : ℕ) → (baseIn s j ≡ 1 → ⊥) → eleme
 unfolding qualOf tree
 element-none s j h = element-shaped (baseIn s j) (rightsOf s j) (tree s j (elementIn s j)) h
 
--- the record of QT j says an element: it is there, an array's, and its element's number falls
-unfoldable pub has-element : List ℕ → ℕ → Bool
-has-element s j = ltb j (qualsOf s) && eqb (baseOf s j) 1 && ltb (elementOf s j) j
+-- how far the numbers of elements can fall from QT j on, where the sheet has q of them; nothing is left where there is no QT j
+unfoldable pub depth : (q j : ℕ) → ℕ
+depth q j = cond (ltb j q) (suc j) 0
 
 module _ (s : List ℕ) (q : qualsOf s ≤ 255) (j : ℕ) where
-  element-array : baseIn s j ≡ 1 → element (qualOf s j) ≡ qualOf s (elementIn s j)
+  pub element-array : base (qualOf s j) ≡ 1 → element (qualOf s j) ≡ qualOf s (elementIn s j)
   unfolding element
-  element-array b = ap element (qual-array s q j b)
+  element-array b = ap element (qual-array s q j (sym (base-qual s j) ∙ b))
 
-  element-means : qualOf s (cond (has-element s j) (elementOf s j) 255) ≡ element (qualOf s j)
-  unfolding has-element baseIn elementIn
-  element-means = go (ltb j (qualsOf s)) (eqb (baseOf s j) 1) (ltb (elementOf s j) j) refl refl refl
+  -- the number in an array's record stands for its element; one that does not fall is read as 255, which means an integer
+  pub element-said : base (qualOf s j) ≡ 1 → ElementOf s j (elementIn s j)
+  unfolding elementIn
+  element-said b = record { means = sym (element-array b); falls = go (ltb (elementOf s j) j) refl }
     where
-      none : (baseIn s j ≡ 1 → ⊥) → qualOf s 255 ≡ element (qualOf s j)
-      none h = none-qual s q ∙ sym (element-none s j h)
+      go : (t : Bool) → ltb (elementOf s j) j ≡ t → j ≤ cond t (elementOf s j) 255 → qualOf s (cond t (elementOf s j) 255) ≡ integer
+      go true e h = let l : elementOf s j < j = ltb-true (elementOf s j) j e in absurd (omega arith)
+      go false e h = none-qual s q
 
-      go : (t u v : Bool) → ltb j (qualsOf s) ≡ t → eqb (baseOf s j) 1 ≡ u → ltb (elementOf s j) j ≡ v
-          → qualOf s (cond (t && u && v) (elementOf s j) 255) ≡ element (qualOf s j)
-      go true true v h k l =
-          let b : baseIn s j ≡ 1 = rw h (eqb-true (baseOf s j) 1 k) in
-          let e : elementIn s j ≡ cond v (elementOf s j) 255 = rw l in
-          sym (element-array b ∙ ap (qualOf s) e)
-      go true false v h k l = none (λ b. let z : baseOf s j ≡ 1 = rw h at b in eqb-false (baseOf s j) 1 k z)
-      go false u v h k l = none (λ b. let z : _≡_ {A = ℕ} 0 1 = rw h at b in omega arith)
+  -- and 255 stands for the element of any other type
+  pub element-unsaid : (base (qualOf s j) ≡ 1 → ⊥) → ElementOf s j 255
+  element-unsaid h = record { means = none-qual s q ∙ sym (element-none s j (λ e. h (base-qual s j ∙ e))); falls = λ k. none-qual s q }
 
-  element-falls : has-element s j ≡ true → elementOf s j < j
-  unfolding has-element
-  element-falls h = ltb-true (elementOf s j) j (both-true (ltb j (qualsOf s) && eqb (baseOf s j) 1) (ltb (elementOf s j) j) h .1)
-
-  -- that number stands for the element; where the record says none, 255 does, which means an integer
-  pub element-said : ElementOf s j (cond (has-element s j) (elementOf s j) 255)
-  element-said = record { means = element-means; falls = falls (has-element s j) refl }
+  pub element-falls : base (qualOf s j) ≡ 1 → depth (qualsOf s) (elementIn s j) < depth (qualsOf s) j
+  unfolding depth elementIn baseIn
+  element-falls b = go (ltb j (qualsOf s)) (ltb (elementOf s j) j) refl refl (sym (base-qual s j) ∙ b)
     where
-      falls : (t : Bool) → has-element s j ≡ t → j ≤ cond t (elementOf s j) 255 → qualOf s (cond t (elementOf s j) 255) ≡ integer
-      falls true e h = let l : elementOf s j < j = element-falls e in absurd (omega arith)
-      falls false e h = none-qual s q
+      go : (t u : Bool) → ltb j (qualsOf s) ≡ t → ltb (elementOf s j) j ≡ u → cond t (baseOf s j) 0 ≡ 1
+          → cond (ltb (cond u (elementOf s j) 255) (qualsOf s)) (suc (cond u (elementOf s j) 255)) 0 < cond t (suc j) 0
+      go true true h k z =
+          let l : elementOf s j < j = ltb-true (elementOf s j) j k in
+          let m : j < qualsOf s = ltb-true j (qualsOf s) h in
+          let n : elementOf s j < qualsOf s = omega arith in
+          rw (lt-ltb (elementOf s j) (qualsOf s) n) (omega arith)
+      go true false h k z = rw (le-ltb 255 (qualsOf s) q) (omega arith)
+      go false u h k z = absurd (omega arith)

@@ -2,43 +2,94 @@
 // A number that names no QT reads as the integer type, so that no caller owes a bound.
 use rights::is_within;
 use sheet::bytes::byte;
-use sheet::bytes::word;
 use sheet::places::qual_at;
 ghost use mathlib.Core.Path.{_≡_};
 ghost use Prim.Native.Nat.{_<_};
 ghost use Rattle.model.specs.Qualified.{integer, base, rights, element, isInteger, isArray, same, alike, order};
 ghost use Rattle.model.specs.Refusal.{failure};
 ghost use Rattle.model.specs.Rules.{moves, owned-by};
-ghost use Rattle.sheet.specs.Meaning.{qualOf};
+ghost use Rattle.sheet.specs.Bytes.{byteAt};
+ghost use Rattle.sheet.specs.Layout.{qualAt, qualsOf};
+ghost use Rattle.sheet.specs.Meaning.{elementIn, qualOf};
 ghost use Rattle.order.specs.Element.{ElementOf};
+
+// Where the QTs start. The readers below take that place and the count of QTs, so that the header is read once.
+fn quals_at(s: &[u8]) -> u16
+    ensures { λ r. ⌜ r ≡ qualAt (now (s .entry)) 0 ⌝ }
+{
+    qual_at(s, 0) as u16
+}
+
+// Byte k of QT j.
+fn qual_byte(s: &[u8], quals: u16, j: u8, k: u8) -> u8
+    requires { ⌜ quals ≡ qualAt (now s) 0 ⌝ }
+    ensures { λ r. ⌜ r ≡ byteAt (now (s .entry)) (qualAt (now (s .entry)) j) k ⌝ }
+{
+    let at = (quals as usize) + 6 * (j as usize) + (k as usize);
+    if at < s.len() {
+        return s[at];
+    }
+    0
+}
+
+// The base of QT j, of q.
+fn base_in(s: &[u8], quals: u16, q: u8, j: u8) -> u8
+    requires { ⌜ quals ≡ qualAt (now s) 0 ⌝ }
+    requires { ⌜ q ≡ qualsOf (now s) ⌝ }
+    ensures { λ r. ⌜ r ≡ base (qualOf (now (s .entry)) j) ⌝ }
+{
+    if j < q {
+        return qual_byte(s, quals, j, 2);
+    }
+    0
+}
+
+// The rights of QT j, whose base is b.
+fn rights_in(s: &[u8], quals: u16, b: u8, j: u8) -> u16
+    requires { ⌜ quals ≡ qualAt (now s) 0 ⌝ }
+    requires { ⌜ b ≡ base (qualOf (now s) j) ⌝ }
+    ensures { λ r. ⌜ r ≡ rights (qualOf (now (s .entry)) j) ⌝ }
+{
+    if b == 0 {
+        return 0;
+    }
+    let low = qual_byte(s, quals, j, 3) as u16;
+    let high = qual_byte(s, quals, j, 4) as u16;
+    low + 256 * high
+}
+
+// The number that the record of QT j says for an element, where it is below j; else 255, which names no QT.
+fn element_in(s: &[u8], quals: u16, j: u8) -> u8
+    requires { ⌜ quals ≡ qualAt (now s) 0 ⌝ }
+    ensures { λ r. ⌜ r ≡ elementIn (now (s .entry)) j ⌝ }
+{
+    let e = qual_byte(s, quals, j, 5);
+    if e < j {
+        return e;
+    }
+    255
+}
 
 pub fn base_of(s: &[u8], j: u8) -> u8
     ensures { λ r. ⌜ r ≡ base (qualOf (now (s .entry)) j) ⌝ }
 {
-    if j < byte(s, 0, 4) {
-        return byte(s, qual_at(s, j), 2);
-    }
-    0
+    base_in(s, quals_at(s), byte(s, 0, 4), j)
 }
 
 pub fn rights_of(s: &[u8], j: u8) -> u16
     ensures { λ r. ⌜ r ≡ rights (qualOf (now (s .entry)) j) ⌝ }
 {
-    if base_of(s, j) == 0 {
-        return 0;
-    }
-    word(s, qual_at(s, j), 3)
+    let quals = quals_at(s);
+    rights_in(s, quals, base_in(s, quals, byte(s, 0, 4), j), j)
 }
 
 // The number of an array's element: below its own, or 255, which names no QT.
 pub fn element_of(s: &[u8], j: u8) -> u8
     ensures { λ r. ⌜ ElementOf (now (s .entry)) j r ⌝ }
 {
-    let q = byte(s, 0, 4);
-    let at = qual_at(s, j);
-    let e = byte(s, at, 5);
-    if (j < q) & (byte(s, at, 2) == 1) & (e < j) {
-        return e;
+    let quals = quals_at(s);
+    if base_in(s, quals, byte(s, 0, 4), j) == 1 {
+        return element_in(s, quals, j);
     }
     255
 }
@@ -62,42 +113,70 @@ pub fn is_owned(s: &[u8], owner: u8, j: u8) -> bool
     (2 <= owner) & (base_of(s, j) == owner)
 }
 
-// Same base, same rights, equal elements all the way down.
+// Same base, same rights, equal elements all the way down. Two names of one QT are equal at once.
+fn equal_in(s: &[u8], quals: u16, q: u8, i: u8, j: u8) -> bool
+    requires { ⌜ quals ≡ qualAt (now s) 0 ⌝ }
+    requires { ⌜ q ≡ qualsOf (now s) ⌝ }
+    ensures { λ r. ⌜ r ≡ same (qualOf (now (s .entry)) i) (qualOf (now (s .entry)) j) ⌝ }
+{
+    if i == j {
+        return true;
+    }
+    let b = base_in(s, quals, q, i);
+    if b == base_in(s, quals, q, j) {
+        let head = rights_in(s, quals, b, i) == rights_in(s, quals, b, j);
+        if head & (b == 1) {
+            let e = element_in(s, quals, i);
+            let f = element_in(s, quals, j);
+            return equal_in(s, quals, q, e, f);
+        }
+        return head;
+    }
+    false
+}
+
 pub fn equal(s: &[u8], i: u8, j: u8) -> bool
     ensures { λ r. ⌜ r ≡ same (qualOf (now (s .entry)) i) (qualOf (now (s .entry)) j) ⌝ }
 {
-    let base = base_of(s, i);
-    let head = (base == base_of(s, j)) & (rights_of(s, i) == rights_of(s, j));
-    if head & (base == 1) {
-        let e = element_of(s, i);
-        let f = element_of(s, j);
-        if e < i {
-            return equal(s, e, f);
-        }
-        return is_integer(s, f);
-    }
-    head
+    equal_in(s, quals_at(s), byte(s, 0, 4), i, j)
 }
 
-// Equal bases and, for arrays, equal elements.
+// Equal bases and, for arrays, equal elements, of QT i with base b and QT j with base c.
+fn alike_in(s: &[u8], quals: u16, q: u8, b: u8, c: u8, i: u8, j: u8) -> bool
+    requires { ⌜ quals ≡ qualAt (now s) 0 ⌝ }
+    requires { ⌜ q ≡ qualsOf (now s) ⌝ }
+    requires { ⌜ b ≡ base (qualOf (now s) i) ⌝ }
+    requires { ⌜ c ≡ base (qualOf (now s) j) ⌝ }
+    ensures { λ r. ⌜ r ≡ alike (qualOf (now (s .entry)) i) (qualOf (now (s .entry)) j) ⌝ }
+{
+    if (b == c) & (b == 1) {
+        let x = element_in(s, quals, i);
+        let y = element_in(s, quals, j);
+        return equal_in(s, quals, q, x, y);
+    }
+    b == c
+}
+
 fn is_alike(s: &[u8], i: u8, j: u8) -> bool
     ensures { λ r. ⌜ r ≡ alike (qualOf (now (s .entry)) i) (qualOf (now (s .entry)) j) ⌝ }
 {
-    let base = base_of(s, i);
-    if base == base_of(s, j) {
-        if base == 1 {
-            return equal(s, element_of(s, i), element_of(s, j));
-        }
-        return true;
-    }
-    false
+    let quals = quals_at(s);
+    let q = byte(s, 0, 4);
+    let b = base_in(s, quals, q, i);
+    let c = base_in(s, quals, q, j);
+    alike_in(s, quals, q, b, c, i, j)
 }
 
 // QT i ≥ QT j.
 pub fn is_above(s: &[u8], i: u8, j: u8) -> bool
     ensures { λ r. ⌜ r ≡ order (qualOf (now (s .entry)) i) (qualOf (now (s .entry)) j) ⌝ }
 {
-    is_alike(s, i, j) & is_within(rights_of(s, j), rights_of(s, i))
+    let quals = quals_at(s);
+    let q = byte(s, 0, 4);
+    let b = base_in(s, quals, q, i);
+    let c = base_in(s, quals, q, j);
+    let enough = is_within(rights_in(s, quals, c, j), rights_in(s, quals, b, i));
+    alike_in(s, quals, q, b, c, i, j) & enough
 }
 
 // The number of the refusal of a movement from QT i to QT j: 8, then 9; 0 where there is none.

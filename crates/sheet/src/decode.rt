@@ -1,9 +1,9 @@
 // What an instruction says.
 use crate::bytes::byte;
 use crate::bytes::word;
+use crate::places::instruction_at;
 use model::Instruction;
 use model::Operation;
-use crate::places::instruction_at;
 ghost use mathlib.Core.Path.{_≡_};
 ghost use Rattle.sheet.specs.Decode.{decode, operationAt, instructionIn};
 
@@ -35,7 +35,13 @@ fn operation_of(code: u8, a: u8, b: u8, c: u8, k: u16) -> Operation
 pub fn operation_at(s: &[u8], at: usize) -> Operation
     ensures { λ r. ⌜ r ≡ operationAt (now (s .entry)) at ⌝ }
 {
-    operation_of(byte(s, at, 2), byte(s, at, 3), byte(s, at, 4), byte(s, at, 5), word(s, at, 6))
+    operation_of(
+        byte(s, at, 2),
+        byte(s, at, 3),
+        byte(s, at, 4),
+        byte(s, at, 5),
+        word(s, at, 6),
+    )
 }
 
 // Instruction i of procedure p, which stands at pr.
@@ -44,5 +50,9 @@ pub fn instruction_in(s: &[u8], pr: u32, p: usize, i: u16) -> Instruction
 {
     let operation = operation_at(s, instruction_at(s, pr, i));
     let instruction = i as usize;
-    Instruction { procedure: p, instruction, operation }
+    Instruction {
+        procedure: p,
+        instruction,
+        operation,
+    }
 }

@@ -1,47 +1,47 @@
--- The test of the code is the definition's `has-element`, and the law says what stands for the element on either side of it.
+-- Of an array the number in its record stands for the element, of another type 255 does.
 use Prim.Native.Nat.{_≤_}
-use mathlib.Core.Path.{_≡_}
-use mathlib.Core.Bool.{true, false}
+use mathlib.Core.Path.{sym, _∙_}
 use native.Mathlib.Omega.{arith}
 use borrow.Author.Needs.{needs}
-use Rattle.sheet.specs.Layout.{qualsOf, baseOf, elementOf}
-use Rattle.order.proofs.Laws.{has-element, element-said}
+use Rattle.sheet.specs.Layout.{qualsOf}
+use Rattle.order.proofs.Laws.{element-said, element-unsaid}
 use Rattle.order.proofs.element_of.Statement.{statement}
 use Rattle.order.proofs.element_of.Tie as tie
+
+quals-at-requires : tie.Need-quals-at-requires
+quals-at-requires c κs = search needs
 
 byte-requires : tie.Need-byte-requires
 byte-requires c κs = search needs
 
-qual-at-requires : tie.Need-qual-at-requires
-qual-at-requires c κs = search needs
+base-in-requires : tie.Need-base-in-requires
+unfolding qualsOf
+base-in-requires c κs = search needs
 
-byte-requires-2 : tie.Need-byte-requires-2
-byte-requires-2 c κs = search needs
-
-byte-requires-3 : tie.Need-byte-requires-3
-byte-requires-3 c κs = search needs
+element-in-requires : tie.Need-element-in-requires
+element-in-requires c κs = search needs
 
 returns : tie.Need-returns
-unfolding has-element qualsOf baseOf elementOf
+unfolding qualsOf
 returns c =
-    let d = c .before in
-    let b = d .before .before .before in
-    let a = b .before .before .args in
+    let a = c .before .before .before .before .before .before .args in
     let q : qualsOf (a .s .now) ≤ 255 = omega arith in
-    let t : has-element (a .s .now) (a .j) ≡ true = rw (d .byte3 .ensures, d .before .byte2 .ensures, d .before .before .qual-at .ensures .0, b .byte .ensures) at (c .if1 .taken) in
-    rw (d .before .byte2 .ensures, d .before .before .qual-at .ensures .0) (rw t at (element-said (a .s .now) q (a .j)))
+    rw (c .element-in .ensures) (element-said (a .s .now) q (a .j) (sym (c .before .before .base-in .ensures) ∙ c .before .if1 .taken))
 
 returns-2 : tie.Need-returns-2
-unfolding has-element qualsOf baseOf elementOf
+unfolding qualsOf
 returns-2 c =
-    let d = c .before in
-    let b = d .before .before .before in
-    let a = b .before .before .args in
+    let a = c .before .before .before .before .before .args in
     let q : qualsOf (a .s .now) ≤ 255 = omega arith in
-    let t : has-element (a .s .now) (a .j) ≡ false = rw (d .byte3 .ensures, d .before .byte2 .ensures, d .before .before .qual-at .ensures .0, b .byte .ensures) at (c .if1 .left) in
-    rw t at (element-said (a .s .now) q (a .j))
+    element-unsaid (a .s .now) q (a .j) (λ e. c .if1 .left (c .before .base-in .ensures ∙ e))
 
 pub element-of-spec : {M : Type 1} → statement M
 element-of-spec =
     tie.close
-    (tie.spec byte-requires qual-at-requires byte-requires-2 byte-requires-3 returns returns-2)
+    (tie.spec
+    quals-at-requires
+    byte-requires
+    base-in-requires
+    element-in-requires
+    returns
+    returns-2)

@@ -1,0 +1,4 @@
+pub mod Word
+pub mod Answer
+pub mod Sees
+pub mod Answers

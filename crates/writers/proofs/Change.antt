@@ -1,0 +1,89 @@
+-- What a write does to the objects' part and to the frames' part of the memory, seen as slots.
+use Prim.Native.Nat.{ℕ, zero, suc, _+_, _≤_, _<_}
+use native.Mathlib.Omega.{arith}
+use mathlib.Core.Path.{_≡_, refl, ap}
+use mathlib.Core.Bool.{Bool, true, false, cond}
+use mathlib.Core.List.{List, [], _∷_, _++_, map}
+use borrow.Author.Tests.{ltb-true, ltb-false}
+use borrow.Rule.Slice.PartMut.{put-same, set-mid-at}
+use lib.Dec.{ltb}
+use lib.ListN.{length, set, take, drop, replicate, length-set, length-map, length-drop}
+use lib.Seq.{take-set-le, drop-set-add, set-append-left, set-out, length-take-le}
+use Rattle.model.specs.Modes.{plain}
+use Rattle.model.specs.Machine.{Cell}
+use Rattle.words.specs.Word.{Slot, cell}
+use Rattle.words.specs.Sees.{slot}
+use Rattle.words.proofs.Laws.{map-set}
+use Rattle.writers.specs.Steps.{set-first}
+
+-- ---- lists
+
+pub map-take : {A B : Type 0} (f : A → B) (n : ℕ) (l : List A) → map f (take n l) ≡ take n (map f l)
+map-take f zero l = refl
+map-take f (suc n) [] = refl
+map-take {B = B} f (suc n) (x ∷ l) = ap (λ (r : List B). f x ∷ r) (map-take f n l)
+
+pub map-drop : {A B : Type 0} (f : A → B) (n : ℕ) (l : List A) → map f (drop n l) ≡ drop n (map f l)
+map-drop f zero l = refl
+map-drop f (suc n) [] = refl
+map-drop f (suc n) (x ∷ l) = map-drop f n l
+
+pub map-replicate : {A B : Type 0} (f : A → B) (n : ℕ) (a : A) → map f (replicate n a) ≡ replicate n (f a)
+map-replicate f zero a = refl
+map-replicate {B = B} f (suc n) a = ap (λ (r : List B). f a ∷ r) (map-replicate f n a)
+
+-- ---- a variable is written
+
+-- the words with variable a of a frame of so many variables from a base on written
+abbrev pub put-word : (words : List ℕ) (base variables a w : ℕ) → List ℕ
+put-word words base variables a w = cond (ltb a variables) (set words (base + a) w) words
+
+pub put-word-is : (words : List ℕ) (base variables a w : ℕ) → base + variables ≤ length words
+    → take base words ++ (set (take variables (drop base words)) a w ++ drop variables (drop base words)) ≡ put-word words base variables a w
+put-word-is words base variables a w h = go (ltb a variables) refl
+  where
+    size : length (take variables (drop base words)) ≡ variables
+    size = length-take-le variables (drop base words) (omega (arith, length-drop base words))
+
+    go : (t : Bool) → ltb a variables ≡ t
+        → take base words ++ (set (take variables (drop base words)) a w ++ drop variables (drop base words)) ≡ cond t (set words (base + a) w) words
+    go true q = set-mid-at base variables a words w (omega (arith, size, ltb-true a variables q))
+    go false q =
+        let k : length (take variables (drop base words)) ≤ a = omega (arith, size, ltb-false a variables q) in
+        rw (set-out (take variables (drop base words)) a w k) (put-same base variables words)
+
+module _ (words : List ℕ) (base variables a w : ℕ) where
+  pub length-put-word : length (put-word words base variables a w) ≡ length words
+  length-put-word = go (ltb a variables)
+    where
+      go : (t : Bool) → length (cond t (set words (base + a) w) words) ≡ length words
+      go true = length-set words (base + a) w
+      go false = refl
+
+  -- what lies before the frame is as it was
+  pub put-word-before : (m : ℕ) → m ≤ base → take m (map slot (put-word words base variables a w)) ≡ take m (map slot words)
+  put-word-before m h = go (ltb a variables)
+    where
+      go : (t : Bool) → take m (map slot (cond t (set words (base + a) w) words)) ≡ take m (map slot words)
+      go true = rw map-set (take-set-le m (map slot words) (base + a) (slot w) (omega arith))
+      go false = refl
+
+  pub put-word-frame : drop base (map slot (put-word words base variables a w)) ≡ set-first variables (drop base (map slot words)) a (slot w)
+  put-word-frame = go (ltb a variables)
+    where
+      go : (t : Bool) → drop base (map slot (cond t (set words (base + a) w) words)) ≡ cond t (set (drop base (map slot words)) a (slot w)) (drop base (map slot words))
+      go true = rw map-set (drop-set-add base (map slot words) a (slot w))
+      go false = refl
+
+-- a frame's variables before what follows them
+pub set-variable : (n : ℕ) (vs : List (Cell plain)) (rest : List (Slot plain)) (a : ℕ) (d : Cell plain) → n ≡ length vs
+    → set-first n (map cell vs ++ rest) a (cell d) ≡ map cell (set vs a d) ++ rest
+set-variable n vs rest a d e = go (ltb a n) refl
+  where
+    go : (t : Bool) → ltb a n ≡ t → cond t (set (map cell vs ++ rest) a (cell d)) (map cell vs ++ rest) ≡ map cell (set vs a d) ++ rest
+    go true q =
+        let h : a < length (map cell vs) = rw length-map (omega (arith, ltb-true a n q)) in
+        rw (set-append-left (map cell vs) rest a (cell d) h, map-set cell vs a d)
+    go false q =
+        let h : length vs ≤ a = omega (arith, ltb-false a n q) in
+        rw (set-out vs a d h)

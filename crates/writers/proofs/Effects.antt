@@ -1,0 +1,361 @@
+-- Each effect, on the words and on the state that they stand for.
+use Prim.Native.Nat.{ℕ, suc, _+_, _-_, _≤_, _<_}
+use native.Mathlib.Omega.{arith}
+use native.Mathlib.Numerals.{add-one}
+use mathlib.Core.Path.{_≡_, refl, sym, ap, _∙_}
+use mathlib.Core.Bool.{Bool, true, false, cond}
+use mathlib.Core.List.{List, [], _∷_, _++_, map, append-assoc, map-append}
+use mathlib.Core.Option.{Option, none, some}
+use borrow.Author.Tests.{eqb-true}
+use borrow.Rule.Slice.PartMut.{midOf, putMid, same-len-mid, mid-len, drop-put}
+use lib.Dec.{eqb}
+use lib.ListN.{length, set, take, drop, replicate, length-set, length-append, length-drop, length-replicate, take-append-drop}
+use lib.Seq.{drop-drop, drop-cons, set-at, take-at, take-set-lt, take-suc-set, drop-set-lt, set-append-left, length-take-le}
+use Rattle.model.specs.Outcome.{Stop, number, blank, past-end, input-ended, output-full, memory-full, Res, ok, stop, stuck, _>>=_}
+use Rattle.model.specs.Modes.{plain}
+use Rattle.model.specs.Machine as M
+use Rattle.model.specs.Machine.{Cell, empty, filled, object, Object, array-of, record-of, cells-of, head-of, find, update, Frame, frame, state, apply, rest-of, object-units}
+use Rattle.words.specs.Word.{Slot, cell, head}
+use Rattle.words.specs.Sees.{slot}
+use Rattle.words.specs.Answers.{halted, Inside, head-size}
+use Rattle.words.proofs.Laws.{map-set, slot-zero}
+use Rattle.writers.specs.declared.Registers.{Registers}
+use Rattle.writers.specs.declared.Stepped.the-variants.{Go, Halt}
+use Rattle.writers.specs.Memory.{Given, Sane, Stands, flat-objects, flat-frames}
+use Rattle.writers.specs.Steps.{After, Does, onward, set-first, Allotted}
+use Rattle.writers.proofs.Change.{put-word, put-word-is, length-put-word, put-word-before, put-word-frame, set-variable, map-take, map-drop, map-replicate}
+use Rattle.writers.proofs.Flat.{set-at-cell, found-fits, flat-snoc, size-is, length-objects}
+use Rattle.writers.proofs.View.{used-is, head-is}
+
+-- ---- a stop
+
+abbrev stops : {A : Type 0} → (is13 is14 is15 is16 is17 : Bool) → Res A
+stops is13 is14 is15 is16 is17 =
+    cond is13 (stop blank)
+    (cond is14 (stop past-end)
+    (cond is15 (stop input-ended)
+    (cond is16 (stop output-full)
+    (cond is17 (stop memory-full)
+    stuck))))
+
+pub halted-then : {A B : Type 0} (k : ℕ) (f : A → Res B) → halted k >>= f ≡ halted k
+unfolding halted _>>=_
+halted-then k f = go (eqb k 13) (eqb k 14) (eqb k 15) (eqb k 16) (eqb k 17)
+  where
+    go : (is13 is14 is15 is16 is17 : Bool) → stops is13 is14 is15 is16 is17 >>= f ≡ stops is13 is14 is15 is16 is17
+    go true is14 is15 is16 is17 = refl
+    go false true is15 is16 is17 = refl
+    go false false true is16 is17 = refl
+    go false false false true is17 = refl
+    go false false false false true = refl
+    go false false false false false = refl
+
+pub halted-after : (c : Given) (words out : List ℕ) (k : ℕ) → After c words out out (Halt k) (halted k)
+unfolding halted
+halted-after c words out k = go (eqb k 13) (eqb k 14) (eqb k 15) (eqb k 16) (eqb k 17) refl refl refl refl refl
+  where
+    go : (is13 is14 is15 is16 is17 : Bool)
+        → eqb k 13 ≡ is13 → eqb k 14 ≡ is14 → eqb k 15 ≡ is15 → eqb k 16 ≡ is16 → eqb k 17 ≡ is17
+        → After c words out out (Halt k) (stops is13 is14 is15 is16 is17)
+    go true is14 is15 is16 is17 e13 e14 e15 e16 e17 = (eqb-true _ _ e13, refl)
+    go false true is15 is16 is17 e13 e14 e15 e16 e17 = (eqb-true _ _ e14, refl)
+    go false false true is16 is17 e13 e14 e15 e16 e17 = (eqb-true _ _ e15, refl)
+    go false false false true is17 e13 e14 e15 e16 e17 = (eqb-true _ _ e16, refl)
+    go false false false false true e13 e14 e15 e16 e17 = (eqb-true _ _ e17, refl)
+    go false false false false false e13 e14 e15 e16 e17 = tt
+
+pub does-halt : (words words′ out : List ℕ) (r : Registers) (k : ℕ) → Does words words′ out out r (Halt k) (halted k)
+does-halt words words′ out r k c t S = rw halted-then (halted-after c words′ out k)
+
+pub does-stop : (words words′ out : List ℕ) (r : Registers) (x : Stop) → Does words words′ out out r (Halt (number x)) (stop x)
+unfolding _>>=_
+does-stop words words′ out r x c t S = (refl, refl)
+
+-- ---- the parts of a state that a step changes
+
+module _ {c : Given} {words out : List ℕ} {r : Registers} {p i : ℕ} {vs : List (Cell plain)} {fs : List (Frame plain)} {os : List (Object plain)}
+    {input put : List ℕ} (S : Stands c words out r p i vs fs os input put) where
+  -- the next instruction, variables and objects
+  pub goes-on : (words′ : List ℕ) (next j used : ℕ) (vs′ : List (Cell plain)) (os′ : List (Object plain))
+      → next ≡ j → length words′ ≡ length words → used ≤ r .base → length vs′ ≡ length vs
+      → take used (map slot words′) ≡ flat-objects os′ → drop (r .base) (map slot words′) ≡ map cell vs′ ++ flat-frames fs
+      → Stands c words′ out (onward r next used (r .taken) (r .put)) p j vs′ fs os′ input put
+  goes-on words′ next j used vs′ os′ at long room many objects frames =
+      record {
+        procedure = S .procedure;
+        next = at;
+        first = S .first;
+        variables = S .variables ∙ sym many;
+        sane =
+            record {
+              room = room;
+              frame = rw long (S .sane .frame);
+              small = rw long (S .sane .small);
+              procedure = S .sane .procedure;
+            };
+        running = record { procedure = S .running .procedure; variables = many ∙ S .running .variables };
+        waiting = S .waiting;
+        objects = objects;
+        frames = frames;
+        input-left = S .input-left;
+        put-words = S .put-words;
+        output-is = S .output-is;
+        put-fits = S .put-fits;
+      }
+
+  -- one input word fewer
+  pub took : Stands c words out (onward r (r .next) (r .used) (r .taken + 1) (r .put)) p i vs fs os (rest-of input) put
+  took =
+      record {
+        procedure = S .procedure;
+        next = S .next;
+        first = S .first;
+        variables = S .variables;
+        sane = record { room = S .sane .room; frame = S .sane .frame; small = S .sane .small; procedure = S .sane .procedure };
+        running = S .running;
+        waiting = S .waiting;
+        objects = S .objects;
+        frames = S .frames;
+        input-left = rw (S .input-left) (rest-drop (r .taken) (c .input));
+        put-words = S .put-words;
+        output-is = S .output-is;
+        put-fits = S .put-fits;
+      }
+    where
+      rest-is : (l : List ℕ) → rest-of l ≡ drop 1 l
+      rest-is [] = refl
+      rest-is (x ∷ l) = refl
+
+      rest-drop : (n : ℕ) (l : List ℕ) → rest-of (drop n l) ≡ drop (n + 1) l
+      rest-drop n l = rest-is (drop n l) ∙ drop-drop 1 n l
+
+  -- one output word more
+  pub put-one : (x : ℕ) → r .put < length out
+      → Stands c words (set out (r .put) x) (onward r (r .next) (r .used) (r .taken) (r .put + 1)) p i vs fs os input (put ++ (x ∷ []))
+  put-one x h =
+      let e = S .put-words in
+      let l : length out ≡ length put + (length (c .output) - length put) = ap length (S .output-is) ∙ rw (length-append, length-drop) in
+      let k : length put < length (c .output) = omega arith in
+      let n : length (put ++ (x ∷ [])) ≡ suc (length put) = length-append put (x ∷ []) ∙ add-one (length put) in
+      record {
+        procedure = S .procedure;
+        next = S .next;
+        first = S .first;
+        variables = S .variables;
+        sane = record { room = S .sane .room; frame = S .sane .frame; small = S .sane .small; procedure = S .sane .procedure };
+        running = S .running;
+        waiting = S .waiting;
+        objects = S .objects;
+        frames = S .frames;
+        input-left = S .input-left;
+        put-words = omega arith;
+        output-is =
+            rw (S .output-is, drop-cons (c .output) (length put) 0 k, set-at put _ (drop (suc (length put)) (c .output)) x (r .put) (sym e), n)
+            (sym (append-assoc put (x ∷ []) (drop (suc (length put)) (c .output))));
+        put-fits = omega arith;
+      }
+
+-- ---- a variable is written
+
+pub record Put (words words′ : List ℕ) (r : Registers) (a : ℕ) (d : Cell plain) : Type 0 where
+  pub long : length words′ ≡ length words
+  pub objects : take (r .used) (map slot words′) ≡ take (r .used) (map slot words)
+  pub frame : drop (r .base) (map slot words′) ≡ set-first (r .variables) (drop (r .base) (map slot words)) a (cell d)
+
+pub puts : (words words′ : List ℕ) (r : Registers) (a w : ℕ) (d : Cell plain) → Sane (length words) r → slot w ≡ cell d
+    → words′
+    ≡ take (r .base) words
+    ++ (set (take (r .variables) (drop (r .base) words)) a w ++ drop (r .variables) (drop (r .base) words))
+    → Put words words′ r a d
+puts words words′ r a w d sane is e =
+    let room = sane .room in
+    let frame = sane .frame in
+    let q : words′ ≡ put-word words (r .base) (r .variables) a w = e ∙ put-word-is words (r .base) (r .variables) a w (omega arith) in
+    record {
+      long = rw q (length-put-word words (r .base) (r .variables) a w);
+      objects = rw q (put-word-before words (r .base) (r .variables) a w (r .used) room);
+      frame = rw (q, ← is) (put-word-frame words (r .base) (r .variables) a w);
+    }
+
+module _ {c : Given} {words out : List ℕ} {r : Registers} {p i : ℕ} {vs : List (Cell plain)} {fs : List (Frame plain)} {os : List (Object plain)}
+    {input put : List ℕ} (S : Stands c words out r p i vs fs os input put) where
+  pub wrote : (words′ : List ℕ) (a : ℕ) (d : Cell plain) → Put words words′ r a d
+      → Stands c words′ out (onward r (r .next + 1) (r .used) (r .taken) (r .put)) p (suc i) (set vs a d) fs os input put
+  wrote words′ a d P =
+      goes-on S words′ (r .next + 1) (suc i) (r .used) (set vs a d) os (add-one (r .next) ∙ ap suc (S .next)) (P .long) (S .sane .room)
+      (length-set vs a d) (P .objects ∙ S .objects) (P .frame ∙ rw (S .frames) (set-variable (r .variables) vs (flat-frames fs) a d (S .variables)))
+
+  -- to another instruction
+  pub went : (next j : ℕ) → next ≡ j → Stands c words out (onward r next (r .used) (r .taken) (r .put)) p j vs fs os input put
+  went next j e = goes-on S words next j (r .used) vs os e refl (S .sane .room) refl (S .objects) (S .frames)
+
+pub does-write : (words words′ out : List ℕ) (r : Registers) (a : ℕ) (d : Cell plain) → Put words words′ r a d
+    → Does words words′ out out r (Go (onward r (r .next + 1) (r .used) (r .taken) (r .put))) (ok (M.write a d))
+unfolding apply _>>=_
+does-write words words′ out r a d P c (state (frame p i vs) fs os input put) S = wrote S words′ a d P
+
+pub does-take : (words words′ out : List ℕ) (r : Registers) (a : ℕ) (d : Cell plain) → Put words words′ r a d
+    → Does words words′ out out r (Go (onward r (r .next + 1) (r .used) (r .taken + 1) (r .put))) (ok (M.take a d))
+unfolding apply _>>=_
+does-take words words′ out r a d P c (state (frame p i vs) fs os input put) S = took (wrote S words′ a d P)
+
+pub does-skip : (words out : List ℕ) (r : Registers)
+    → Does words words out out r (Go (onward r (r .next + 1) (r .used) (r .taken) (r .put))) (ok M.skip)
+unfolding apply _>>=_
+does-skip words out r c (state (frame p i vs) fs os input put) S = went S (r .next + 1) (suc i) (add-one (r .next) ∙ ap suc (S .next))
+
+pub does-jump : (words out : List ℕ) (r : Registers) (k : ℕ)
+    → Does words words out out r (Go (onward r k (r .used) (r .taken) (r .put))) (ok (M.jump k))
+unfolding apply _>>=_
+does-jump words out r k c (state (frame p i vs) fs os input put) S = went S k k refl
+
+pub does-put : (words out : List ℕ) (r : Registers) (x : ℕ) → r .put < length out
+    → Does words words out (set out (r .put) x) r (Go (onward r (r .next + 1) (r .used) (r .taken) (r .put + 1))) (ok (M.put x))
+unfolding apply _>>=_
+does-put words out r x h c (state (frame p i vs) fs os input put) S =
+    put-one (went S (r .next + 1) (suc i) (add-one (r .next) ∙ ap suc (S .next))) x h
+
+-- ---- a cell of an object is written
+
+module _ {c : Given} {words out : List ℕ} {r : Registers} {p i : ℕ} {vs : List (Cell plain)} {fs : List (Frame plain)} {os : List (Object plain)}
+    {input put : List ℕ} (S : Stands c words out r p i vs fs os input put) where
+  -- an object with a head in the objects' part is one of the state's, of that size
+  pub there : (a j : ℕ) → Inside (take (r .used) words) a j → (o : Object plain) × ((find os a ≡ some o) × (j < length (cells-of o)))
+  there a j I = go (find os a) refl
+    where
+      go : (f : Option (Object plain)) → find os a ≡ f → (o : Object plain) × ((find os a ≡ some o) × (j < length (cells-of o)))
+      go none e =
+          let n : none ≡ some (I .size) = ap head-size (ap head-of (sym e) ∙ head-is S a) ∙ I .head in
+          let z : _≡_ {A = ℕ} 0 1 = cc in
+          absurd (omega arith)
+      go (some o) e =
+          let n : some (length (cells-of o)) ≡ some (I .size) = sym (size-is o) ∙ ap head-size (ap head-of (sym e) ∙ head-is S a) ∙ I .head in
+          let m : length (cells-of o) ≡ I .size = cc in
+          let b = I .below in
+          (o, (e, omega arith))
+
+  pub stored-at : (words′ : List ℕ) (a j w : ℕ) (d : Cell plain) → slot w ≡ cell d → Inside (take (r .used) words) a j
+      → words′ ≡ set (take (r .used) words) (a + 1 + j) w ++ drop (r .used) words
+      → Stands c words′ out (onward r (r .next + 1) (r .used) (r .taken) (r .put)) p (suc i) vs fs (update os a j d) input put
+  stored-at words′ a j w d is I e =
+      let o = there a j I in
+      let f = found-fits os a (o .0) (o .1 .0) in
+      let l = length-objects os in
+      let u = used-is S in
+      let b = o .1 .1 in
+      let room = S .sane .room in
+      let frame = S .sane .frame in
+      let k : a + 1 + j ≡ suc (a + j) = omega arith in
+      let h : suc (a + j) < r .used = omega arith in
+      let n : length (take (r .used) words) ≡ r .used = length-take-le (r .used) words (omega arith) in
+      let h′ : a + 1 + j < length (take (r .used) words) = omega arith in
+      let q : words′ ≡ set words (a + 1 + j) w =
+      e ∙ sym (set-append-left (take (r .used) words) (drop (r .used) words) (a + 1 + j) w h′) ∙ ap (λ (x : List ℕ). set x (a + 1 + j) w) (take-append-drop (r .used) words) in
+      let s : map slot words′ ≡ set (map slot words) (suc (a + j)) (cell d) = rw (q, map-set, is, k) in
+      goes-on S words′ (r .next + 1) (suc i) (r .used) vs (update os a j d) (add-one (r .next) ∙ ap suc (S .next)) (rw (q, length-set)) room refl
+      (rw s (take-set-lt (r .used) (map slot words) (suc (a + j)) (cell d) h ∙ rw (S .objects) (set-at-cell os a j (o .0) d (o .1 .0) b)))
+      (rw s (drop-set-lt (r .base) (map slot words) (suc (a + j)) (cell d) (omega arith) ∙ S .frames))
+
+pub does-store : (words words′ out : List ℕ) (r : Registers) (a j w : ℕ) (d : Cell plain) → slot w ≡ cell d → Inside (take (r .used) words) a j
+    → words′ ≡ set (take (r .used) words) (a + 1 + j) w ++ drop (r .used) words
+    → Does words words′ out out r (Go (onward r (r .next + 1) (r .used) (r .taken) (r .put))) (ok (M.store a j d))
+unfolding apply _>>=_
+does-store words words′ out r a j w d is I e c (state (frame p i vs) fs os input put) S = stored-at S words′ a j w d is I e
+
+-- ---- a new object
+
+-- the words with a word w at used and n zeros after it, as the code writes them
+abbrev pub laid : (words zeros : List ℕ) (used w n : ℕ) → List ℕ
+laid words zeros used w n = putMid (used + 1) (used + 1 + n - (used + 1)) (set words used w) zeros
+
+module _ (words zeros : List ℕ) (used w n : ℕ) (fits : used + 1 + n ≤ length words)
+    (cleared : zeros ≡ replicate (length (midOf (used + 1) (used + 1 + n - (used + 1)) (set words used w))) 0) where
+  zeros-are : zeros ≡ replicate n 0
+  zeros-are =
+      let m : length (midOf (used + 1) (used + 1 + n - (used + 1)) (set words used w)) ≡ used + 1 + n - (used + 1) =
+      mid-len (used + 1) (used + 1 + n) (set words used w) (rw length-set fits) in
+      let k : length (midOf (used + 1) (used + 1 + n - (used + 1)) (set words used w)) ≡ n = omega arith in
+      cleared ∙ ap (λ (j : ℕ). replicate j 0) k
+
+  pub length-laid : length (laid words zeros used w n) ≡ length words
+  length-laid =
+      let z : length zeros ≡ length (midOf (used + 1) (used + 1 + n - (used + 1)) (set words used w)) = ap length cleared ∙ length-replicate _ 0 in
+      same-len-mid (used + 1) (used + 1 + n - (used + 1)) (set words used w) zeros z ∙ length-set words used w
+
+  pub laid-objects : take (used + (n + 1)) (map slot (laid words zeros used w n)) ≡ take used (map slot words) ++ (slot w ∷ replicate n (cell empty))
+  laid-objects =
+      let h : used < length words = omega arith in
+      let l : length (take (used + 1) (set words used w) ++ zeros) ≡ used + (n + 1) =
+      length-append (take (used + 1) (set words used w)) zeros
+      ∙ omega (
+        arith,
+        length-take-le (used + 1) (set words used w) (rw length-set (omega arith)),
+        ap length zeros-are ∙ length-replicate n 0,
+      ) in
+      let e : take (used + (n + 1)) (laid words zeros used w n) ≡ take (used + 1) (set words used w) ++ zeros =
+      ap (take (used + (n + 1))) (sym (append-assoc (take (used + 1) (set words used w)) zeros _)) ∙ take-at (take (used + 1) (set words used w) ++ zeros) _ (used + (n + 1)) l in
+      let f : take (used + 1) (set words used w) ++ zeros ≡ take used words ++ (w ∷ replicate n 0) =
+      rw (add-one, take-suc-set words used w h, zeros-are) (append-assoc (take used words) (w ∷ []) (replicate n 0)) in
+      sym (map-take slot (used + (n + 1)) (laid words zeros used w n)) ∙ ap (map slot) (e ∙ f) ∙ rw (map-append, map-take, map-replicate, slot-zero)
+
+  pub laid-frames : (m : ℕ) → used + (n + 1) ≤ m → drop m (map slot (laid words zeros used w n)) ≡ drop m (map slot words)
+  laid-frames m h =
+      let z : length zeros ≡ used + 1 + n - (used + 1) = omega (arith, ap length zeros-are ∙ length-replicate n 0) in
+      let e : used + 1 + n + (m - (used + 1 + n)) ≡ m = omega arith in
+      let d : drop (used + 1 + n) (laid words zeros used w n) ≡ drop (used + 1 + n) words =
+      drop-put (used + 1) (used + 1 + n) (set words used w) zeros (omega arith) (rw length-set fits) z
+      ∙ drop-set-lt (used + 1 + n) words used w (omega arith) in
+      let f : drop m (laid words zeros used w n) ≡ drop m words =
+      ap (λ (k : ℕ). drop k (laid words zeros used w n)) (sym e)
+      ∙ sym (drop-drop (m - (used + 1 + n)) (used + 1 + n) (laid words zeros used w n))
+      ∙ ap (drop (m - (used + 1 + n))) d
+      ∙ drop-drop (m - (used + 1 + n)) (used + 1 + n) words
+      ∙ ap (λ (k : ℕ). drop k words) e in
+      sym (map-drop slot m (laid words zeros used w n)) ∙ ap (map slot) f ∙ map-drop slot m words
+
+pub allots : (words zeros words′ : List ℕ) (r : Registers) (a w n v : ℕ) → Sane (length words) r → r .used + (n + 1) ≤ r .base
+    → zeros ≡ replicate (length (midOf (r .used + 1) (r .used + 1 + n - (r .used + 1)) (set words (r .used) w))) 0
+    → slot v ≡ cell (filled (object (r .used)) tt)
+    → words′
+    ≡ take (r .base) (laid words zeros (r .used) w n)
+    ++ (set (take (r .variables) (drop (r .base) (laid words zeros (r .used) w n))) a v
+    ++ drop (r .variables) (drop (r .base) (laid words zeros (r .used) w n)))
+    → Allotted words words′ r a w n
+allots words zeros words′ r a w n v sane room cleared is e =
+    let frame = sane .frame in
+    let fits : r .used + 1 + n ≤ length words = omega arith in
+    let l : length (laid words zeros (r .used) w n) ≡ length words = length-laid words zeros (r .used) w n fits cleared in
+    let s : Sane (length (laid words zeros (r .used) w n)) (onward r (r .next) (r .used + (n + 1)) (r .taken) (r .put)) =
+    record { room = room; frame = rw l frame; small = rw l (sane .small); procedure = sane .procedure } in
+    let P = puts (laid words zeros (r .used) w n) words′ (onward r (r .next) (r .used + (n + 1)) (r .taken) (r .put)) a v (filled (object (r .used)) tt) s is e in
+    record {
+      long = P .long ∙ l;
+      objects = P .objects ∙ laid-objects words zeros (r .used) w n fits cleared;
+      frame = P .frame ∙ ap (λ (x : List (Slot plain)). set-first (r .variables) x a (cell (filled (object (r .used)) tt))) (laid-frames words zeros (r .used) w n fits cleared (r .base) room);
+    }
+
+module _ {c : Given} {words out : List ℕ} {r : Registers} {p i : ℕ} {vs : List (Cell plain)} {fs : List (Frame plain)} {os : List (Object plain)}
+    {input put : List ℕ} (S : Stands c words out r p i vs fs os input put) where
+  pub made : (words′ : List ℕ) (a w n : ℕ) (o : Object plain) → r .used + (n + 1) ≤ r .base → slot w ≡ head (head-of (some o))
+      → cells-of o ≡ replicate n empty → Allotted words words′ r a w n
+      → Stands c words′ out (onward r (r .next + 1) (r .used + (n + 1)) (r .taken) (r .put)) p (suc i)
+      (set vs a (filled (object (object-units os)) tt)) fs (os ++ (o ∷ [])) input put
+  made words′ a w n o room is new A =
+      goes-on S words′ (r .next + 1) (suc i) (r .used + (n + 1)) (set vs a (filled (object (object-units os)) tt)) (os ++ (o ∷ []))
+      (add-one (r .next) ∙ ap suc (S .next)) (A .long) room (length-set vs a (filled (object (object-units os)) tt))
+      (A .objects ∙ rw (S .objects, is, flat-snoc os o, new, map-replicate))
+      (A .frame ∙ rw (S .frames, used-is S) (set-variable (r .variables) vs (flat-frames fs) a (filled (object (object-units os)) tt) (S .variables)))
+
+pub does-array : (words words′ out : List ℕ) (r : Registers) (a w n : ℕ) → r .used + (n + 1) ≤ r .base → slot w ≡ head (M.array-head tt n)
+    → Allotted words words′ r a w n
+    → Does words words′ out out r (Go (onward r (r .next + 1) (r .used + (n + 1)) (r .taken) (r .put))) (ok (M.new-array a tt n tt))
+unfolding apply _>>=_
+does-array words words′ out r a w n room is A c (state (frame p i vs) fs os input put) S =
+    made S words′ a w n (array-of tt (replicate n empty)) room (rw length-replicate is) refl A
+
+pub does-record : (words words′ out : List ℕ) (r : Registers) (a w n : ℕ) → r .used + (n + 1) ≤ r .base → slot w ≡ head (M.record-head tt n)
+    → Allotted words words′ r a w n
+    → Does words words′ out out r (Go (onward r (r .next + 1) (r .used + (n + 1)) (r .taken) (r .put))) (ok (M.new-record a tt n tt))
+unfolding apply _>>=_
+does-record words words′ out r a w n room is A c (state (frame p i vs) fs os input put) S =
+    made S words′ a w n (record-of tt (replicate n empty)) room (rw length-replicate is) refl A

@@ -1,0 +1,88 @@
+-- Head and zeros are laid after the objects, below the running frame, and then the variable is written.
+use mathlib.Core.Path.{_≡_, ap, _∙_}
+use Prim.Native.Nat.{_+_, _≤_}
+use lib.ListN.{length, length-set}
+use denote.Ref.{now}
+use Rattle.model.specs.Qualified.{integer}
+use Rattle.writers.specs.Steps.{onward}
+use Rattle.writers.proofs.Effects.{length-laid, allots}
+use native.Mathlib.Omega.{arith}
+use borrow.Author.Needs.{needs}
+use Rattle.writers.proofs.allot.Statement.{statement}
+use Rattle.writers.proofs.allot.Tie as tie
+
+add-cells : tie.Need-add-cells
+add-cells c = search needs
+
+add-end : tie.Need-add-end
+add-end c = search needs
+
+mul-memory : tie.Need-mul-memory
+mul-memory c = search needs
+
+slice-write-memory : tie.Need-slice-write-memory
+slice-write-memory c = search needs
+
+mul-clear : tie.Need-mul-clear
+mul-clear c = search needs
+
+sub-clear : tie.Need-sub-clear
+sub-clear c = search needs
+
+part-clear-start : tie.Need-part-clear-start
+part-clear-start c = search needs
+
+part-clear-end : tie.Need-part-clear-end
+part-clear-end c = simp length-set (omega arith)
+
+clear-requires : tie.Need-clear-requires
+clear-requires c κs = search needs
+
+cast-object-word : tie.Need-cast-object-word
+cast-object-word c = search needs
+
+object-word-requires : tie.Need-object-word-requires
+object-word-requires c κs = search needs
+
+put-variable-requires : tie.Need-put-variable-requires
+put-variable-requires c κs =
+    let s = c .before .before .before .before .before .before .before .args in
+    let fits : s .r .used + 1 + s .n ≤ length (now (s .memory)) = omega arith in
+    rw (length-laid (now (s .memory)) _ (s .r .used) (s .head) (s .n) fits (c .before .before .before .before .clear .ensures)) (omega arith)
+
+add-t13 : tie.Need-add-t13
+add-t13 c = search needs
+
+same-length : tie.Need-same-length
+same-length c =
+    let s = c .before .before .before .before .before .before .before .before .before .before .before .args in
+    let fits : s .r .used + 1 + s .n ≤ length (now (s .memory)) = omega arith in
+    c .before .before .before .put-variable .kept .0 ∙ length-laid (now (s .memory)) _ (s .r .used) (s .head) (s .n) fits (c .before .before .before .before .before .before .before .before .clear .ensures)
+
+returns : tie.Need-returns
+returns c =
+    let s = c .before .before .before .before .before .before .before .before .before .before .before .args in
+    let k : s .r .used + 1 + s .n ≡ s .r .used + (s .n + 1) = omega arith in (
+      ap (λ u. onward (s .r) (s .r .next + 1) u (s .r .taken) (s .r .put)) k,
+      allots (now (s .memory)) _ _ (s .r) (s .a) (s .head) (s .n) _ (c .before .before .before .before .before .before .before .before .before .before .before .pre .0) (c .before .before .before .before .before .before .before .before .before .before .before .pre .1 .1) (c .before .before .before .before .before .before .before .before .clear .ensures) (c .before .before .before .before .object-word .ensures (λ j. integer)) (c .before .before .before .put-variable .ensures),
+    )
+
+pub allot-spec : {M : Type 1} → statement M
+allot-spec =
+    tie.close
+    (tie.spec
+    add-cells
+    add-end
+    mul-memory
+    slice-write-memory
+    mul-clear
+    sub-clear
+    part-clear-start
+    part-clear-end
+    clear-requires
+    cast-object-word
+    object-word-requires
+    put-variable-requires
+    add-t13
+    same-length
+    returns)

@@ -1,0 +1,62 @@
+-- The test is that of the definition: an array of x cells takes x + 1 units.
+use Prim.Native.Nat.{_+_, _≤_}
+use Rattle.model.specs.Outcome.{memory-full}
+use Rattle.model.specs.Qualified.{integer}
+use Rattle.writers.proofs.Effects.{does-array, does-stop, does-halt}
+use Rattle.writers.proofs.Planned.{array-there, array-full, array-halt}
+use native.Mathlib.Omega.{arith}
+use borrow.Author.Needs.{needs}
+use Rattle.writers.proofs.give_array.Statement.{statement}
+use Rattle.writers.proofs.give_array.Tie as tie
+
+enum-known-n : tie.Need-enum-known-n
+enum-known-n c = search needs
+
+cast-if1 : tie.Need-cast-if1
+cast-if1 c = search needs
+
+sub-if1 : tie.Need-sub-if1
+sub-if1 c = search needs
+
+array-word-requires : tie.Need-array-word-requires
+array-word-requires c κs = search needs
+
+allot-requires : tie.Need-allot-requires
+allot-requires c κs = search needs
+
+same-length : tie.Need-same-length
+same-length c = search needs
+
+returns : tie.Need-returns
+returns c =
+    let s = c .before .before .before .before .before .before .before .before .before .before .before .args in
+    λ out. let room : s .r .used + (c .before .before .before .before .before .before .before .before .n .given .0 .0 + 1) ≤ s .r .base = omega arith in
+    rw (c .before .before .allot .ensures .0, c .before .before .before .before .before .before .before .before .n .given .1, array-there _ _ _ (c .before .before .before .before .before .if1 .taken))
+    (does-array _ _ out (s .r) (s .a) _ _ room (c .before .before .before .array-word .ensures (λ j. integer)) (c .before .before .allot .ensures .1))
+
+enum-known-n-2 : tie.Need-enum-known-n-2
+enum-known-n-2 c = search needs
+
+returns-2 : tie.Need-returns-2
+returns-2 c =
+    λ out. rw (c .before .before .before .n .given .1, array-full _ _ _ (c .if1 .left))
+    (does-stop _ _ out (c .before .before .before .before .before .before .args .r) memory-full)
+
+returns-3 : tie.Need-returns-3
+returns-3 c =
+    λ out. rw (c .before .n2 .given .1, array-halt) (does-halt _ _ out (c .before .before .before .before .args .r) _)
+
+pub give-array-spec : {M : Type 1} → statement M
+give-array-spec =
+    tie.close
+    (tie.spec
+    enum-known-n
+    cast-if1
+    sub-if1
+    array-word-requires
+    allot-requires
+    same-length
+    returns
+    enum-known-n-2
+    returns-2
+    returns-3)

@@ -1,0 +1,56 @@
+-- The word written is an integer's cell, so that the frame's variables are those with that integer; a stop is the number's own.
+use Rattle.model.specs.Machine.{word, filled}
+use Rattle.model.specs.Qualified.{integer}
+use Rattle.words.specs.Answers.{given}
+use Rattle.writers.proofs.Effects.{puts, does-write, does-halt}
+use borrow.Author.Needs.{needs}
+use Rattle.writers.proofs.give_number.Statement.{statement}
+use Rattle.writers.proofs.give_number.Tie as tie
+
+enum-known-n : tie.Need-enum-known-n
+enum-known-n c = search needs
+
+integer-word-requires : tie.Need-integer-word-requires
+integer-word-requires c κs = search needs
+
+put-variable-requires : tie.Need-put-variable-requires
+put-variable-requires c κs = search needs
+
+add-at-next : tie.Need-add-at-next
+add-at-next c = search needs
+
+at-next-requires : tie.Need-at-next-requires
+at-next-requires c κs = search needs
+
+enum-known-n-2 : tie.Need-enum-known-n-2
+enum-known-n-2 c = search needs
+
+same-length : tie.Need-same-length
+same-length c = search needs
+
+returns : tie.Need-returns
+unfolding given
+returns c =
+    let s = c .before .before .before .before .before .before .before .before .before .before .before .args in
+    λ out. rw (c .at-next .ensures, c .before .before .before .before .before .before .before .before .n .given .1)
+    (does-write _ _ out (s .r) (s .a) (filled (word _) tt)
+    (puts _ _ (s .r) (s .a) _ _ (c .before .before .before .before .before .before .before .before .before .before .before .pre .0) (c .before .before .before .before .before .integer-word .ensures (λ j. integer)) (c .before .before .before .before .put-variable .ensures)))
+
+returns-2 : tie.Need-returns-2
+unfolding given
+returns-2 c =
+    λ out. rw (c .before .n2 .given .1) (does-halt _ _ out (c .before .before .before .before .args .r) _)
+
+pub give-number-spec : {M : Type 1} → statement M
+give-number-spec =
+    tie.close
+    (tie.spec
+    enum-known-n
+    integer-word-requires
+    put-variable-requires
+    add-at-next
+    at-next-requires
+    enum-known-n-2
+    same-length
+    returns
+    returns-2)

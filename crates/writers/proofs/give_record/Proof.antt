@@ -1,0 +1,41 @@
+-- The test is that of the definition: a record takes one unit more than it has slots.
+use Prim.Native.Nat.{_+_, _≤_}
+use Rattle.model.specs.Outcome.{memory-full}
+use Rattle.model.specs.Qualified.{integer}
+use Rattle.writers.proofs.Effects.{does-record, does-stop}
+use Rattle.writers.proofs.Planned.{record-there, record-full}
+use native.Mathlib.Omega.{arith}
+use borrow.Author.Needs.{needs}
+use Rattle.writers.proofs.give_record.Statement.{statement}
+use Rattle.writers.proofs.give_record.Tie as tie
+
+cast-if1 : tie.Need-cast-if1
+cast-if1 c = search needs
+
+sub-if1 : tie.Need-sub-if1
+sub-if1 c = search needs
+
+record-word-requires : tie.Need-record-word-requires
+record-word-requires c κs = search needs
+
+allot-requires : tie.Need-allot-requires
+allot-requires c κs = search needs
+
+same-length : tie.Need-same-length
+same-length c = search needs
+
+returns : tie.Need-returns
+returns c =
+    let s = c .before .before .before .before .before .before .before .before .args in
+    λ out. let room : s .r .used + (s .slots + 1) ≤ s .r .base = omega arith in
+    rw (c .before .before .allot .ensures .0, record-there _ _ _ (c .before .before .before .before .before .if1 .taken))
+    (does-record _ _ out (s .r) (s .a) _ _ room (c .before .before .before .record-word .ensures (λ j. integer)) (c .before .before .allot .ensures .1))
+
+returns-2 : tie.Need-returns-2
+returns-2 c =
+    λ out. rw (record-full _ _ _ (c .if1 .left)) (does-stop _ _ out (c .before .before .before .args .r) memory-full)
+
+pub give-record-spec : {M : Type 1} → statement M
+give-record-spec =
+    tie.close
+    (tie.spec cast-if1 sub-if1 record-word-requires allot-requires same-length returns returns-2)

@@ -1,0 +1,48 @@
+-- The words are as they were; the next instruction is k for zero and the following one for any other integer.
+use Rattle.writers.proofs.Effects.{does-jump, does-skip, does-halt}
+use Rattle.writers.proofs.Planned.{jumped-zero, jumped-other, jumped-halt}
+use borrow.Author.Needs.{needs}
+use Rattle.writers.proofs.jump.Statement.{statement}
+use Rattle.writers.proofs.jump.Tie as tie
+
+enum-known-n : tie.Need-enum-known-n
+enum-known-n c = search needs
+
+at-next-requires : tie.Need-at-next-requires
+at-next-requires c κs = search needs
+
+returns : tie.Need-returns
+returns c =
+    λ words out. rw (c .at-next .ensures, c .before .before .before .n .given .1, jumped-zero _ _ (c .before .if1 .taken))
+    (does-jump words out (c .before .before .before .before .before .args .r) (c .before .before .before .before .before .args .k))
+
+add-at-next : tie.Need-add-at-next
+add-at-next c = search needs
+
+at-next-requires-2 : tie.Need-at-next-requires-2
+at-next-requires-2 c κs = search needs
+
+enum-known-n-2 : tie.Need-enum-known-n-2
+enum-known-n-2 c = search needs
+
+returns-2 : tie.Need-returns-2
+returns-2 c =
+    λ words out. rw (c .at-next2 .ensures, c .before .before .before .before .n .given .1, jumped-other _ _ (c .before .before .if1 .left))
+    (does-skip words out (c .before .before .before .before .before .before .args .r))
+
+returns-3 : tie.Need-returns-3
+returns-3 c =
+    λ words out. rw (c .before .n2 .given .1, jumped-halt) (does-halt words words out (c .before .before .before .args .r) _)
+
+pub jump-spec : {M : Type 1} → statement M
+jump-spec =
+    tie.close
+    (tie.spec
+    enum-known-n
+    at-next-requires
+    returns
+    add-at-next
+    at-next-requires-2
+    enum-known-n-2
+    returns-2
+    returns-3)

@@ -1,0 +1,83 @@
+-- The head that StoredOk tells of is an object's, so that the word written is a cell of it.
+use mathlib.Core.Path.{sym, ap}
+use mathlib.Core.List.{_++_}
+use Prim.Native.Nat.{_≤_}
+use lib.ListN.{length, drop}
+use lib.Seq.{length-take-le}
+use denote.Ref.{now}
+use Rattle.words.specs.Answers.{stored}
+use Rattle.writers.proofs.Effects.{does-store, does-halt}
+use native.Mathlib.Omega.{arith}
+use borrow.Author.Needs.{needs}
+use Rattle.writers.proofs.store_cell.Statement.{statement}
+use Rattle.writers.proofs.store_cell.Tie as tie
+
+enum-known-m : tie.Need-enum-known-m
+enum-known-m c = search needs
+
+slice-relend-prefix-write : tie.Need-slice-relend-prefix-write
+slice-relend-prefix-write c = search needs
+
+slice-aggregate-write : tie.Need-slice-aggregate-write
+slice-aggregate-write c =
+    let h : c .before .before .before .before .before .args .r .used ≤ length (now (c .before .before .before .before .before .args .memory)) = omega arith in
+    sym (length-take-le _ _ h)
+
+cast-write : tie.Need-cast-write
+cast-write c = search needs
+
+add-write : tie.Need-add-write
+add-write c = search needs
+
+cast-write-2 : tie.Need-cast-write-2
+cast-write-2 c = search needs
+
+add-write-2 : tie.Need-add-write-2
+add-write-2 c = search needs
+
+write-requires : tie.Need-write-requires
+write-requires c κs = search needs
+
+add-at-next : tie.Need-add-at-next
+add-at-next c = search needs
+
+at-next-requires : tie.Need-at-next-requires
+at-next-requires c κs = search needs
+
+enum-known-m-2 : tie.Need-enum-known-m-2
+enum-known-m-2 c = search needs
+
+same-length : tie.Need-same-length
+same-length c = search needs
+
+returns : tie.Need-returns
+unfolding stored
+returns c =
+    let s = c .before .before .before .before .before .before .before .before .before .before .args in
+    let fine = rw (c .before .before .before .before .before .before .before .m .given .1) at (c .before .before .before .before .before .before .before .before .before .before .pre .1 .0) in
+    λ out. rw (c .at-next .ensures, c .before .before .before .before .before .before .before .m .given .1)
+    (does-store _ _ out (s .r) _ _ _ _ (fine .0) (fine .1) (ap (λ l. l ++ drop (s .r .used) (now (s .memory))) (c .before .before .before .before .write .ensures)))
+
+returns-2 : tie.Need-returns-2
+unfolding stored
+returns-2 c =
+    λ out. rw (c .before .m2 .given .1) (does-halt _ _ out (c .before .before .before .before .args .r) _)
+
+pub store-cell-spec : {M : Type 1} → statement M
+store-cell-spec =
+    tie.close
+    (tie.spec
+    enum-known-m
+    slice-relend-prefix-write
+    slice-aggregate-write
+    cast-write
+    add-write
+    cast-write-2
+    add-write-2
+    write-requires
+    add-at-next
+    at-next-requires
+    enum-known-m-2
+    same-length
+    returns
+    returns-2)

@@ -1,0 +1,55 @@
+-- The word taken is the first of those left; where none is left the machine stops.
+use Rattle.model.specs.Outcome.{input-ended}
+use Rattle.model.specs.Machine.{word, filled}
+use Rattle.model.specs.Qualified.{integer}
+use Rattle.writers.proofs.Effects.{puts, does-take, does-stop}
+use Rattle.writers.proofs.Planned.{take-there, take-ended}
+use borrow.Author.Needs.{needs}
+use Rattle.writers.proofs.take_input.Statement.{statement}
+use Rattle.writers.proofs.take_input.Tie as tie
+
+mul-integer-word : tie.Need-mul-integer-word
+mul-integer-word c = search needs
+
+shared-slice-read-integer-word : tie.Need-shared-slice-read-integer-word
+shared-slice-read-integer-word c = search needs
+
+integer-word-requires : tie.Need-integer-word-requires
+integer-word-requires c κs = search needs
+
+put-variable-requires : tie.Need-put-variable-requires
+put-variable-requires c κs = search needs
+
+add-t12 : tie.Need-add-t12
+add-t12 c = search needs
+
+add-t15 : tie.Need-add-t15
+add-t15 c = search needs
+
+same-length : tie.Need-same-length
+same-length c = search needs
+
+returns : tie.Need-returns
+returns c =
+    let s = c .before .before .before .before .before .before .before .before .before .before .args in
+    λ out. rw (take-there _ _ _ (c .before .before .before .before .before .before .before .if1 .taken))
+    (does-take _ _ out (s .r) (s .a) (filled (word _) tt)
+    (puts _ _ (s .r) (s .a) _ _ (c .before .before .before .before .before .before .before .before .before .before .pre .0) (c .before .before .before .before .integer-word .ensures (λ j. integer)) (c .before .before .before .put-variable .ensures)))
+
+returns-2 : tie.Need-returns-2
+returns-2 c =
+    λ out. rw (take-ended _ _ _ (c .if1 .left)) (does-stop _ _ out (c .before .before .before .args .r) input-ended)
+
+pub take-input-spec : {M : Type 1} → statement M
+take-input-spec =
+    tie.close
+    (tie.spec
+    mul-integer-word
+    shared-slice-read-integer-word
+    integer-word-requires
+    put-variable-requires
+    add-t12
+    add-t15
+    same-length
+    returns
+    returns-2)

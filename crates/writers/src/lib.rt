@@ -1,0 +1,231 @@
+// What an instruction asks for, done in the lent memory: each kind of effect has one writer. A writer that stops changes nothing.
+use words::Moved;
+use words::Number;
+use words::Stored;
+use words::array_word;
+use words::clear;
+use words::integer_word;
+use words::object_word;
+use words::record_word;
+use words::write;
+ghost use mathlib.Core.Path.{_≡_};
+ghost use mathlib.Core.List.{List, _++_};
+ghost use Prim.Native.Nat.{ℕ, _+_, _-_, _≤_, _<_};
+ghost use lib.ListN.{length, take, drop, set};
+ghost use Rattle.model.specs.Machine.{first-of};
+ghost use Rattle.words.specs.Answers.{MovedOk, StoredOk, given, moved-to, stored};
+ghost use Rattle.writers.specs.Memory.{Sane};
+ghost use Rattle.writers.specs.Steps.{Does, onward, Allotted, jumped, put-effect, take-effect, array-effect, record-effect};
+
+// The registers: the running frame's procedure, next instruction, where its instructions start in the sheet, its count of variables and where they
+// start in the memory; where the objects end; the input words taken and the output words put.
+pub struct Registers {
+    pub procedure: usize,
+    pub next: usize,
+    pub first: usize,
+    pub variables: usize,
+    pub base: usize,
+    pub used: usize,
+    pub taken: usize,
+    pub put: usize,
+}
+
+// What a step came to: the registers after it, the number of a stop, or main's return.
+pub enum Stepped {
+    Go(Registers),
+    Halt(u8),
+    Done,
+}
+
+// The registers at another instruction of the same frame.
+pub fn at_next(r: Registers, next: usize) -> Registers
+    ensures { λ q. ⌜ q ≡ onward r next (r .used) (r .taken) (r .put) ⌝ }
+{
+    Registers {
+        procedure: r.procedure,
+        next,
+        first: r.first,
+        variables: r.variables,
+        base: r.base,
+        used: r.used,
+        taken: r.taken,
+        put: r.put,
+    }
+}
+
+// Variable a of the running frame becomes a word.
+pub fn put_variable(memory: &mut [u64], base: usize, variables: usize, a: u8, w: u64)
+    requires { ⌜ (base + variables ≤ length (now memory)) ⌝ }
+    ensures { λ _. ⌜ now (memory .exit) ≡ take base (now (memory .entry)) ++ (set (take variables (drop base (now (memory .entry)))) a w ++ drop variables (drop base (now (memory .entry)))) ⌝ }
+{
+    let end = base + variables;
+    write(&mut memory[base..end], a as usize, w);
+}
+
+// Variable a becomes an integer.
+pub fn give_number(memory: &mut [u64], r: Registers, a: u8, n: Number) -> Stepped
+    requires { ⌜ Sane (length (now memory)) r ⌝ }
+    requires { ⌜ r .next < 65536 ⌝ }
+    ensures { λ o. ⌜ ((out : List ℕ) → Does (now (memory .entry)) (now (memory .exit)) out out r o (given a n)) ⌝ }
+{
+    match n {
+        Number::Is(x) => {
+            put_variable(memory, r.base, r.variables, a, integer_word(x));
+            Stepped::Go(at_next(r, r.next + 1))
+        }
+        Number::Halt(k) => Stepped::Halt(k),
+    }
+}
+
+// Variable a becomes a moved cell.
+pub fn give_moved(memory: &mut [u64], r: Registers, a: u8, m: Moved) -> Stepped
+    requires { ⌜ Sane (length (now memory)) r ⌝ }
+    requires { ⌜ MovedOk m ⌝ }
+    requires { ⌜ r .next < 65536 ⌝ }
+    ensures { λ o. ⌜ ((out : List ℕ) → Does (now (memory .entry)) (now (memory .exit)) out out r o (moved-to a m)) ⌝ }
+{
+    match m {
+        Moved::To(w) => {
+            put_variable(memory, r.base, r.variables, a, w);
+            Stepped::Go(at_next(r, r.next + 1))
+        }
+        Moved::Halt(k) => Stepped::Halt(k),
+    }
+}
+
+// A cell of an object becomes a moved cell.
+pub fn store_cell(memory: &mut [u64], r: Registers, m: Stored) -> Stepped
+    requires { ⌜ Sane (length (now memory)) r ⌝ }
+    requires { ⌜ StoredOk (take (r .used) (now memory)) m ⌝ }
+    requires { ⌜ r .next < 65536 ⌝ }
+    ensures { λ o. ⌜ ((out : List ℕ) → Does (now (memory .entry)) (now (memory .exit)) out out r o (stored m)) ⌝ }
+{
+    match m {
+        Stored::At(o, i, w) => {
+            let used = r.used;
+            write(&mut memory[..used], (o as usize) + 1 + (i as usize), w);
+            Stepped::Go(at_next(r, r.next + 1))
+        }
+        Stored::Halt(k) => Stepped::Halt(k),
+    }
+}
+
+// To instruction k if the integer is zero, else to the next.
+pub fn jump(r: Registers, n: Number, k: u16) -> Stepped
+    requires { ⌜ r .next < 65536 ⌝ }
+    ensures { λ o. ⌜ ((words out : List ℕ) → Does words words out out r o (jumped k n)) ⌝ }
+{
+    match n {
+        Number::Is(x) => {
+            if x == 0 {
+                return Stepped::Go(at_next(r, k as usize));
+            }
+            Stepped::Go(at_next(r, r.next + 1))
+        }
+        Number::Halt(k) => Stepped::Halt(k),
+    }
+}
+
+// The next output word becomes an integer.
+pub fn put_output(output: &mut [u32], r: Registers, n: Number) -> Stepped
+    requires { ⌜ r .next < 65536 ⌝ }
+    ensures { λ o. ⌜ ((words : List ℕ) → Does words words (now (output .entry)) (now (output .exit)) r o (put-effect (length (now (output .entry)) - r .put) n)) ⌝ }
+{
+    match n {
+        Number::Is(x) => {
+            let at = r.put;
+            if at < output.len() {
+                output[at] = x;
+                return Stepped::Go(Registers {
+                    procedure: r.procedure,
+                    next: r.next + 1,
+                    first: r.first,
+                    variables: r.variables,
+                    base: r.base,
+                    used: r.used,
+                    taken: r.taken,
+                    put: at + 1,
+                });
+            }
+            Stepped::Halt(16)
+        }
+        Number::Halt(k) => Stepped::Halt(k),
+    }
+}
+
+// Variable a becomes the next input word.
+pub fn take_input(input: &[u32], memory: &mut [u64], r: Registers, a: u8) -> Stepped
+    requires { ⌜ Sane (length (now memory)) r ⌝ }
+    requires { ⌜ r .next < 65536 ⌝ }
+    ensures { λ o. ⌜ ((out : List ℕ) → Does (now (memory .entry)) (now (memory .exit)) out out r o (take-effect a (first-of (drop (r .taken) (now (input .entry)))))) ⌝ }
+{
+    let at = r.taken;
+    if at < input.len() {
+        put_variable(memory, r.base, r.variables, a, integer_word(input[at]));
+        return Stepped::Go(Registers {
+            procedure: r.procedure,
+            next: r.next + 1,
+            first: r.first,
+            variables: r.variables,
+            base: r.base,
+            used: r.used,
+            taken: at + 1,
+            put: r.put,
+        });
+    }
+    Stepped::Halt(15)
+}
+
+// A new object with a head and n blank cells, after the others; variable a becomes it.
+fn allot(memory: &mut [u64], r: Registers, a: u8, head: u64, n: u32) -> Registers
+    requires { ⌜ Sane (length (now memory)) r ⌝ }
+    requires { ⌜ r .next < 65536 ⌝ }
+    requires { ⌜ r .used + (n + 1) ≤ r .base ⌝ }
+    ensures { λ q. ⌜ q ≡ onward r (r .next + 1) (r .used + (n + 1)) (r .taken) (r .put) ⌝ }
+    ensures { λ q. ⌜ Allotted (now (memory .entry)) (now (memory .exit)) r a head n ⌝ }
+{
+    let used = r.used;
+    let cells = used + 1;
+    let end = cells + (n as usize);
+    memory[used] = head;
+    clear(&mut memory[cells..end]);
+    put_variable(memory, r.base, r.variables, a, object_word(used as u32));
+    Registers {
+        procedure: r.procedure,
+        next: r.next + 1,
+        first: r.first,
+        variables: r.variables,
+        base: r.base,
+        used: end,
+        taken: r.taken,
+        put: r.put,
+    }
+}
+
+pub fn give_array(memory: &mut [u64], r: Registers, a: u8, n: Number) -> Stepped
+    requires { ⌜ Sane (length (now memory)) r ⌝ }
+    requires { ⌜ r .next < 65536 ⌝ }
+    ensures { λ o. ⌜ ((out : List ℕ) → Does (now (memory .entry)) (now (memory .exit)) out out r o (array-effect (r .base - r .used) a n)) ⌝ }
+{
+    match n {
+        Number::Is(x) => {
+            if (x as usize) < r.base - r.used {
+                return Stepped::Go(allot(memory, r, a, array_word(x), x));
+            }
+            Stepped::Halt(17)
+        }
+        Number::Halt(k) => Stepped::Halt(k),
+    }
+}
+
+pub fn give_record(memory: &mut [u64], r: Registers, a: u8, slots: u8) -> Stepped
+    requires { ⌜ Sane (length (now memory)) r ⌝ }
+    requires { ⌜ r .next < 65536 ⌝ }
+    ensures { λ o. ⌜ ((out : List ℕ) → Does (now (memory .entry)) (now (memory .exit)) out out r o (record-effect (r .base - r .used) a slots)) ⌝ }
+{
+    let n = slots as u32;
+    if (n as usize) < r.base - r.used {
+        return Stepped::Go(allot(memory, r, a, record_word(n), n));
+    }
+    Stepped::Halt(17)
+}
