@@ -19,6 +19,7 @@ pub mod damage;
 pub mod handwritten;
 pub mod large;
 pub mod limits;
+pub mod loops;
 pub mod operations;
 pub mod random;
 pub mod records;

@@ -1,10 +1,12 @@
-//! What the comparison of the two engines needs: their verdicts in one form,
-//! and a record of what the compared sheets have covered.
+//! What the comparison of the two engines needs: their verdicts and outcomes
+//! in one form, and a record of what the compared sheets have covered.
 
 pub mod coverage;
 pub mod walk;
+pub mod workers;
 
-use reference::Verdict;
+use generator::runs::Run;
+use reference::{Outcome, Verdict};
 
 /// The verdict of the proved engine in the form of the second one. A number
 /// that is no refusal at all is shown as it is, by the panic.
@@ -28,6 +30,23 @@ pub fn agreed(sheet: &[u8]) -> Result<Verdict, String> {
         let shown = hexadecimal(sheet);
         Err(format!(
             "proved {found:?}, reference {expected:?} on {shown}"
+        ))
+    }
+}
+
+/// Gives the outcome of both engines, which also leave the same output, or
+/// says how they differ. What the proved run leaves in its memory, which is
+/// lent full of random words, is looked at by [`wennathig::run`].
+pub fn agreed_run(lent: &Run) -> Result<Outcome, String> {
+    let expected = lent.on(reference::run);
+    let found = lent.on(wennathig::run);
+    if found == expected {
+        Ok(found.0)
+    } else {
+        let (fuel, words) = (lent.fuel, lent.memory_words);
+        let (input, shown) = (&lent.input, hexadecimal(&lent.sheet));
+        Err(format!(
+            "proved {found:?}, reference {expected:?}, fuel {fuel}, {words} words, input {input:?} on {shown}"
         ))
     }
 }

@@ -3,13 +3,13 @@
 
 use comparison::agreed;
 use comparison::coverage::Coverage;
+use comparison::workers::on_all_processors;
 use generator::accepted::accepted;
 use generator::breach::Flaw;
 use generator::damage::{damaged, random_bytes};
 use generator::wellformed::wellformed;
 use generator::Random;
 use reference::Verdict;
-use std::thread;
 
 /// What the generator knows about a sheet without any engine.
 #[derive(Clone, Copy)]
@@ -88,11 +88,11 @@ fn broken(random: &mut Random, flaw: Flaw) -> [Sample; 2] {
     ]
 }
 
-/// Compares the sheets of a family for every so many seeds.
-fn compare(number: usize, first: u64, step: usize) -> Coverage {
+/// Compares the sheets of a family for some seeds.
+fn compare(number: usize, seeds: &mut dyn Iterator<Item = u64>) -> Coverage {
     let family = &FAMILIES[number];
     let mut coverage = Coverage::default();
-    for seed in (first..family.seeds).step_by(step) {
+    for seed in seeds {
         let mut random = Random::new(seed | (number as u64) << 40);
         for Sample { sheet, known } in (family.samples)(&mut random) {
             let name = family.name;
@@ -111,18 +111,10 @@ fn compare(number: usize, first: u64, step: usize) -> Coverage {
 
 /// Compares a family on all processors.
 fn compare_family(number: usize) -> Coverage {
-    let workers = thread::available_parallelism().map_or(1, usize::from);
     let mut whole = Coverage::default();
-    thread::scope(|scope| {
-        let start = |first| scope.spawn(move || compare(number, first as u64, workers));
-        let handles: Vec<_> = (0..workers).map(start).collect();
-        for handle in handles {
-            match handle.join() {
-                Ok(part) => whole.merge(part),
-                Err(cause) => std::panic::resume_unwind(cause),
-            }
-        }
-    });
+    for part in on_all_processors(FAMILIES[number].seeds, |seeds| compare(number, seeds)) {
+        whole.merge(part);
+    }
     whole
 }
 

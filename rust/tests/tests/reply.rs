@@ -1,7 +1,10 @@
-//! The words of the reply: the first gets the place, no other is touched.
+//! The words of the reply: of check the first gets the place, of run the first
+//! five get place, steps, words put, procedure and instruction; no other is
+//! touched.
 
+use generator::handwritten::runs;
 use generator::showcase::showcase;
-use wennathig::check_into;
+use wennathig::{check_into, run_into};
 
 const UNTOUCHED: u64 = 0xDEAD_BEEF_0BAD_CAFE;
 
@@ -38,4 +41,30 @@ fn refused_sheets() {
 #[test]
 fn accepted_sheets() {
     expect(&showcase().encode(), 0, 0);
+}
+
+/// Every hand-written run, with replies of 0 to 7 words out of seven.
+#[test]
+fn replies_of_runs() {
+    for case in runs::cases() {
+        let due = case.expected.run.reply();
+        for words in 0..=7 {
+            let mut expected = [UNTOUCHED; 7];
+            let written = words.min(due.len());
+            expected[..written].copy_from_slice(&due[..written]);
+            let mut reply = [UNTOUCHED; 7];
+            let mut memory = vec![UNTOUCHED; case.run.memory_words];
+            let mut output = case.run.output.clone();
+            let number = run_into(
+                &case.run.sheet,
+                &case.run.input,
+                case.run.fuel,
+                &mut memory,
+                &mut output,
+                &mut reply[..words],
+            );
+            assert_eq!(number, case.expected.run.number(), "{}", case.name);
+            assert_eq!(reply, expected, "{}, {words} words", case.name);
+        }
+    }
 }

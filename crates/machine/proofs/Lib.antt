@@ -1,0 +1,4 @@
+pub mod Laws
+pub mod Inside
+pub mod Turn
+pub mod Begin

@@ -1,0 +1,51 @@
+-- The part of the memory that is read is the frame's, which the view sees; the writer does what is planned.
+use borrow.Author.Needs.{needs}
+use denote.Ref.{now}
+use Rattle.machine.proofs.Laws.{performs-frame}
+use Rattle.machine.proofs.arms.add.Statement.{statement}
+use Rattle.machine.proofs.arms.add.Tie as tie
+
+add-end : tie.Need-add-end
+add-end c = search needs
+
+mul-add-of : tie.Need-mul-add-of
+mul-add-of c = search needs
+
+sub-add-of : tie.Need-sub-add-of
+sub-add-of c = search needs
+
+part-add-of-start : tie.Need-part-add-of-start
+part-add-of-start c = search needs
+
+part-add-of-end : tie.Need-part-add-of-end
+part-add-of-end c = search needs
+
+add-of-requires : tie.Need-add-of-requires
+add-of-requires c κs = search needs
+
+give-number-requires : tie.Need-give-number-requires
+give-number-requires c κs = search needs
+
+same-length : tie.Need-same-length
+same-length c = search needs
+
+returns : tie.Need-returns
+returns c =
+    let args = c .before .before .before .before .before .before .before .before .before .args in
+    let add-of = c .before .before .before .before .add-of in
+    let give-number = c .before .before .give-number in
+    λ s input out. performs-frame s input (now (args .memory)) (give-number .last .0) out out (args .r) (give-number .result) _ _ (give-number .ensures out) (λ g v. add-of .ensures g v (args .a))
+
+pub add-spec : {M : Type 1} → statement M
+add-spec =
+    tie.close
+    (tie.spec
+    add-end
+    mul-add-of
+    sub-add-of
+    part-add-of-start
+    part-add-of-end
+    add-of-requires
+    give-number-requires
+    same-length
+    returns)

@@ -1,0 +1,51 @@
+-- The part of the memory that is read is the frame's, which the view sees; the writer does what is planned.
+use borrow.Author.Needs.{needs}
+use denote.Ref.{now}
+use Rattle.machine.proofs.Laws.{performs-frame}
+use Rattle.machine.proofs.arms.less.Statement.{statement}
+use Rattle.machine.proofs.arms.less.Tie as tie
+
+add-end : tie.Need-add-end
+add-end c = search needs
+
+mul-less-of : tie.Need-mul-less-of
+mul-less-of c = search needs
+
+sub-less-of : tie.Need-sub-less-of
+sub-less-of c = search needs
+
+part-less-of-start : tie.Need-part-less-of-start
+part-less-of-start c = search needs
+
+part-less-of-end : tie.Need-part-less-of-end
+part-less-of-end c = search needs
+
+less-of-requires : tie.Need-less-of-requires
+less-of-requires c κs = search needs
+
+give-number-requires : tie.Need-give-number-requires
+give-number-requires c κs = search needs
+
+same-length : tie.Need-same-length
+same-length c = search needs
+
+returns : tie.Need-returns
+returns c =
+    let args = c .before .before .before .before .before .before .before .before .before .args in
+    let less-of = c .before .before .before .before .less-of in
+    let give-number = c .before .before .give-number in
+    λ s input out. performs-frame s input (now (args .memory)) (give-number .last .0) out out (args .r) (give-number .result) _ _ (give-number .ensures out) (λ g v. less-of .ensures g v (args .a))
+
+pub less-spec : {M : Type 1} → statement M
+less-spec =
+    tie.close
+    (tie.spec
+    add-end
+    mul-less-of
+    sub-less-of
+    part-less-of-start
+    part-less-of-end
+    less-of-requires
+    give-number-requires
+    same-length
+    returns)

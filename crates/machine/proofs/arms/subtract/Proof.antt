@@ -1,0 +1,51 @@
+-- The part of the memory that is read is the frame's, which the view sees; the writer does what is planned.
+use borrow.Author.Needs.{needs}
+use denote.Ref.{now}
+use Rattle.machine.proofs.Laws.{performs-frame}
+use Rattle.machine.proofs.arms.subtract.Statement.{statement}
+use Rattle.machine.proofs.arms.subtract.Tie as tie
+
+add-end : tie.Need-add-end
+add-end c = search needs
+
+mul-subtract-of : tie.Need-mul-subtract-of
+mul-subtract-of c = search needs
+
+sub-subtract-of : tie.Need-sub-subtract-of
+sub-subtract-of c = search needs
+
+part-subtract-of-start : tie.Need-part-subtract-of-start
+part-subtract-of-start c = search needs
+
+part-subtract-of-end : tie.Need-part-subtract-of-end
+part-subtract-of-end c = search needs
+
+subtract-of-requires : tie.Need-subtract-of-requires
+subtract-of-requires c κs = search needs
+
+give-number-requires : tie.Need-give-number-requires
+give-number-requires c κs = search needs
+
+same-length : tie.Need-same-length
+same-length c = search needs
+
+returns : tie.Need-returns
+returns c =
+    let args = c .before .before .before .before .before .before .before .before .before .args in
+    let subtract-of = c .before .before .before .before .subtract-of in
+    let give-number = c .before .before .give-number in
+    λ s input out. performs-frame s input (now (args .memory)) (give-number .last .0) out out (args .r) (give-number .result) _ _ (give-number .ensures out) (λ g v. subtract-of .ensures g v (args .a))
+
+pub subtract-spec : {M : Type 1} → statement M
+subtract-spec =
+    tie.close
+    (tie.spec
+    add-end
+    mul-subtract-of
+    sub-subtract-of
+    part-subtract-of-start
+    part-subtract-of-end
+    subtract-of-requires
+    give-number-requires
+    same-length
+    returns)

@@ -1,0 +1,21 @@
+-- The next input word is that which the state has left.
+use borrow.Author.Needs.{needs}
+use denote.Ref.{now}
+use Rattle.machine.proofs.Laws.{performs-take}
+use Rattle.machine.proofs.arms.take.Statement.{statement}
+use Rattle.machine.proofs.arms.take.Tie as tie
+
+take-input-requires : tie.Need-take-input-requires
+take-input-requires c κs = search needs
+
+same-length : tie.Need-same-length
+same-length c = search needs
+
+returns : tie.Need-returns
+returns c =
+    let args = c .before .before .before .before .before .before .args in
+    let take-input = c .before .before .take-input in
+    λ s out. performs-take s (now (args .input)) (now (args .memory)) (take-input .last .1 .0) out out (args .r) (take-input .result) (args .a) (take-input .ensures out)
+
+pub take-spec : {M : Type 1} → statement M
+take-spec = tie.close (tie.spec take-input-requires same-length returns)

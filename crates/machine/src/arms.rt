@@ -1,0 +1,249 @@
+// Each operation: what it asks for (crate plans), done (crate writers).
+use plans::add_of;
+use plans::fetch_of;
+use plans::get_of;
+use plans::integer_at;
+use plans::less_of;
+use plans::moved_at;
+use plans::set_at;
+use plans::size_of;
+use plans::store_at;
+use plans::subtract_of;
+use sheet::bytes::byte;
+use sheet::places::type_at;
+use words::Moved;
+use words::Number;
+use words::Stored;
+use writers::Registers;
+use writers::Stepped;
+use writers::give_array;
+use writers::give_moved;
+use writers::give_number;
+use writers::give_record;
+use writers::jump;
+use writers::put_output;
+use writers::store_cell;
+use writers::take_input;
+ghost use mathlib.Core.Path.{_≡_};
+ghost use mathlib.Core.List.{List};
+ghost use Prim.Native.Nat.{ℕ, _<_};
+ghost use lib.ListN.{length, take, drop};
+ghost use Rattle.model.specs.Program.{Program};
+ghost use Rattle.model.specs.Modes.{plain};
+ghost use Rattle.model.specs.Machine.{View, plan};
+ghost use Rattle.model.specs.declared.Operation.the-variants as Op;
+ghost use Rattle.sheet.specs.Layout.{ownerAt, slotsOf};
+ghost use Rattle.words.specs.Sees.{Sees};
+ghost use Rattle.words.specs.Answers.{MovedOk, StoredOk, given, moved-to, stored};
+ghost use Rattle.writers.specs.Memory.{Sane};
+ghost use Rattle.frames.specs.Performs.{Loaded, Performs};
+
+// What is read of the running frame's part of the memory and of the objects' part.
+fn fetch_in(memory: &[u64], r: Registers, b: u8, c: u8) -> Moved
+    requires { ⌜ Sane (length (now memory)) r ⌝ }
+    ensures { λ m. ⌜ ((g : Program) (v : View plain) (a : ℕ) → Sees v (take (r .variables) (drop (r .base) (now (memory .entry)))) (take (r .used) (now (memory .entry))) → moved-to a m ≡ plan plain g v (Op.Fetch a b c)) ⌝ }
+    ensures { λ m. ⌜ MovedOk m ⌝ }
+{
+    let base = r.base;
+    let end = base + r.variables;
+    let used = r.used;
+    fetch_of(&memory[base..end], &memory[..used], b, c)
+}
+
+fn size_in(memory: &[u64], r: Registers, b: u8) -> Number
+    requires { ⌜ Sane (length (now memory)) r ⌝ }
+    ensures { λ n. ⌜ ((g : Program) (v : View plain) (a : ℕ) → Sees v (take (r .variables) (drop (r .base) (now (memory .entry)))) (take (r .used) (now (memory .entry))) → given a n ≡ plan plain g v (Op.Size a b)) ⌝ }
+{
+    let base = r.base;
+    let end = base + r.variables;
+    let used = r.used;
+    size_of(&memory[base..end], &memory[..used], b)
+}
+
+fn get_in(memory: &[u64], r: Registers, b: u8, k: u16) -> Moved
+    requires { ⌜ Sane (length (now memory)) r ⌝ }
+    ensures { λ m. ⌜ ((g : Program) (v : View plain) (a : ℕ) → Sees v (take (r .variables) (drop (r .base) (now (memory .entry)))) (take (r .used) (now (memory .entry))) → moved-to a m ≡ plan plain g v (Op.GetSlot a b k)) ⌝ }
+    ensures { λ m. ⌜ MovedOk m ⌝ }
+{
+    let base = r.base;
+    let end = base + r.variables;
+    let used = r.used;
+    get_of(&memory[base..end], &memory[..used], b, k)
+}
+
+fn store_in(memory: &[u64], r: Registers, a: u8, b: u8, c: u8) -> Stored
+    requires { ⌜ Sane (length (now memory)) r ⌝ }
+    ensures { λ m. ⌜ ((g : Program) (v : View plain) → Sees v (take (r .variables) (drop (r .base) (now (memory .entry)))) (take (r .used) (now (memory .entry))) → stored m ≡ plan plain g v (Op.Store a b c)) ⌝ }
+    ensures { λ m. ⌜ StoredOk (take (r .used) (now (memory .entry))) m ⌝ }
+{
+    let base = r.base;
+    let end = base + r.variables;
+    let used = r.used;
+    store_at(&memory[base..end], &memory[..used], a, b, c)
+}
+
+fn set_in(memory: &[u64], r: Registers, a: u8, b: u8, k: u16) -> Stored
+    requires { ⌜ Sane (length (now memory)) r ⌝ }
+    ensures { λ m. ⌜ ((g : Program) (v : View plain) → Sees v (take (r .variables) (drop (r .base) (now (memory .entry)))) (take (r .used) (now (memory .entry))) → stored m ≡ plan plain g v (Op.SetSlot a b k)) ⌝ }
+    ensures { λ m. ⌜ StoredOk (take (r .used) (now (memory .entry))) m ⌝ }
+{
+    let base = r.base;
+    let end = base + r.variables;
+    let used = r.used;
+    set_at(&memory[base..end], &memory[..used], a, b, k)
+}
+
+pub fn set(memory: &mut [u64], r: Registers, a: u8, k: u16) -> Stepped
+    requires { ⌜ Sane (length (now memory)) r ⌝ }
+    requires { ⌜ r .next < 65536 ⌝ }
+    ensures { λ o. ⌜ ((s input out : List ℕ) → Performs s input (now (memory .entry)) (now (memory .exit)) out out r o (Op.Set a k)) ⌝ }
+{
+    give_number(memory, r, a, Number::Is(k as u32))
+}
+
+pub fn add(memory: &mut [u64], r: Registers, a: u8, b: u8, c: u8) -> Stepped
+    requires { ⌜ Sane (length (now memory)) r ⌝ }
+    requires { ⌜ r .next < 65536 ⌝ }
+    ensures { λ o. ⌜ ((s input out : List ℕ) → Performs s input (now (memory .entry)) (now (memory .exit)) out out r o (Op.Add a b c)) ⌝ }
+{
+    let base = r.base;
+    let end = base + r.variables;
+    let n = add_of(&memory[base..end], b, c);
+    give_number(memory, r, a, n)
+}
+
+pub fn subtract(memory: &mut [u64], r: Registers, a: u8, b: u8, c: u8) -> Stepped
+    requires { ⌜ Sane (length (now memory)) r ⌝ }
+    requires { ⌜ r .next < 65536 ⌝ }
+    ensures { λ o. ⌜ ((s input out : List ℕ) → Performs s input (now (memory .entry)) (now (memory .exit)) out out r o (Op.Subtract a b c)) ⌝ }
+{
+    let base = r.base;
+    let end = base + r.variables;
+    let n = subtract_of(&memory[base..end], b, c);
+    give_number(memory, r, a, n)
+}
+
+pub fn less(memory: &mut [u64], r: Registers, a: u8, b: u8, c: u8) -> Stepped
+    requires { ⌜ Sane (length (now memory)) r ⌝ }
+    requires { ⌜ r .next < 65536 ⌝ }
+    ensures { λ o. ⌜ ((s input out : List ℕ) → Performs s input (now (memory .entry)) (now (memory .exit)) out out r o (Op.Less a b c)) ⌝ }
+{
+    let base = r.base;
+    let end = base + r.variables;
+    let n = less_of(&memory[base..end], b, c);
+    give_number(memory, r, a, n)
+}
+
+pub fn bind(memory: &mut [u64], r: Registers, a: u8, b: u8) -> Stepped
+    requires { ⌜ Sane (length (now memory)) r ⌝ }
+    requires { ⌜ r .next < 65536 ⌝ }
+    ensures { λ o. ⌜ ((s input out : List ℕ) → Performs s input (now (memory .entry)) (now (memory .exit)) out out r o (Op.Bind a b)) ⌝ }
+{
+    let base = r.base;
+    let end = base + r.variables;
+    let m = moved_at(&memory[base..end], b);
+    give_moved(memory, r, a, m)
+}
+
+pub fn fetch(memory: &mut [u64], r: Registers, a: u8, b: u8, c: u8) -> Stepped
+    requires { ⌜ Sane (length (now memory)) r ⌝ }
+    requires { ⌜ r .next < 65536 ⌝ }
+    ensures { λ o. ⌜ ((s input out : List ℕ) → Performs s input (now (memory .entry)) (now (memory .exit)) out out r o (Op.Fetch a b c)) ⌝ }
+{
+    let m = fetch_in(memory, r, b, c);
+    give_moved(memory, r, a, m)
+}
+
+pub fn size(memory: &mut [u64], r: Registers, a: u8, b: u8) -> Stepped
+    requires { ⌜ Sane (length (now memory)) r ⌝ }
+    requires { ⌜ r .next < 65536 ⌝ }
+    ensures { λ o. ⌜ ((s input out : List ℕ) → Performs s input (now (memory .entry)) (now (memory .exit)) out out r o (Op.Size a b)) ⌝ }
+{
+    let n = size_in(memory, r, b);
+    give_number(memory, r, a, n)
+}
+
+pub fn get_slot(memory: &mut [u64], r: Registers, a: u8, b: u8, k: u16) -> Stepped
+    requires { ⌜ Sane (length (now memory)) r ⌝ }
+    requires { ⌜ r .next < 65536 ⌝ }
+    ensures { λ o. ⌜ ((s input out : List ℕ) → Performs s input (now (memory .entry)) (now (memory .exit)) out out r o (Op.GetSlot a b k)) ⌝ }
+{
+    let m = get_in(memory, r, b, k);
+    give_moved(memory, r, a, m)
+}
+
+pub fn store(memory: &mut [u64], r: Registers, a: u8, b: u8, c: u8) -> Stepped
+    requires { ⌜ Sane (length (now memory)) r ⌝ }
+    requires { ⌜ r .next < 65536 ⌝ }
+    ensures { λ o. ⌜ ((s input out : List ℕ) → Performs s input (now (memory .entry)) (now (memory .exit)) out out r o (Op.Store a b c)) ⌝ }
+{
+    let m = store_in(memory, r, a, b, c);
+    store_cell(memory, r, m)
+}
+
+pub fn set_slot(memory: &mut [u64], r: Registers, a: u8, b: u8, k: u16) -> Stepped
+    requires { ⌜ Sane (length (now memory)) r ⌝ }
+    requires { ⌜ r .next < 65536 ⌝ }
+    ensures { λ o. ⌜ ((s input out : List ℕ) → Performs s input (now (memory .entry)) (now (memory .exit)) out out r o (Op.SetSlot a b k)) ⌝ }
+{
+    let m = set_in(memory, r, a, b, k);
+    store_cell(memory, r, m)
+}
+
+pub fn new_array(memory: &mut [u64], r: Registers, a: u8, b: u8) -> Stepped
+    requires { ⌜ Sane (length (now memory)) r ⌝ }
+    requires { ⌜ r .next < 65536 ⌝ }
+    ensures { λ o. ⌜ ((s input out : List ℕ) → Performs s input (now (memory .entry)) (now (memory .exit)) out out r o (Op.NewArray a b)) ⌝ }
+{
+    let base = r.base;
+    let end = base + r.variables;
+    let n = integer_at(&memory[base..end], b);
+    give_array(memory, r, a, n)
+}
+
+pub fn jump_zero(memory: &[u64], r: Registers, a: u8, k: u16) -> Stepped
+    requires { ⌜ Sane (length (now memory)) r ⌝ }
+    requires { ⌜ r .next < 65536 ⌝ }
+    ensures { λ o. ⌜ ((s input out : List ℕ) → Performs s input (now (memory .entry)) (now (memory .entry)) out out r o (Op.JumpZero a k)) ⌝ }
+{
+    let base = r.base;
+    let end = base + r.variables;
+    jump(r, integer_at(&memory[base..end], a), k)
+}
+
+pub fn put(memory: &[u64], output: &mut [u32], r: Registers, a: u8) -> Stepped
+    requires { ⌜ Sane (length (now memory)) r ⌝ }
+    requires { ⌜ r .next < 65536 ⌝ }
+    ensures { λ o. ⌜ ((s input : List ℕ) → Performs s input (now (memory .entry)) (now (memory .entry)) (now (output .entry)) (now (output .exit)) r o (Op.Put a)) ⌝ }
+{
+    let base = r.base;
+    let end = base + r.variables;
+    let n = integer_at(&memory[base..end], a);
+    put_output(output, r, n)
+}
+
+pub fn take(input: &[u32], memory: &mut [u64], r: Registers, a: u8) -> Stepped
+    requires { ⌜ Sane (length (now memory)) r ⌝ }
+    requires { ⌜ r .next < 65536 ⌝ }
+    ensures { λ o. ⌜ ((s out : List ℕ) → Performs s (now (input .entry)) (now (memory .entry)) (now (memory .exit)) out out r o (Op.Take a)) ⌝ }
+{
+    take_input(input, memory, r, a)
+}
+
+// How many slots the owner of the procedure at pr has.
+fn slots_at(s: &[u8], pr: u32) -> u8
+    ensures { λ n. ⌜ n ≡ slotsOf (now (s .entry)) (ownerAt (now (s .entry)) pr) ⌝ }
+{
+    let owner = byte(s, pr as usize, 2);
+    byte(s, type_at(owner), 3)
+}
+
+pub fn new_record(s: &[u8], table: &[u32; 65], memory: &mut [u64], r: Registers, a: u8) -> Stepped
+    requires { ⌜ Loaded (now s) (now table) ⌝ }
+    requires { ⌜ Sane (length (now memory)) r ⌝ }
+    requires { ⌜ r .next < 65536 ⌝ }
+    ensures { λ o. ⌜ ((input out : List ℕ) → Performs (now (s .entry)) input (now (memory .entry)) (now (memory .exit)) out out r o (Op.NewRecord a)) ⌝ }
+{
+    let p = r.procedure;
+    give_record(memory, r, a, slots_at(s, table[p]))
+}

@@ -1,0 +1,62 @@
+-- What `run` says of any bytes, input, fuel, memory and output, and what it leaves behind (document 01, "What check, run and watch say").
+use Prim.Native.Nat.{ℕ}
+use mathlib.Core.Bool.{Bool, cond}
+use mathlib.Core.List.{List, []}
+use lib.Dec.{leb}
+use lib.ListN.{length, replicate}
+use Rattle.model.specs.Modes.{plain}
+use Rattle.model.specs.Outcome.{number}
+use Rattle.model.specs.Refusal.{big-memory}
+use Rattle.model.specs.Refusal as refusal
+use Rattle.model.specs.Run.{End, stopped, stuck-at, run, written}
+use Rattle.model.specs.declared.Verdict.{Verdict}
+use Rattle.model.specs.declared.Verdict.the-variants.{Accepted, Refused}
+use Rattle.sheet.specs.Meaning.{programOf}
+use Rattle.checking.specs.Check.{check}
+use Rattle.running.specs.declared.Reply.{Reply}
+
+-- "1 to 10 are refusals, with the byte at which the record starts"
+abbrev pub refused : (number place : ℕ) → Reply
+refused n at = record { number = n; place = at; steps = 0; put = 0; procedure = 0; instruction = 0 }
+
+-- "11 to 19 are stops, with steps, words put, procedure and instruction"; condition 3 says that no accepted sheet is stuck
+abbrev pub reply-of : End → Reply
+reply-of (stopped x n put p i) =
+    record { number = number x; place = 0; steps = n; put = length put; procedure = p; instruction = i }
+reply-of (stuck-at n put p i) = record { number = 18; place = 0; steps = n; put = length put; procedure = p; instruction = i }
+
+abbrev pub words-put : End → List ℕ
+words-put (stopped x n put p i) = put
+words-put (stuck-at n put p i) = put
+
+module _ (sheet input : List ℕ) (fuel : ℕ) (memory output : List ℕ) where
+  -- the run itself
+  unfoldable pub end : End
+  end = run plain (programOf sheet) (length memory) (length output) input fuel
+
+  -- "then 10": over 65,536 words
+  unfoldable pub fits : Bool
+  fits = leb (length memory) 65536
+
+  abbrev pub reply-by : Verdict → Reply
+  reply-by (Refused n at) = refused n at
+  reply-by Accepted = cond fits (reply-of end) (refused (refusal.number big-memory) 0)
+
+  -- "memory ends all zero"; "untouched by every refusal"
+  abbrev pub memory-by : Verdict → List ℕ
+  memory-by (Refused n at) = memory
+  memory-by Accepted = cond fits (replicate (length memory) 0) memory
+
+  -- "the output holds the words put, in order from its first word, and keeps its other words"
+  abbrev pub output-by : Verdict → List ℕ
+  output-by (Refused n at) = output
+  output-by Accepted = cond fits (written output (words-put end)) output
+
+  unfoldable pub reply : Reply
+  reply = reply-by (check sheet)
+
+  unfoldable pub memory-after : List ℕ
+  memory-after = memory-by (check sheet)
+
+  unfoldable pub output-after : List ℕ
+  output-after = output-by (check sheet)

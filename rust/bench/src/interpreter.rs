@@ -1,0 +1,83 @@
+//! A safe call of the plain C interpreter.
+
+use reference::machine::MAX_MEMORY;
+use reference::{check, Verdict};
+
+extern "C" {
+    fn bench_run(
+        sheet: *const u8,
+        reads: *const u32,
+        reads_len: usize,
+        fuel: u64,
+        memory: *mut u64,
+        memory_len: usize,
+        report: *mut u32,
+        report_len: usize,
+        reply: *mut u64,
+    ) -> u64;
+}
+
+/// A sheet that the interpreter may be given.
+pub struct Accepted<'a>(&'a [u8]);
+
+impl<'a> Accepted<'a> {
+    pub fn new(sheet: &'a [u8]) -> Option<Self> {
+        (check(sheet) == Verdict::Accepted).then_some(Accepted(sheet))
+    }
+
+    /// Like [`wennathig::run_into`].
+    pub fn run_into(
+        &self,
+        input: &[u32],
+        fuel: u64,
+        memory: &mut [u64],
+        output: &mut [u32],
+        reply: &mut [u64; 5],
+    ) -> u64 {
+        assert!(memory.len() <= MAX_MEMORY);
+        // SAFETY: the sheet is accepted, which is what the interpreter relies
+        // on; the pointers are those of live slices with the lengths given,
+        // and those written to are lent exclusively.
+        unsafe {
+            bench_run(
+                self.0.as_ptr(),
+                input.as_ptr(),
+                input.len(),
+                fuel,
+                memory.as_mut_ptr(),
+                memory.len(),
+                output.as_mut_ptr(),
+                output.len(),
+                reply.as_mut_ptr(),
+            )
+        }
+    }
+}
+
+#[cfg(test)]
+mod tests {
+    use super::Accepted;
+    use generator::handwritten::runs::cases;
+    use reference::Outcome;
+
+    /// It is worth timing only if it is right.
+    #[test]
+    fn the_interpreter_says_what_is_written() {
+        let mut made = 0;
+        for case in cases() {
+            let (run, (expected, due)) = (&case.run, case.expected_run());
+            let Outcome::Stopped { .. } = expected else {
+                continue;
+            };
+            let sheet = Accepted::new(&run.sheet).expect("the sheet is run");
+            let (mut memory, mut output) = (vec![7; run.memory_words], run.output.clone());
+            let mut reply = [7; 5];
+            let number = sheet.run_into(&run.input, run.fuel, &mut memory, &mut output, &mut reply);
+            let found = (Outcome::from_reply(number, reply), output);
+            assert_eq!(found, (Some(expected), due), "{}", case.name);
+            assert!(memory.iter().all(|&word| word == 0), "{}", case.name);
+            made += 1;
+        }
+        assert!(made >= 50, "{made}");
+    }
+}
