@@ -1,6 +1,6 @@
 // The rules of calls and returns. 255 as a variable, or as a result, is none.
-use crate::rules::inner_of;
 use crate::rules::require;
+use order::inner_of;
 use order::movement;
 use sheet::bytes::byte;
 ghost use mathlib.Core.Path.{_≡_};

@@ -1,29 +1,23 @@
 // The rule of each operation but calls and returns, in the procedure at pr: the number of its refusal, 0 where there is none.
 use order::element_of;
+use order::inner_of;
 use order::is_array;
 use order::is_integer;
 use order::is_owned;
 use order::movement;
 use order::rights_of;
+use order::slot_of;
 use rights::has_none_above;
 use rights::has_right;
 use rights::is_within;
 use sheet::bytes::byte;
 use sheet::places::type_at;
-use sheet::places::variable_at;
 ghost use mathlib.Core.Path.{_≡_};
 ghost use mathlib.Core.Bool.{cond};
 ghost use Rattle.model.specs.Refusal.{failure};
 ghost use Rattle.model.specs.Rules.{moves, one-integer, three-integers, new-array-rule, new-record-rule, fetch-rule, store-rule, size-rule, get-slot-rule, set-slot-rule};
-ghost use Rattle.sheet.specs.Layout.{innerAt, ownerAt, namedOf, slotOf};
+ghost use Rattle.sheet.specs.Layout.{ownerAt, namedOf};
 ghost use Rattle.sheet.specs.Meaning.{innerIn, slotIn};
-
-// The QT number that declares a variable.
-pub fn inner_of(s: &[u8], pr: u32, x: u8) -> u8
-    ensures { λ r. ⌜ r ≡ innerAt (now (s .entry)) pr x ⌝ }
-{
-    byte(s, variable_at(pr, x), 2)
-}
 
 // The rest where a test holds, else a refusal.
 pub fn require(holds: bool, number: u8, rest: u8) -> u8
@@ -106,13 +100,6 @@ pub fn record_rule(s: &[u8], pr: u32, a: u8) -> u8
         8,
         require(has_none_above(named, rights_of(s, to)), 9, 0),
     )
-}
-
-// The QT number that declares slot k of a type; k is below the type's slots, which are at most 8.
-fn slot_of(s: &[u8], t: u8, k: u16) -> u8
-    ensures { λ r. ⌜ r ≡ slotOf (now (s .entry)) t k ⌝ }
-{
-    byte(s, type_at(t), 4 + (k as usize))
 }
 
 pub fn get_slot_rule(s: &[u8], pr: u32, a: u8, b: u8, k: u16) -> u8

@@ -1,63 +1,26 @@
 -- Laws of the tests of well-formedness, which the proofs of the passes and the layers above cite.
-use Prim.Native.Nat.{ℕ, zero, suc, _+_, _*_, _<_, _≤_}
-use mathlib.Core.Path.{_≡_, refl, sym, _∙_}
+use Prim.Native.Nat.{ℕ, zero, suc, _+_, _*_, _-_, _<_, _≤_}
+use mathlib.Core.Path.{_≡_, _∙_}
 use mathlib.Core.List.{List, [], _∷_, _++_}
-use mathlib.Core.Bool.{Bool, true, false, not, _&&_, _||_, cond}
-use mathlib.Core.Logic.{_⊎_, inl, inr}
+use mathlib.Core.Bool.{Bool, true, _&&_, cond}
 use native.Mathlib.Omega.{arith}
 use native.Mathlib.Numerals.{add-one}
 use lib.ListN.{length, getD}
 use lib.Dec.{eqb}
 use borrow.Author.Count.{below-more}
 use borrow.Author.Tests.{leb-true, ltb-true, eq-eqb, ne-eqb, le-leb, lt-ltb, le-ltb}
-use Rattle.model.specs.Refusal.{torn, stray-mark, bad-edition, off-scale, Test, Tests, tests, failure, refuse, verdict, all-from}
-use Rattle.model.specs.declared.Verdict.{Verdict}
-use Rattle.model.specs.declared.Verdict.the-variants.{Accepted, Refused}
-use Rattle.model.proofs.Verdicts.{verdict-append, then-accepted, then-refused, accepted-left, accepted-right, accepted-tests, passed-test, both-true}
+use Rattle.model.specs.Refusal.{torn, stray-mark, bad-edition, off-scale, Tests, tests, failure, verdict}
+use Rattle.model.specs.declared.Verdict.the-variants.{Accepted}
+use Rattle.model.proofs.Verdicts.{left-accepted, right-accepted, accepted-tests, passed-test, both-true, all-held}
 use Rattle.sheet.specs.Bytes.{byteAt, wordAt, wholeAt, markedAt}
 use Rattle.sheet.specs.Layout.{editionOf, typesOf, qualsOf, qualAt, proceduresOf, slotsOf, ownerAt, formalsAt, variablesAt, instructionsAt, variableAt, instructionAt, codeAt, kAt, procedureAt}
 use Rattle.sheet.specs.Places.{Places}
-use Rattle.sheet.proofs.Laws.{whole-true}
+use Rattle.sheet.specs.Reader.{recordAt, pastAt, leftAt}
+use Rattle.sheet.proofs.Laws.{whole-true, record-inside, record-byte, hd-sized}
 use Rattle.form.specs.Scale.{all-below, below-or-none, header-scale, actuals-scale}
 use Rattle.form.specs.WellFormed.{length-tests, record-tests, header-tests, layout-tests, instruction-tests-at, instruction-tests, call-tests-at, call-tests}
 
--- ---- one list of tests after another
-module _ (xs ys : List Tests) where
-  -- a function that gives back the first verdict because it refuses
-  pub stop-here : (v : Verdict) (n at : ℕ) → v ≡ verdict xs → v ≡ Refused n at → v ≡ verdict (xs ++ ys)
-  stop-here v n at e r = then-refused v (verdict xs) (verdict ys) n at e r ∙ sym (verdict-append xs ys)
-
-  -- and one that gives back the second because the first accepts
-  pub go-on : (v w : Verdict) → v ≡ verdict xs → v ≡ Accepted → w ≡ verdict ys → w ≡ verdict (xs ++ ys)
-  go-on v w e a f = f ∙ sym (verdict-append xs ys ∙ then-accepted v (verdict xs) (verdict ys) e a)
-
-  pub left-accepted : verdict (xs ++ ys) ≡ Accepted → verdict xs ≡ Accepted
-  left-accepted h = accepted-left (verdict xs) (verdict ys) (sym (verdict-append xs ys) ∙ h)
-
-  pub right-accepted : verdict (xs ++ ys) ≡ Accepted → verdict ys ≡ Accepted
-  right-accepted h = accepted-right (verdict xs) (verdict ys) (sym (verdict-append xs ys) ∙ h)
-
--- ---- tests that all hold, one by one
-abbrev pub Held : List Bool → Type 0
-Held [] = Unit
-Held (t ∷ ts) = (t ≡ true) × Held ts
-
-pub all-held : (b : Bool) (ts : List Bool) → all-from b ts ≡ true → (b ≡ true) × Held ts
-unfolding all-from
-all-held b [] h = (h, tt)
-all-held b (t ∷ ts) h =
-    let m = all-held (b && t) ts h in
-    let n = both-true b t (m .0) in
-    (n .0, (n .1, m .1))
-
 -- ---- single tests
-pub either-true : (a b : Bool) → a || b ≡ true → (a ≡ true) ⊎ (b ≡ true)
-either-true true b h = inl refl
-either-true false b h = inr h
-
-pub implied : (a b : Bool) → not a || b ≡ true → a ≡ true → b ≡ true
-implied a b h e = rw e at h
-
 -- f holds of each number below n
 pub all-below-true : (f : ℕ → Bool) (n : ℕ) → all-below n f ≡ true → (k : ℕ) → k < n → f k ≡ true
 all-below-true f zero h = λ k l. absurd (omega arith)
@@ -78,6 +41,21 @@ whole-here s at n h = le-leb (at + n) (length s) h
 pub mark-here : (s : List ℕ) (at m n : ℕ) → markedAt s at m n ≡ eqb (getD s at 0) m && eqb (getD s (at + 1) 0) n
 unfolding markedAt byteAt
 mark-here s at m n = let e : at + 0 ≡ at = omega arith in rw e
+
+-- ---- what a reader of records gives
+-- the HD, where it stands whole under its mark, has the header's fields
+pub header-field : (s hd : List ℕ) → hd ≡ recordAt s 0 → wholeAt s 0 6 ≡ true → markedAt s 0 72 68 ≡ true → (k r : ℕ) → k < 6 → r ≡ byteAt hd 0 k → r ≡ byteAt s 0 k
+header-field s hd e w m k r l h = h ∙ rw e (record-byte s 0 6 (hd-sized s 0 m) w k l)
+
+-- nothing is left after a record of 8 bytes exactly where it ends with the sheet
+module _ (s : List ℕ) (end n : ℕ) (b : 8 ≤ end) (e : pastAt s (end - 8) ≡ end) (h : n ≡ leftAt s (pastAt s (end - 8))) where
+  pub none-left : n ≡ 0 → end ≡ length s
+  unfolding pastAt leftAt
+  none-left z = omega (arith, record-inside s (end - 8), e, h)
+
+  pub some-left : (n ≡ 0 → ⊥) → end ≡ length s → ⊥
+  unfolding pastAt leftAt
+  some-left z q = omega (arith, record-inside s (end - 8), e, h, z)
 
 -- ---- places
 pub placed : (s table : List ℕ) → Places s table → (k : ℕ) → k ≤ proceduresOf s → k ≤ 64 → getD table k 0 ≡ procedureAt s k
@@ -118,6 +96,14 @@ record-formed s at size m n scale h =
     let k = passed-test stray-mark (markedAt s at m n) _ (w .1) in
     (whole-true s at size (w .0), passed-test off-scale scale [] (k .1) .0)
 
+-- and under its mark
+pub record-marked : (s : List ℕ) (at size m n : ℕ) (scale : Bool) → verdict (record-tests s at size m n scale) ≡ Accepted
+    → (wholeAt s at size ≡ true) × (markedAt s at m n ≡ true)
+unfolding record-tests
+record-marked s at size m n scale h =
+    let w = passed-test torn (wholeAt s at size) _ (accepted-tests at _ h) in
+    (w .0, passed-test stray-mark (markedAt s at m n) _ (w .1) .0)
+
 -- few types, qualified types and procedures, and at least one procedure
 pub header-small : (s : List ℕ) → verdict (header-tests s) ≡ Accepted
     → (typesOf s ≤ 32) × (qualsOf s ≤ 64) × (1 ≤ proceduresOf s) × (proceduresOf s ≤ 64)
@@ -128,19 +114,6 @@ header-small s h =
     let e = passed-test bad-edition (eqb (editionOf s) 1) _ (k .1) in
     let l = all-held true _ (passed-test off-scale (header-scale (typesOf s) (qualsOf s) (proceduresOf s)) [] (e .1) .0) .1 in
     (leb-true (typesOf s) 32 (l .0), leb-true (qualsOf s) 64 (l .1 .0), leb-true 1 (proceduresOf s) (l .1 .1 .0), leb-true (proceduresOf s) 64 (l .1 .1 .1 .0))
-
--- a record whose tests were counted out: all hold, or the first that fails
-pub tests-pass : (n at : ℕ) (ts : List Test) → n ≡ failure ts → n ≡ 0 → Accepted ≡ verdict (tests at ts ∷ [])
-unfolding verdict refuse
-tests-pass n at ts e h = let q : failure ts ≡ 0 = sym e ∙ h in rw q
-
-pub tests-stop : (n at : ℕ) (ts : List Test) → n ≡ failure ts → (n ≡ 0 → ⊥) → Refused n at ≡ verdict (tests at ts ∷ [])
-unfolding verdict refuse
-tests-stop n at ts e h = rw (← e) (go n h)
-  where
-    go : (n : ℕ) → (n ≡ 0 → ⊥) → Refused n at ≡ refuse n at Accepted
-    go zero h = absurd (h refl)
-    go (suc n) h = refl
 
 -- the tests of a call, from what was read: no call, no such procedure, and else its actuals
 module _ (s : List ℕ) (v at : ℕ) where

@@ -9,20 +9,18 @@ use lib.ListN.{length}
 use lib.Dec.{eqb, ltb, leb}
 use borrow.Author.Tests.{ltb-true, leb-true, eqb-true, eqb-false, eq-eqb, ne-eqb, lt-ltb, le-leb}
 use Rattle.model.specs.Rules.{callee}
-use Rattle.model.specs.Refusal.{overlong, torn, off-scale, Tests, failure, verdict, each}
+use Rattle.model.specs.Refusal.{overlong, torn, off-scale, failure, verdict, each}
 use Rattle.model.specs.declared.Operation.{Operation}
 use Rattle.model.specs.declared.Operation.the-variants.{Call, Return}
 use Rattle.model.specs.declared.Verdict.the-variants.{Accepted}
-use Rattle.model.proofs.Verdicts.{accepted-span, accepted-tests, passed-test, both-true}
+use Rattle.model.proofs.Verdicts.{left-accepted, right-accepted, each-accepted, accepted-tests, passed-test, both-true, either-true, implied, Held, all-held}
 use Rattle.sheet.specs.Bytes.{byteAt}
 use Rattle.sheet.specs.Layout.{typesOf, qualsOf, proceduresOf, typeAt, namedOf, slotsOf, slotOf, qualAt, baseOf, rightsOf, elementOf, ownerAt, formalsAt, variablesAt, resultAt, instructionsAt, variableAt, innerAt, needAt, instructionAt, codeAt, kAt, procedureAt}
 use Rattle.sheet.specs.Decode.{decode, operationAt}
 use Rattle.form.specs.Scale.{all-below, below-or-none, type-scale, rights-scale, qual-scale, procedure-scale, variable-scale, from-to, uses-b, uses-c, a-scale, b-scale, c-scale, k-scale, instruction-scale, actuals-scale}
-use Rattle.form.specs.WellFormed.{length-tests, header-tests, type-tests, qual-tests, head-tests, variable-tests, instruction-tests-at, instruction-tests, procedure-tests-at, procedure-tests, leftover-tests, layout-tests, call-tests-at, call-tests, procedure-calls, calls-tests, form-tests}
-use Rattle.form.proofs.Laws.{left-accepted, right-accepted, Held, all-held, either-true, implied, all-below-true, due-below, record-formed, header-small}
-
-each-accepted : (f : ℕ → List Tests) (n : ℕ) → verdict (each n f) ≡ Accepted → (k : ℕ) → k < n → verdict (f k) ≡ Accepted
-each-accepted f n h k l = let e : 0 + k ≡ k = omega arith in rw e at (accepted-span f n 0 h k l)
+use Rattle.form.specs.WellFormed.{length-tests, header-tests, type-tests, qual-tests, variable-tests, instruction-tests-at, instruction-tests, procedure-tests, leftover-tests, layout-tests, call-tests-at, call-tests, procedure-calls, calls-tests, form-tests}
+use Rattle.form.proofs.Laws.{all-below-true, due-below, record-formed, header-small}
+use Rattle.form.proofs.Procedures.{variables-accepted, instructions-accepted, head-whole, head-true, some-instruction}
 
 -- the fields of instruction i of procedure p
 abbrev pub code-in : List ℕ → ℕ → ℕ → ℕ
@@ -118,6 +116,39 @@ module _ (code k : ℕ) where
       last true = refl
       last false = refl
 
+-- only code 16 is a call's
+module _ (code a b c k x y z : ℕ) where
+  not-call : (j : ℕ) (o o′ : Operation) → (o ≡ Call x y z → ⊥) → cond (eqb code j) o o′ ≡ Call x y z → o′ ≡ Call x y z
+  not-call j o o′ n e = go (eqb code j) e
+    where
+      go : (t : Bool) → cond t o o′ ≡ Call x y z → o′ ≡ Call x y z
+      go true e = absurd (n e)
+      go false e = e
+
+  pub call-decoded : decode code a b c k ≡ Call x y z → (code ≡ 16) × (b ≡ y) × (k ≡ z)
+  unfolding decode
+  call-decoded e =
+      last (eqb code 16) refl
+      (not-call 15 _ _ (λ q. absurd (let n : _≡_ {A = ℕ} 0 1 = cc in omega arith))
+      (not-call 14 _ _ (λ q. absurd (let n : _≡_ {A = ℕ} 0 1 = cc in omega arith))
+      (not-call 13 _ _ (λ q. absurd (let n : _≡_ {A = ℕ} 0 1 = cc in omega arith))
+      (not-call 12 _ _ (λ q. absurd (let n : _≡_ {A = ℕ} 0 1 = cc in omega arith))
+      (not-call 11 _ _ (λ q. absurd (let n : _≡_ {A = ℕ} 0 1 = cc in omega arith))
+      (not-call 10 _ _ (λ q. absurd (let n : _≡_ {A = ℕ} 0 1 = cc in omega arith))
+      (not-call 9 _ _ (λ q. absurd (let n : _≡_ {A = ℕ} 0 1 = cc in omega arith))
+      (not-call 8 _ _ (λ q. absurd (let n : _≡_ {A = ℕ} 0 1 = cc in omega arith))
+      (not-call 7 _ _ (λ q. absurd (let n : _≡_ {A = ℕ} 0 1 = cc in omega arith))
+      (not-call 6 _ _ (λ q. absurd (let n : _≡_ {A = ℕ} 0 1 = cc in omega arith))
+      (not-call 5 _ _ (λ q. absurd (let n : _≡_ {A = ℕ} 0 1 = cc in omega arith))
+      (not-call 4 _ _ (λ q. absurd (let n : _≡_ {A = ℕ} 0 1 = cc in omega arith))
+      (not-call 3 _ _ (λ q. absurd (let n : _≡_ {A = ℕ} 0 1 = cc in omega arith))
+      (not-call 2 _ _ (λ q. absurd (let n : _≡_ {A = ℕ} 0 1 = cc in omega arith))
+      (not-call 1 _ _ (λ q. absurd (let n : _≡_ {A = ℕ} 0 1 = cc in omega arith)) e)))))))))))))))
+    where
+      last : (t : Bool) → eqb code 16 ≡ t → cond t (Call a b k) (Return a) ≡ Call x y z → (code ≡ 16) × (b ≡ y) × (k ≡ z)
+      last true h e = (eqb-true code 16 h, cc, cc)
+      last false h e = absurd (let n : _≡_ {A = ℕ} 0 1 = cc in omega arith)
+
 -- ---- a well-formed sheet
 module _ (s : List ℕ) (wf : verdict (form-tests s) ≡ Accepted) where
   layout-accepted : verdict (layout-tests s) ≡ Accepted
@@ -134,6 +165,9 @@ module _ (s : List ℕ) (wf : verdict (form-tests s) ≡ Accepted) where
 
   after-quals : verdict (each (proceduresOf s) (procedure-tests s) ++ leftover-tests s (procedureAt s (proceduresOf s))) ≡ Accepted
   after-quals = right-accepted (each (qualsOf s) (qual-tests s)) _ after-types
+
+  procedures-accepted : verdict (each (proceduresOf s) (procedure-tests s)) ≡ Accepted
+  procedures-accepted = left-accepted (each (proceduresOf s) (procedure-tests s)) _ after-quals
 
   -- at most 32,768 bytes
   pub form-short : length s ≤ 32768
@@ -199,55 +233,46 @@ module _ (s : List ℕ) (wf : verdict (form-tests s) ≡ Accepted) where
 
   -- a procedure
   module _ (p : ℕ) (l : p < proceduresOf s) where
-    procedure-formed : verdict (procedure-tests-at s p (procedureAt s p)) ≡ Accepted
-    unfolding procedure-tests
-    procedure-formed =
-        each-accepted (procedure-tests s) (proceduresOf s) (left-accepted (each (proceduresOf s) (procedure-tests s)) _ after-quals) p l
+    head-held : procedure-scale (typesOf s) (qualsOf s) p (ownerAt s (procedureAt s p)) (formalsAt s (procedureAt s p)) (variablesAt s (procedureAt s p)) (resultAt s (procedureAt s p)) (instructionsAt s (procedureAt s p)) ≡ true
+    head-held = head-true s procedures-accepted p l
 
-    after-head : verdict (each (variablesAt s (procedureAt s p)) (variable-tests s (procedureAt s p)) ++ each (instructionsAt s (procedureAt s p)) (instruction-tests s (procedureAt s p))) ≡ Accepted
-    unfolding procedure-tests-at
-    after-head = right-accepted (head-tests s p (procedureAt s p)) _ procedure-formed
-
-    head-true : procedure-scale (typesOf s) (qualsOf s) p (ownerAt s (procedureAt s p)) (formalsAt s (procedureAt s p)) (variablesAt s (procedureAt s p)) (resultAt s (procedureAt s p)) (instructionsAt s (procedureAt s p)) ≡ true
-    unfolding procedure-tests-at head-tests
-    head-true =
-        let pr = procedureAt s p in
-        record-formed s pr 8 80 82 _ (left-accepted (head-tests s p pr) _ procedure-formed) .1
+    -- the eight bytes of its PR stand within the sheet
+    pub procedure-whole : procedureAt s p + 8 ≤ length s
+    procedure-whole = head-whole s procedures-accepted p l
 
     pub owner-kind : (ownerAt s (procedureAt s p) ≡ 0) ⊎ ((2 ≤ ownerAt s (procedureAt s p)) × (ownerAt s (procedureAt s p) < typesOf s + 2))
     unfolding procedure-scale
     owner-kind =
         let o = ownerAt s (procedureAt s p) in
-        let h = all-held true _ head-true .1 in
+        let h = all-held true _ head-held .1 in
         ⊎-elim (λ x. inl (eqb-true o 0 x))
         (λ y. let z = both-true (leb 2 o) (ltb o (typesOf s + 2)) y in inr (leb-true 2 o (z .0), ltb-true o (typesOf s + 2) (z .1)))
         (either-true (eqb o 0) (leb 2 o && ltb o (typesOf s + 2)) (h .0))
 
     pub formals-few : formalsAt s (procedureAt s p) ≤ 8
     unfolding procedure-scale
-    formals-few = leb-true (formalsAt s (procedureAt s p)) 8 (all-held true _ head-true .1 .1 .0)
+    formals-few = leb-true (formalsAt s (procedureAt s p)) 8 (all-held true _ head-held .1 .1 .0)
 
     pub formals-first : formalsAt s (procedureAt s p) ≤ variablesAt s (procedureAt s p)
     unfolding procedure-scale
-    formals-first = leb-true (formalsAt s (procedureAt s p)) (variablesAt s (procedureAt s p)) (all-held true _ head-true .1 .1 .1 .0)
+    formals-first = leb-true (formalsAt s (procedureAt s p)) (variablesAt s (procedureAt s p)) (all-held true _ head-held .1 .1 .1 .0)
 
     pub variables-few : variablesAt s (procedureAt s p) ≤ 32
     unfolding procedure-scale
-    variables-few = leb-true (variablesAt s (procedureAt s p)) 32 (all-held true _ head-true .1 .1 .1 .1 .0)
+    variables-few = leb-true (variablesAt s (procedureAt s p)) 32 (all-held true _ head-held .1 .1 .1 .1 .0)
 
     pub result-below : (resultAt s (procedureAt s p) ≡ 255 → ⊥) → resultAt s (procedureAt s p) < qualsOf s
     unfolding procedure-scale
     result-below n =
         let r = resultAt s (procedureAt s p) in
-        ltb-true r (qualsOf s) (rw (ne-eqb r 255 n) at (all-held true _ head-true .1 .1 .1 .1 .1 .0))
+        ltb-true r (qualsOf s) (rw (ne-eqb r 255 n) at (all-held true _ head-held .1 .1 .1 .1 .1 .0))
 
     pub instructions-some : 1 ≤ instructionsAt s (procedureAt s p)
-    unfolding procedure-scale
-    instructions-some = leb-true 1 (instructionsAt s (procedureAt s p)) (all-held true _ head-true .1 .1 .1 .1 .1 .1 .0)
+    instructions-some = some-instruction s procedures-accepted p l
 
     pub instructions-few : instructionsAt s (procedureAt s p) ≤ 1000
     unfolding procedure-scale
-    instructions-few = leb-true (instructionsAt s (procedureAt s p)) 1000 (all-held true _ head-true .1 .1 .1 .1 .1 .1 .1 .0)
+    instructions-few = leb-true (instructionsAt s (procedureAt s p)) 1000 (all-held true _ head-held .1 .1 .1 .1 .1 .1 .1 .0)
 
     -- a variable of it
     module _ (x : ℕ) (m : x < variablesAt s (procedureAt s p)) where
@@ -255,7 +280,7 @@ module _ (s : List ℕ) (wf : verdict (form-tests s) ≡ Accepted) where
       unfolding variable-tests variable-scale
       variable-held =
           let pr = procedureAt s p in
-          let h = each-accepted (variable-tests s pr) (variablesAt s pr) (left-accepted (each (variablesAt s pr) (variable-tests s pr)) _ after-head) x m in
+          let h = each-accepted (variable-tests s pr) (variablesAt s pr) (variables-accepted s procedures-accepted p l) x m in
           all-held true _ (record-formed s (variableAt pr x) 4 86 82 _ h .1) .1
 
       pub inner-below : innerAt s (procedureAt s p) x < qualsOf s
@@ -276,7 +301,7 @@ module _ (s : List ℕ) (wf : verdict (form-tests s) ≡ Accepted) where
       instruction-formed =
           let pr = procedureAt s p in
           record-formed s (instructionAt s pr i) 8 73 78 _
-          (each-accepted (instruction-tests s pr) (instructionsAt s pr) (right-accepted (each (variablesAt s pr) (variable-tests s pr)) _ after-head) i m)
+          (each-accepted (instruction-tests s pr) (instructionsAt s pr) (instructions-accepted s procedures-accepted p l) i m)
 
       -- its eight bytes stand within the sheet
       pub instruction-whole : instructionAt s (procedureAt s p) i + 8 ≤ length s
@@ -352,6 +377,14 @@ module _ (s : List ℕ) (wf : verdict (form-tests s) ≡ Accepted) where
           → b-in s p i + j < variablesAt s (procedureAt s p)
       actual-below e = actuals-named _ _ _ (call-held e .1)
 
+      -- the same of the operation itself
+      pub actuals-there : (a b k : ℕ) → operationAt s (instructionAt s (procedureAt s p) i) ≡ Call a b k
+          → (j : ℕ) → j < formalsAt s (procedureAt s k) → b + j < variablesAt s (procedureAt s p)
+      unfolding operationAt
+      actuals-there a b k e =
+          let told = call-decoded (code-in s p i) (a-in s p i) (b-in s p i) (c-in s p i) (k-in s p i) a b k e in
+          rw (told .1, told .2) at (actual-below (told .0))
+
       pub callee-below : callee (operationAt s (instructionAt s (procedureAt s p) i)) < proceduresOf s
       unfolding operationAt
       callee-below =
@@ -372,6 +405,6 @@ module _ (s : List ℕ) (wf : verdict (form-tests s) ≡ Accepted) where
   unfolding procedure-scale
   main-plain =
       let pr = procedureAt s 0 in
-      let h = both-true (eqb (ownerAt s pr) 0 && eqb (formalsAt s pr) 0) (eqb (resultAt s pr) 255) (all-held true _ (head-true 0 (form-small .2)) .1 .1 .1 .1 .1 .1 .1 .1 .0) in
+      let h = both-true (eqb (ownerAt s pr) 0 && eqb (formalsAt s pr) 0) (eqb (resultAt s pr) 255) (all-held true _ (head-held 0 (form-small .2)) .1 .1 .1 .1 .1 .1 .1 .1 .0) in
       let g = both-true (eqb (ownerAt s pr) 0) (eqb (formalsAt s pr) 0) (h .0) in
       (eqb-true (ownerAt s pr) 0 (g .0), eqb-true (formalsAt s pr) 0 (g .1), eqb-true (resultAt s pr) 255 (h .1))

@@ -6,17 +6,18 @@ use crate::records::qual_record;
 use crate::records::type_record;
 use crate::records::variable_record;
 use model::Verdict;
+use reader::left_after;
 use sheet::bytes::byte;
 use sheet::bytes::word;
 use sheet::places::instruction_at;
 use sheet::places::type_at;
 ghost use mathlib.Core.Path.{_≡_};
 ghost use mathlib.Core.List.{_++_};
-ghost use Prim.Native.Nat.{_≤_, _<_};
-ghost use lib.ListN.{length};
+ghost use Prim.Native.Nat.{_-_, _≤_, _<_};
 ghost use Rattle.model.specs.Refusal.{verdict, each};
-ghost use Rattle.sheet.specs.Layout.{typesOf, qualsOf, proceduresOf, variablesAt, instructionsAt, procedureAt};
+ghost use Rattle.sheet.specs.Layout.{proceduresOf, variablesAt, instructionsAt};
 ghost use Rattle.sheet.specs.Places.{Places};
+ghost use Rattle.sheet.specs.Reader.{pastAt};
 ghost use Rattle.form.specs.WellFormed.{length-tests, type-tests, qual-tests, variable-tests, instruction-tests, procedure-tests-at, procedure-tests, leftover-tests, layout-tests};
 
 fn types_pass(s: &[u8], t: u8) -> Verdict
@@ -113,12 +114,14 @@ fn procedures_pass(s: &[u8], table: &[u32; 65], n: usize) -> Verdict
     Verdict::Accepted
 }
 
-// No byte is left over after the last record.
+// No byte is left over after the last record, an IN, which ends at a place.
 fn leftover(s: &[u8], end: u32) -> Verdict
+    requires { ⌜ 8 ≤ end ⌝ }
+    requires { ⌜ pastAt (now s) (end - 8) ≡ end ⌝ }
     ensures { λ r. ⌜ r ≡ verdict (leftover-tests (now (s .entry)) end) ⌝ }
 {
     let at = end as usize;
-    if at == s.len() {
+    if left_after(s, at - 8) == 0 {
         return Verdict::Accepted;
     }
     Verdict::Refused(2, at)

@@ -6,6 +6,7 @@ use crate::scale::qual_scale;
 use crate::scale::scale_by_code;
 use crate::scale::variable_scale;
 use model::Verdict;
+use reader::first_record;
 use sheet::bytes::byte;
 use sheet::bytes::marked;
 use sheet::bytes::whole;
@@ -19,7 +20,6 @@ ghost use lib.Dec.{ltb};
 ghost use lib.ListN.{length};
 ghost use Rattle.model.specs.Refusal.{verdict};
 ghost use Rattle.sheet.specs.Bytes.{byteAt};
-ghost use Rattle.sheet.specs.Layout.{qualsOf, namedOf, slotsOf, slotOf, typeAt};
 ghost use Rattle.form.specs.Scale.{below-or-none, type-scale};
 ghost use Rattle.form.specs.WellFormed.{record-tests, header-tests, type-tests, qual-tests, head-tests, variable-tests, instruction-tests-at};
 
@@ -39,13 +39,15 @@ fn record(s: &[u8], at: usize, size: usize, m: u8, n: u8, scale: bool) -> Verdic
     Verdict::Refused(2, at)
 }
 
+// The HD. Where it stands whole under its mark, its fields are read from the part of the sheet that a reader gives.
 pub fn header(s: &[u8]) -> Verdict
     ensures { λ r. ⌜ r ≡ verdict (header-tests (now (s .entry))) ⌝ }
 {
-    let scale = header_scale(byte(s, 0, 3), byte(s, 0, 4), byte(s, 0, 5));
     if whole(s, 0, 6) {
         if marked(s, 0, b'H', b'D') {
-            if byte(s, 0, 2) == 1 {
+            let hd = first_record(s);
+            let scale = header_scale(byte(hd, 0, 3), byte(hd, 0, 4), byte(hd, 0, 5));
+            if byte(hd, 0, 2) == 1 {
                 if scale {
                     return Verdict::Accepted;
                 }
@@ -99,7 +101,7 @@ pub fn qual_record(s: &[u8], j: u8) -> Verdict
         named,
         j,
         base,
-        word(s, at, 3),
+        word(s, at, 3) as u32,
         byte(s, at, 5),
     );
     record(s, at, 6, b'Q', b'T', scale)

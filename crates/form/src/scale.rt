@@ -24,7 +24,7 @@ pub fn header_scale(t: u8, q: u8, p: u8) -> bool
     (t <= 32) & (q <= 64) & (1 <= p) & (p <= 64)
 }
 
-fn rights_scale(named: u8, base: u8, rights: u16) -> bool
+fn rights_scale(named: u8, base: u8, rights: u32) -> bool
     ensures { λ r. ⌜ r ≡ rights-scale named base rights ⌝ }
 {
     let array = is_within(rights, 14);
@@ -35,7 +35,7 @@ fn rights_scale(named: u8, base: u8, rights: u16) -> bool
     )
 }
 
-pub fn qual_scale(t: u8, named: u8, j: u8, base: u8, rights: u16, element: u8) -> bool
+pub fn qual_scale(t: u8, named: u8, j: u8, base: u8, rights: u32, element: u8) -> bool
     ensures { λ r. ⌜ r ≡ qual-scale t named j base rights element ⌝ }
 {
     ((base as u16) < (t as u16) + 2)

@@ -1,1 +1,3 @@
 pub mod Performs
+pub mod Fetch
+pub mod Frames

@@ -1,13 +1,15 @@
 // What the caller's host, written in C, calls: numbers and slices only.
 use model::Verdict;
-use running::Reply;
+use replies::put_at;
+use replies::put_reply;
 ghost use mathlib.Core.Path.{_≡_};
 ghost use lib.ListN.{set};
+ghost use Rattle.model.specs.Modes.{plain};
 ghost use Rattle.model.specs.Refusal.{number-of, place-of};
 ghost use Rattle.checking.specs.Check.{check};
 ghost use Rattle.running.specs.Run as def;
 ghost use Rattle.running.specs.Run.{memory-after, output-after};
-ghost use Rattle.host.specs.Reply.{reply-words};
+ghost use Rattle.replies.specs.Words.{reply-words};
 
 // The number of the refusal, 0 where the sheet is accepted; its place goes to the first word of the reply, where there is one.
 #[no_mangle]
@@ -27,26 +29,6 @@ pub extern "C" fn wn_check(sheet: &[u8], reply: &mut [u64]) -> u64
     }
 }
 
-// A word of the reply, where it has one.
-fn put_at(words: &mut [u64], i: usize, word: u64)
-    ensures { λ r. ⌜ now (words .exit) ≡ set (now (words .entry)) i word ⌝ }
-{
-    if i < words.len() {
-        words[i] = word;
-    }
-}
-
-// Place, steps, words put, procedure, instruction, as far as the reply has words.
-fn put_reply(words: &mut [u64], r: Reply)
-    ensures { λ _. ⌜ now (words .exit) ≡ reply-words (now (words .entry)) r ⌝ }
-{
-    put_at(words, 0, r.place);
-    put_at(words, 1, r.steps);
-    put_at(words, 2, r.put);
-    put_at(words, 3, r.procedure);
-    put_at(words, 4, r.instruction);
-}
-
 // Runs a sheet on the plain machine: the number; the reply has the rest.
 #[no_mangle]
 pub extern "C" fn wn_run(
@@ -57,10 +39,10 @@ pub extern "C" fn wn_run(
     report: &mut [u32],
     reply: &mut [u64],
 ) -> u64
-    ensures { λ r. ⌜ r ≡ def.reply (now (sheet .entry)) (now (reads .entry)) fuel (now (bench .entry)) (now (report .entry)) .number ⌝ }
-    ensures { λ r. ⌜ now (bench .exit) ≡ memory-after (now (sheet .entry)) (now (reads .entry)) fuel (now (bench .entry)) (now (report .entry)) ⌝ }
-    ensures { λ r. ⌜ now (report .exit) ≡ output-after (now (sheet .entry)) (now (reads .entry)) fuel (now (bench .entry)) (now (report .entry)) ⌝ }
-    ensures { λ r. ⌜ now (reply .exit) ≡ reply-words (now (reply .entry)) (def.reply (now (sheet .entry)) (now (reads .entry)) fuel (now (bench .entry)) (now (report .entry))) ⌝ }
+    ensures { λ r. ⌜ r ≡ def.reply plain (now (sheet .entry)) (now (reads .entry)) fuel (now (bench .entry)) (now (report .entry)) .number ⌝ }
+    ensures { λ r. ⌜ now (bench .exit) ≡ memory-after plain (now (sheet .entry)) (now (reads .entry)) fuel (now (bench .entry)) (now (report .entry)) ⌝ }
+    ensures { λ r. ⌜ now (report .exit) ≡ output-after plain (now (sheet .entry)) (now (reads .entry)) fuel (now (bench .entry)) (now (report .entry)) ⌝ }
+    ensures { λ r. ⌜ now (reply .exit) ≡ reply-words (now (reply .entry)) (def.reply plain (now (sheet .entry)) (now (reads .entry)) fuel (now (bench .entry)) (now (report .entry))) ⌝ }
 {
     let r = running::run(sheet, reads, fuel, bench, report);
     put_reply(reply, r);

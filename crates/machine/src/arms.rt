@@ -1,12 +1,12 @@
 // Each operation: what it asks for (crate plans), done (crate writers).
 use plans::add_of;
+use plans::array_size_of;
 use plans::fetch_of;
 use plans::get_of;
 use plans::integer_at;
 use plans::less_of;
 use plans::moved_at;
 use plans::set_at;
-use plans::size_of;
 use plans::store_at;
 use plans::subtract_of;
 use sheet::bytes::byte;
@@ -28,21 +28,21 @@ ghost use mathlib.Core.Path.{_≡_};
 ghost use mathlib.Core.List.{List};
 ghost use Prim.Native.Nat.{ℕ, _<_};
 ghost use lib.ListN.{length, take, drop};
+ghost use Rattle.model.specs.Qualified.{Qual};
 ghost use Rattle.model.specs.Program.{Program};
 ghost use Rattle.model.specs.Modes.{plain};
 ghost use Rattle.model.specs.Machine.{View, plan};
 ghost use Rattle.model.specs.declared.Operation.the-variants as Op;
 ghost use Rattle.sheet.specs.Layout.{ownerAt, slotsOf};
 ghost use Rattle.words.specs.Sees.{Sees};
-ghost use Rattle.words.specs.Answers.{MovedOk, StoredOk, given, moved-to, stored};
+ghost use Rattle.words.specs.Answers.{Unless-stuck, MovedOk, StoredOk, given, moved-to, stored};
 ghost use Rattle.writers.specs.Memory.{Sane};
 ghost use Rattle.frames.specs.Performs.{Loaded, Performs};
 
-// What is read of the running frame's part of the memory and of the objects' part.
+// What is read of the running frame's part of the memory and of the objects' part, where the definition is not stuck.
 fn fetch_in(memory: &[u64], r: Registers, b: u8, c: u8) -> Moved
     requires { ⌜ Sane (length (now memory)) r ⌝ }
-    ensures { λ m. ⌜ ((g : Program) (v : View plain) (a : ℕ) → Sees v (take (r .variables) (drop (r .base) (now (memory .entry)))) (take (r .used) (now (memory .entry))) → moved-to a m ≡ plan plain g v (Op.Fetch a b c)) ⌝ }
-    ensures { λ m. ⌜ MovedOk m ⌝ }
+    ensures { λ m. ⌜ ((q : ℕ → Qual) (g : Program) (v : View plain) (a : ℕ) → Sees plain q v (take (r .variables) (drop (r .base) (now (memory .entry)))) (take (r .used) (now (memory .entry))) → Unless-stuck (plan plain g v (Op.Fetch a b c)) (MovedOk m × (moved-to plain q a m ≡ plan plain g v (Op.Fetch a b c)))) ⌝ }
 {
     let base = r.base;
     let end = base + r.variables;
@@ -52,18 +52,17 @@ fn fetch_in(memory: &[u64], r: Registers, b: u8, c: u8) -> Moved
 
 fn size_in(memory: &[u64], r: Registers, b: u8) -> Number
     requires { ⌜ Sane (length (now memory)) r ⌝ }
-    ensures { λ n. ⌜ ((g : Program) (v : View plain) (a : ℕ) → Sees v (take (r .variables) (drop (r .base) (now (memory .entry)))) (take (r .used) (now (memory .entry))) → given a n ≡ plan plain g v (Op.Size a b)) ⌝ }
+    ensures { λ n. ⌜ ((q : ℕ → Qual) (g : Program) (v : View plain) (a : ℕ) → Sees plain q v (take (r .variables) (drop (r .base) (now (memory .entry)))) (take (r .used) (now (memory .entry))) → Unless-stuck (plan plain g v (Op.Size a b)) (given plain a n ≡ plan plain g v (Op.Size a b))) ⌝ }
 {
     let base = r.base;
     let end = base + r.variables;
     let used = r.used;
-    size_of(&memory[base..end], &memory[..used], b)
+    array_size_of(&memory[base..end], &memory[..used], b)
 }
 
 fn get_in(memory: &[u64], r: Registers, b: u8, k: u16) -> Moved
     requires { ⌜ Sane (length (now memory)) r ⌝ }
-    ensures { λ m. ⌜ ((g : Program) (v : View plain) (a : ℕ) → Sees v (take (r .variables) (drop (r .base) (now (memory .entry)))) (take (r .used) (now (memory .entry))) → moved-to a m ≡ plan plain g v (Op.GetSlot a b k)) ⌝ }
-    ensures { λ m. ⌜ MovedOk m ⌝ }
+    ensures { λ m. ⌜ ((q : ℕ → Qual) (g : Program) (v : View plain) (a : ℕ) → Sees plain q v (take (r .variables) (drop (r .base) (now (memory .entry)))) (take (r .used) (now (memory .entry))) → Unless-stuck (plan plain g v (Op.GetSlot a b k)) (MovedOk m × (moved-to plain q a m ≡ plan plain g v (Op.GetSlot a b k)))) ⌝ }
 {
     let base = r.base;
     let end = base + r.variables;
@@ -73,8 +72,7 @@ fn get_in(memory: &[u64], r: Registers, b: u8, k: u16) -> Moved
 
 fn store_in(memory: &[u64], r: Registers, a: u8, b: u8, c: u8) -> Stored
     requires { ⌜ Sane (length (now memory)) r ⌝ }
-    ensures { λ m. ⌜ ((g : Program) (v : View plain) → Sees v (take (r .variables) (drop (r .base) (now (memory .entry)))) (take (r .used) (now (memory .entry))) → stored m ≡ plan plain g v (Op.Store a b c)) ⌝ }
-    ensures { λ m. ⌜ StoredOk (take (r .used) (now (memory .entry))) m ⌝ }
+    ensures { λ m. ⌜ ((q : ℕ → Qual) (g : Program) (v : View plain) → Sees plain q v (take (r .variables) (drop (r .base) (now (memory .entry)))) (take (r .used) (now (memory .entry))) → Unless-stuck (plan plain g v (Op.Store a b c)) (StoredOk (take (r .used) (now (memory .entry))) m × (stored plain q m ≡ plan plain g v (Op.Store a b c)))) ⌝ }
 {
     let base = r.base;
     let end = base + r.variables;
@@ -84,19 +82,17 @@ fn store_in(memory: &[u64], r: Registers, a: u8, b: u8, c: u8) -> Stored
 
 fn set_in(memory: &[u64], r: Registers, a: u8, b: u8, k: u16) -> Stored
     requires { ⌜ Sane (length (now memory)) r ⌝ }
-    ensures { λ m. ⌜ ((g : Program) (v : View plain) → Sees v (take (r .variables) (drop (r .base) (now (memory .entry)))) (take (r .used) (now (memory .entry))) → stored m ≡ plan plain g v (Op.SetSlot a b k)) ⌝ }
-    ensures { λ m. ⌜ StoredOk (take (r .used) (now (memory .entry))) m ⌝ }
+    ensures { λ m. ⌜ ((q : ℕ → Qual) (g : Program) (v : View plain) → Sees plain q v (take (r .variables) (drop (r .base) (now (memory .entry)))) (take (r .used) (now (memory .entry))) → Unless-stuck (plan plain g v (Op.SetSlot a b k)) (StoredOk (take (r .used) (now (memory .entry))) m × (stored plain q m ≡ plan plain g v (Op.SetSlot a b k)))) ⌝ }
 {
     let base = r.base;
     let end = base + r.variables;
-    let used = r.used;
-    set_at(&memory[base..end], &memory[..used], a, b, k)
+    set_at(&memory[base..end], a, b, k)
 }
 
 pub fn set(memory: &mut [u64], r: Registers, a: u8, k: u16) -> Stepped
     requires { ⌜ Sane (length (now memory)) r ⌝ }
     requires { ⌜ r .next < 65536 ⌝ }
-    ensures { λ o. ⌜ ((s input out : List ℕ) → Performs s input (now (memory .entry)) (now (memory .exit)) out out r o (Op.Set a k)) ⌝ }
+    ensures { λ o. ⌜ ((s input out : List ℕ) → Performs plain s input (now (memory .entry)) (now (memory .exit)) out out r o (Op.Set a k)) ⌝ }
 {
     give_number(memory, r, a, Number::Is(k as u32))
 }
@@ -104,7 +100,7 @@ pub fn set(memory: &mut [u64], r: Registers, a: u8, k: u16) -> Stepped
 pub fn add(memory: &mut [u64], r: Registers, a: u8, b: u8, c: u8) -> Stepped
     requires { ⌜ Sane (length (now memory)) r ⌝ }
     requires { ⌜ r .next < 65536 ⌝ }
-    ensures { λ o. ⌜ ((s input out : List ℕ) → Performs s input (now (memory .entry)) (now (memory .exit)) out out r o (Op.Add a b c)) ⌝ }
+    ensures { λ o. ⌜ ((s input out : List ℕ) → Performs plain s input (now (memory .entry)) (now (memory .exit)) out out r o (Op.Add a b c)) ⌝ }
 {
     let base = r.base;
     let end = base + r.variables;
@@ -115,7 +111,7 @@ pub fn add(memory: &mut [u64], r: Registers, a: u8, b: u8, c: u8) -> Stepped
 pub fn subtract(memory: &mut [u64], r: Registers, a: u8, b: u8, c: u8) -> Stepped
     requires { ⌜ Sane (length (now memory)) r ⌝ }
     requires { ⌜ r .next < 65536 ⌝ }
-    ensures { λ o. ⌜ ((s input out : List ℕ) → Performs s input (now (memory .entry)) (now (memory .exit)) out out r o (Op.Subtract a b c)) ⌝ }
+    ensures { λ o. ⌜ ((s input out : List ℕ) → Performs plain s input (now (memory .entry)) (now (memory .exit)) out out r o (Op.Subtract a b c)) ⌝ }
 {
     let base = r.base;
     let end = base + r.variables;
@@ -126,7 +122,7 @@ pub fn subtract(memory: &mut [u64], r: Registers, a: u8, b: u8, c: u8) -> Steppe
 pub fn less(memory: &mut [u64], r: Registers, a: u8, b: u8, c: u8) -> Stepped
     requires { ⌜ Sane (length (now memory)) r ⌝ }
     requires { ⌜ r .next < 65536 ⌝ }
-    ensures { λ o. ⌜ ((s input out : List ℕ) → Performs s input (now (memory .entry)) (now (memory .exit)) out out r o (Op.Less a b c)) ⌝ }
+    ensures { λ o. ⌜ ((s input out : List ℕ) → Performs plain s input (now (memory .entry)) (now (memory .exit)) out out r o (Op.Less a b c)) ⌝ }
 {
     let base = r.base;
     let end = base + r.variables;
@@ -137,7 +133,7 @@ pub fn less(memory: &mut [u64], r: Registers, a: u8, b: u8, c: u8) -> Stepped
 pub fn bind(memory: &mut [u64], r: Registers, a: u8, b: u8) -> Stepped
     requires { ⌜ Sane (length (now memory)) r ⌝ }
     requires { ⌜ r .next < 65536 ⌝ }
-    ensures { λ o. ⌜ ((s input out : List ℕ) → Performs s input (now (memory .entry)) (now (memory .exit)) out out r o (Op.Bind a b)) ⌝ }
+    ensures { λ o. ⌜ ((s input out : List ℕ) → Performs plain s input (now (memory .entry)) (now (memory .exit)) out out r o (Op.Bind a b)) ⌝ }
 {
     let base = r.base;
     let end = base + r.variables;
@@ -148,7 +144,7 @@ pub fn bind(memory: &mut [u64], r: Registers, a: u8, b: u8) -> Stepped
 pub fn fetch(memory: &mut [u64], r: Registers, a: u8, b: u8, c: u8) -> Stepped
     requires { ⌜ Sane (length (now memory)) r ⌝ }
     requires { ⌜ r .next < 65536 ⌝ }
-    ensures { λ o. ⌜ ((s input out : List ℕ) → Performs s input (now (memory .entry)) (now (memory .exit)) out out r o (Op.Fetch a b c)) ⌝ }
+    ensures { λ o. ⌜ ((s input out : List ℕ) → Performs plain s input (now (memory .entry)) (now (memory .exit)) out out r o (Op.Fetch a b c)) ⌝ }
 {
     let m = fetch_in(memory, r, b, c);
     give_moved(memory, r, a, m)
@@ -157,7 +153,7 @@ pub fn fetch(memory: &mut [u64], r: Registers, a: u8, b: u8, c: u8) -> Stepped
 pub fn size(memory: &mut [u64], r: Registers, a: u8, b: u8) -> Stepped
     requires { ⌜ Sane (length (now memory)) r ⌝ }
     requires { ⌜ r .next < 65536 ⌝ }
-    ensures { λ o. ⌜ ((s input out : List ℕ) → Performs s input (now (memory .entry)) (now (memory .exit)) out out r o (Op.Size a b)) ⌝ }
+    ensures { λ o. ⌜ ((s input out : List ℕ) → Performs plain s input (now (memory .entry)) (now (memory .exit)) out out r o (Op.Size a b)) ⌝ }
 {
     let n = size_in(memory, r, b);
     give_number(memory, r, a, n)
@@ -166,7 +162,7 @@ pub fn size(memory: &mut [u64], r: Registers, a: u8, b: u8) -> Stepped
 pub fn get_slot(memory: &mut [u64], r: Registers, a: u8, b: u8, k: u16) -> Stepped
     requires { ⌜ Sane (length (now memory)) r ⌝ }
     requires { ⌜ r .next < 65536 ⌝ }
-    ensures { λ o. ⌜ ((s input out : List ℕ) → Performs s input (now (memory .entry)) (now (memory .exit)) out out r o (Op.GetSlot a b k)) ⌝ }
+    ensures { λ o. ⌜ ((s input out : List ℕ) → Performs plain s input (now (memory .entry)) (now (memory .exit)) out out r o (Op.GetSlot a b k)) ⌝ }
 {
     let m = get_in(memory, r, b, k);
     give_moved(memory, r, a, m)
@@ -175,7 +171,7 @@ pub fn get_slot(memory: &mut [u64], r: Registers, a: u8, b: u8, k: u16) -> Stepp
 pub fn store(memory: &mut [u64], r: Registers, a: u8, b: u8, c: u8) -> Stepped
     requires { ⌜ Sane (length (now memory)) r ⌝ }
     requires { ⌜ r .next < 65536 ⌝ }
-    ensures { λ o. ⌜ ((s input out : List ℕ) → Performs s input (now (memory .entry)) (now (memory .exit)) out out r o (Op.Store a b c)) ⌝ }
+    ensures { λ o. ⌜ ((s input out : List ℕ) → Performs plain s input (now (memory .entry)) (now (memory .exit)) out out r o (Op.Store a b c)) ⌝ }
 {
     let m = store_in(memory, r, a, b, c);
     store_cell(memory, r, m)
@@ -184,7 +180,7 @@ pub fn store(memory: &mut [u64], r: Registers, a: u8, b: u8, c: u8) -> Stepped
 pub fn set_slot(memory: &mut [u64], r: Registers, a: u8, b: u8, k: u16) -> Stepped
     requires { ⌜ Sane (length (now memory)) r ⌝ }
     requires { ⌜ r .next < 65536 ⌝ }
-    ensures { λ o. ⌜ ((s input out : List ℕ) → Performs s input (now (memory .entry)) (now (memory .exit)) out out r o (Op.SetSlot a b k)) ⌝ }
+    ensures { λ o. ⌜ ((s input out : List ℕ) → Performs plain s input (now (memory .entry)) (now (memory .exit)) out out r o (Op.SetSlot a b k)) ⌝ }
 {
     let m = set_in(memory, r, a, b, k);
     store_cell(memory, r, m)
@@ -193,7 +189,7 @@ pub fn set_slot(memory: &mut [u64], r: Registers, a: u8, b: u8, k: u16) -> Stepp
 pub fn new_array(memory: &mut [u64], r: Registers, a: u8, b: u8) -> Stepped
     requires { ⌜ Sane (length (now memory)) r ⌝ }
     requires { ⌜ r .next < 65536 ⌝ }
-    ensures { λ o. ⌜ ((s input out : List ℕ) → Performs s input (now (memory .entry)) (now (memory .exit)) out out r o (Op.NewArray a b)) ⌝ }
+    ensures { λ o. ⌜ ((s input out : List ℕ) → Performs plain s input (now (memory .entry)) (now (memory .exit)) out out r o (Op.NewArray a b)) ⌝ }
 {
     let base = r.base;
     let end = base + r.variables;
@@ -204,7 +200,7 @@ pub fn new_array(memory: &mut [u64], r: Registers, a: u8, b: u8) -> Stepped
 pub fn jump_zero(memory: &[u64], r: Registers, a: u8, k: u16) -> Stepped
     requires { ⌜ Sane (length (now memory)) r ⌝ }
     requires { ⌜ r .next < 65536 ⌝ }
-    ensures { λ o. ⌜ ((s input out : List ℕ) → Performs s input (now (memory .entry)) (now (memory .entry)) out out r o (Op.JumpZero a k)) ⌝ }
+    ensures { λ o. ⌜ ((s input out : List ℕ) → Performs plain s input (now (memory .entry)) (now (memory .entry)) out out r o (Op.JumpZero a k)) ⌝ }
 {
     let base = r.base;
     let end = base + r.variables;
@@ -214,7 +210,7 @@ pub fn jump_zero(memory: &[u64], r: Registers, a: u8, k: u16) -> Stepped
 pub fn put(memory: &[u64], output: &mut [u32], r: Registers, a: u8) -> Stepped
     requires { ⌜ Sane (length (now memory)) r ⌝ }
     requires { ⌜ r .next < 65536 ⌝ }
-    ensures { λ o. ⌜ ((s input : List ℕ) → Performs s input (now (memory .entry)) (now (memory .entry)) (now (output .entry)) (now (output .exit)) r o (Op.Put a)) ⌝ }
+    ensures { λ o. ⌜ ((s input : List ℕ) → Performs plain s input (now (memory .entry)) (now (memory .entry)) (now (output .entry)) (now (output .exit)) r o (Op.Put a)) ⌝ }
 {
     let base = r.base;
     let end = base + r.variables;
@@ -225,7 +221,7 @@ pub fn put(memory: &[u64], output: &mut [u32], r: Registers, a: u8) -> Stepped
 pub fn take(input: &[u32], memory: &mut [u64], r: Registers, a: u8) -> Stepped
     requires { ⌜ Sane (length (now memory)) r ⌝ }
     requires { ⌜ r .next < 65536 ⌝ }
-    ensures { λ o. ⌜ ((s out : List ℕ) → Performs s (now (input .entry)) (now (memory .entry)) (now (memory .exit)) out out r o (Op.Take a)) ⌝ }
+    ensures { λ o. ⌜ ((s out : List ℕ) → Performs plain s (now (input .entry)) (now (memory .entry)) (now (memory .exit)) out out r o (Op.Take a)) ⌝ }
 {
     take_input(input, memory, r, a)
 }
@@ -242,7 +238,7 @@ pub fn new_record(s: &[u8], table: &[u32; 65], memory: &mut [u64], r: Registers,
     requires { ⌜ Loaded (now s) (now table) ⌝ }
     requires { ⌜ Sane (length (now memory)) r ⌝ }
     requires { ⌜ r .next < 65536 ⌝ }
-    ensures { λ o. ⌜ ((input out : List ℕ) → Performs (now (s .entry)) input (now (memory .entry)) (now (memory .exit)) out out r o (Op.NewRecord a)) ⌝ }
+    ensures { λ o. ⌜ ((input out : List ℕ) → Performs plain (now (s .entry)) input (now (memory .entry)) (now (memory .exit)) out out r o (Op.NewRecord a)) ⌝ }
 {
     let p = r.procedure;
     give_record(memory, r, a, slots_at(s, table[p]))

@@ -14,17 +14,18 @@ use crate::arms::size;
 use crate::arms::store;
 use crate::arms::subtract;
 use crate::arms::take;
-use crate::fetch::operation_whole;
 use frames::call;
 use frames::give_back;
 use model::Operation;
+use sheet::fetch::operation_whole;
 use writers::Registers;
 use writers::Stepped;
 ghost use lib.ListN.{length};
+ghost use Rattle.model.specs.Modes.{plain};
 ghost use Rattle.sheet.specs.Decode.{operationAt};
 ghost use Rattle.writers.specs.Memory.{Sane};
 ghost use Rattle.frames.specs.Performs.{Loaded, Performs};
-ghost use Rattle.machine.specs.Fetch.{Fetchable, place-in};
+ghost use Rattle.frames.specs.Fetch.{Fetchable, place-in};
 
 // Nothing with a branch stands between the operation and its match: the compiler then jumps straight from the code to the arm.
 pub fn step(
@@ -38,7 +39,7 @@ pub fn step(
     requires { ⌜ Loaded (now s) (now table) ⌝ }
     requires { ⌜ Sane (length (now memory)) r ⌝ }
     requires { ⌜ Fetchable (now s) r ⌝ }
-    ensures { λ o. ⌜ Performs (now (s .entry)) (now (input .entry)) (now (memory .entry)) (now (memory .exit)) (now (output .entry)) (now (output .exit)) r o (operationAt (now (s .entry)) (place-in r)) ⌝ }
+    ensures { λ o. ⌜ Performs plain (now (s .entry)) (now (input .entry)) (now (memory .entry)) (now (memory .exit)) (now (output .entry)) (now (output .exit)) r o (operationAt (now (s .entry)) (place-in r)) ⌝ }
 {
     let operation = operation_whole(s, r.first + 8 * r.next);
     match operation {
@@ -58,6 +59,6 @@ pub fn step(
         Operation::GetSlot(a, b, k) => get_slot(memory, r, a, b, k),
         Operation::SetSlot(a, b, k) => set_slot(memory, r, a, b, k),
         Operation::Call(_, b, k) => call(s, table, memory, r, b, k),
-        Operation::Return(a) => give_back(s, table, memory, r, a),
+        Operation::Return(a) => give_back(s, memory, r, a),
     }
 }

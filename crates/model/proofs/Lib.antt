@@ -11,4 +11,7 @@ pub mod Steps
 pub mod Typing
 pub mod Run
 pub mod Open
+pub mod Plans
+pub mod Ends
+pub mod AnyProgram
 pub mod Sample

@@ -1,11 +1,12 @@
 -- Laws of lists of tests: two lists one after another, the loop over a span, and what an accepted list says of its parts.
 use Prim.Native.Nat.{ℕ, zero, suc, _+_, _-_, _<_, _≤_}
 use mathlib.Core.Path.{_≡_, refl, sym, ap, _∙_}
-use mathlib.Core.Bool.{Bool, true, false, _&&_, cond}
-use mathlib.Core.List.{List, [], _∷_, _++_, append-assoc}
+use mathlib.Core.Bool.{Bool, true, false, not, _&&_, _||_, cond}
+use mathlib.Core.Logic.{_⊎_, inl, inr}
+use mathlib.Core.List.{List, [], _∷_, _++_}
 use native.Mathlib.Omega.{arith}
 use native.Mathlib.Numerals.{add-one}
-use Rattle.model.specs.Refusal.{Refusal, overlong, torn, stray-mark, bad-edition, off-scale, open-exposed, false-raise, wrong-kind, missing-right, big-memory, number, Test, test, Tests, tests, failure, refuse, verdict, span}
+use Rattle.model.specs.Refusal.{Refusal, overlong, torn, stray-mark, bad-edition, off-scale, open-exposed, false-raise, wrong-kind, missing-right, big-memory, number, Test, test, Tests, tests, failure, refuse, verdict, span, each, all-from}
 use Rattle.model.specs.declared.Verdict.{Verdict}
 use Rattle.model.specs.declared.Verdict.the-variants.{Accepted, Refused}
 
@@ -72,6 +73,34 @@ then-accepted v e w p h = let q : e ≡ Accepted = sym p ∙ h in rw q
 
 pub then-refused : (v e w : Verdict) (n at : ℕ) → v ≡ e → v ≡ Refused n at → v ≡ and-then e w
 then-refused v e w n at p h = let q : e ≡ Refused n at = sym p ∙ h in rw q h
+
+-- the same two ways, and the two halves of an accepted list
+module _ (xs ys : List Tests) where
+  pub stop-here : (v : Verdict) (n at : ℕ) → v ≡ verdict xs → v ≡ Refused n at → v ≡ verdict (xs ++ ys)
+  stop-here v n at e r = then-refused v (verdict xs) (verdict ys) n at e r ∙ sym (verdict-append xs ys)
+
+  pub go-on : (v w : Verdict) → v ≡ verdict xs → v ≡ Accepted → w ≡ verdict ys → w ≡ verdict (xs ++ ys)
+  go-on v w e a f = f ∙ sym (verdict-append xs ys ∙ then-accepted v (verdict xs) (verdict ys) e a)
+
+  pub left-accepted : verdict (xs ++ ys) ≡ Accepted → verdict xs ≡ Accepted
+  left-accepted h = accepted-left (verdict xs) (verdict ys) (sym (verdict-append xs ys) ∙ h)
+
+  pub right-accepted : verdict (xs ++ ys) ≡ Accepted → verdict ys ≡ Accepted
+  right-accepted h = accepted-right (verdict xs) (verdict ys) (sym (verdict-append xs ys) ∙ h)
+
+-- ---- one record, whose tests were counted out: all hold, or the first that fails
+pub refuse-some : (n at : ℕ) → (n ≡ 0 → ⊥) → Refused n at ≡ refuse n at Accepted
+unfolding refuse
+refuse-some zero at h = absurd (h refl)
+refuse-some (suc n) at h = refl
+
+pub tests-pass : (n at : ℕ) (ts : List Test) → n ≡ failure ts → n ≡ 0 → Accepted ≡ verdict (tests at ts ∷ [])
+unfolding verdict refuse
+tests-pass n at ts e h = let q : failure ts ≡ 0 = sym e ∙ h in rw q
+
+pub tests-stop : (n at : ℕ) (ts : List Test) → n ≡ failure ts → (n ≡ 0 → ⊥) → Refused n at ≡ verdict (tests at ts ∷ [])
+unfolding verdict
+tests-stop n at ts e h = rw (← e) (refuse-some n at h)
 
 -- ---- the loop over a span of records: what is left to say is the verdict from here on
 module _ {A : Type 0} (f : ℕ → List A) where
@@ -152,6 +181,9 @@ module _ (f : ℕ → List Tests) where
       let e : i + suc k ≡ suc i + k = omega arith in
       rw e (accepted-span n (suc i) (accepted-right (verdict (f i)) (verdict (span f (suc i) n)) (sym (verdict-append (f i) (span f (suc i) n)) ∙ h)) k (omega arith))
 
+pub each-accepted : (f : ℕ → List Tests) (n : ℕ) → verdict (each n f) ≡ Accepted → (k : ℕ) → k < n → verdict (f k) ≡ Accepted
+each-accepted f n h k l = let e : 0 + k ≡ k = omega arith in rw e at (accepted-span f n 0 h k l)
+
 pub first-left : (m n : ℕ) → first m n ≡ 0 → m ≡ 0
 first-left zero n h = refl
 first-left (suc m) n h = h
@@ -199,3 +231,23 @@ passed-test r false ts h = absurd (number-pos r h)
 pub both-true : (a b : Bool) → a && b ≡ true → (a ≡ true) × (b ≡ true)
 both-true true b h = (refl, h)
 both-true false b h = absurd (let z : _≡_ {A = ℕ} 0 1 = cc in omega arith)
+
+pub either-true : (a b : Bool) → a || b ≡ true → (a ≡ true) ⊎ (b ≡ true)
+either-true true b h = inl refl
+either-true false b h = inr h
+
+pub implied : (a b : Bool) → not a || b ≡ true → a ≡ true → b ≡ true
+implied a b h e = rw e at h
+
+-- tests that all hold, one by one
+abbrev pub Held : List Bool → Type 0
+Held [] = Unit
+Held (t ∷ ts) = (t ≡ true) × Held ts
+
+pub all-held : (b : Bool) (ts : List Bool) → all-from b ts ≡ true → (b ≡ true) × Held ts
+unfolding all-from
+all-held b [] h = (h, tt)
+all-held b (t ∷ ts) h =
+    let m = all-held (b && t) ts h in
+    let n = both-true b t (m .0) in
+    (n .0, (n .1, m .1))

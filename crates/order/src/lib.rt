@@ -3,15 +3,31 @@
 use rights::is_within;
 use sheet::bytes::byte;
 use sheet::places::qual_at;
+use sheet::places::type_at;
+use sheet::places::variable_at;
 ghost use mathlib.Core.Path.{_≡_};
 ghost use Prim.Native.Nat.{_<_};
 ghost use Rattle.model.specs.Qualified.{integer, base, rights, element, isInteger, isArray, same, alike, order};
 ghost use Rattle.model.specs.Refusal.{failure};
 ghost use Rattle.model.specs.Rules.{moves, owned-by};
 ghost use Rattle.sheet.specs.Bytes.{byteAt};
-ghost use Rattle.sheet.specs.Layout.{qualAt, qualsOf};
+ghost use Rattle.sheet.specs.Layout.{innerAt, slotOf, qualAt, qualsOf};
 ghost use Rattle.sheet.specs.Meaning.{elementIn, qualOf};
 ghost use Rattle.order.specs.Element.{ElementOf};
+
+// The QT number that declares a variable of the procedure at a place.
+pub fn inner_of(s: &[u8], pr: u32, x: u8) -> u8
+    ensures { λ r. ⌜ r ≡ innerAt (now (s .entry)) pr x ⌝ }
+{
+    byte(s, variable_at(pr, x), 2)
+}
+
+// The QT number that declares slot k of a type.
+pub fn slot_of(s: &[u8], t: u8, k: u16) -> u8
+    ensures { λ r. ⌜ r ≡ slotOf (now (s .entry)) t k ⌝ }
+{
+    byte(s, type_at(t), 4 + (k as usize))
+}
 
 // Where the QTs start. The readers below take that place and the count of QTs, so that the header is read once.
 fn quals_at(s: &[u8]) -> u16
@@ -45,7 +61,7 @@ fn base_in(s: &[u8], quals: u16, q: u8, j: u8) -> u8
 }
 
 // The rights of QT j, whose base is b.
-fn rights_in(s: &[u8], quals: u16, b: u8, j: u8) -> u16
+fn rights_in(s: &[u8], quals: u16, b: u8, j: u8) -> u32
     requires { ⌜ quals ≡ qualAt (now s) 0 ⌝ }
     requires { ⌜ b ≡ base (qualOf (now s) j) ⌝ }
     ensures { λ r. ⌜ r ≡ rights (qualOf (now (s .entry)) j) ⌝ }
@@ -53,8 +69,8 @@ fn rights_in(s: &[u8], quals: u16, b: u8, j: u8) -> u16
     if b == 0 {
         return 0;
     }
-    let low = qual_byte(s, quals, j, 3) as u16;
-    let high = qual_byte(s, quals, j, 4) as u16;
+    let low = qual_byte(s, quals, j, 3) as u32;
+    let high = qual_byte(s, quals, j, 4) as u32;
     low + 256 * high
 }
 
@@ -76,7 +92,7 @@ pub fn base_of(s: &[u8], j: u8) -> u8
     base_in(s, quals_at(s), byte(s, 0, 4), j)
 }
 
-pub fn rights_of(s: &[u8], j: u8) -> u16
+pub fn rights_of(s: &[u8], j: u8) -> u32
     ensures { λ r. ⌜ r ≡ rights (qualOf (now (s .entry)) j) ⌝ }
 {
     let quals = quals_at(s);

@@ -1,138 +1,68 @@
--- What the plain machine plans, by what the cells and heads that an instruction reads are known to be, and how words tell what they are.
-use Prim.Native.Nat.{ℕ, _+_, _<_, _≤_}
-use native.Mathlib.Omega.{arith}
+-- What the plain machine plans, by the words that an instruction reads.
+use Prim.Native.Nat.{ℕ, _<_, _≤_}
 use mathlib.Core.Path.{_≡_, refl, sym, ap, _∙_}
 use mathlib.Core.List.{List}
-use mathlib.Core.Option.{none, some}
-use lib.Dec.{ltb}
+use mathlib.Core.Logic.{_⊎_, inl, inr}
+use mathlib.Core.Option.{some}
+use mathlib.Core.Bool.{Bool, true, false, cond}
+use lib.Dec.{eqb, ltb}
 use lib.ListN.{getD}
-use borrow.Author.Tests.{lt-ltb, le-ltb}
+use borrow.Author.Tests.{lt-ltb, le-ltb, ltb-true, eqb-true, eqb-false}
 use Rattle.model.specs.Outcome.{Res, ok, stop, stuck, blank, past-end, _>>=_, _>>_, test}
-use Rattle.model.specs.Qualified.{Qual, integer}
+use Rattle.model.specs.Qualified.{Qual}
 use Rattle.model.specs.Program.{Program}
 use Rattle.model.specs.Modes.{plain, amiss, licence, is-of, bind, bind-element}
-use Rattle.model.specs.Machine.{Value, word, object, Cell, empty, filled, Head, array-head, record-head, no-head, View, Effect, write, store, held, as-integer, array-head-of, record-head-of, array-at, record-at, kind-of, moved, give, gives, integers, one-integer, slot-there, plan-size}
-use Rattle.words.specs.Word.{Slot, cell, head, place, slot-in, as-cell, as-head}
-use Rattle.words.specs.Sees.{slot, variables-in, heads-in, inside, Sees}
-use Rattle.words.specs.Answer.{value-as, cell-as}
-use Rattle.words.specs.Answers.{head-size, Inside, size-as, array-size, record-size}
-use Rattle.words.specs.declared.Value.{Value as CodeValue}
-use Rattle.words.specs.declared.Value.the-variants.{Word, Object}
-use Rattle.words.specs.declared.Cell.{Cell as CodeCell}
+use Rattle.model.specs.Machine.{Value, word, object, Cell, empty, filled, Head, array-head, record-head, no-head, View, Effect, write, store, held, as-integer, array-head-of, record-head-of, array-at, record-at, kind-of, declared-as, moved, give, gives, integers, one-integer, slot-there, plan-size}
+use Rattle.words.specs.Word.{low, payload, size-of, cell, slot-in, as-cell}
+use Rattle.words.specs.Sees.{head-size, Sees}
+use Rattle.words.specs.Answer.{read-as, moved-word}
+use Rattle.words.specs.Answers.{MovedOk, Inside, Unless-stuck, halted, moved-to, moving}
+use Rattle.words.proofs.Laws.{blank-word, filled-word, size-word, is-cell, same-size, told-blank, told-filled}
+use Rattle.words.specs.declared.Cell.{Cell as Read}
 use Rattle.words.specs.declared.Cell.the-variants.{Blank, Filled}
-use Rattle.words.specs.declared.Size.{Size}
-use Rattle.words.specs.declared.Size.the-variants.{Of, Nothing}
+use Rattle.words.specs.declared.Moved.{Moved}
+use Rattle.words.specs.declared.Moved.the-variants.{To, Halt}
 
--- ---- what words tell
+-- ---- where nothing is claimed
 
--- a variable of the view is what the cell of its word says
-module _ (v : View plain) (f : List ℕ) (x w : ℕ) (same : v .variable ≡ variables-in f) (at : w ≡ getD f x 0) where
-  pub seen-cell : v .variable x ≡ as-cell (slot w)
-  seen-cell = ap (λ (u : ℕ → Cell plain). u x) same ∙ ap (λ (y : ℕ). as-cell (slot y)) (sym at)
+pub claimed : {A R : Type 0} (s : Res A) → R → Unless-stuck s R
+claimed (ok a) r = r
+claimed (stop x) r = r
+claimed stuck r = tt
 
-  seen : (r : CodeCell) → ((q : ℕ → Qual) → cell-as r ≡ as-cell (slot-in plain q w)) → v .variable x ≡ cell-as r
-  seen r is = seen-cell ∙ sym (is (λ j. integer))
+-- from what the definition comes to
+pub due : {A R : Type 0} {s t : Res A} → s ≡ t → (s ≡ t → R) → Unless-stuck s R
+due {s = s} e f = claimed s (f e)
 
-  pub seen-blank : {r : CodeCell} → r ≡ Blank → ((q : ℕ → Qual) → cell-as r ≡ as-cell (slot-in plain q w)) → v .variable x ≡ empty
-  seen-blank {r} told is = seen r is ∙ ap cell-as told
+-- .. or else it is stuck
+pub settle : {A P R : Type 0} {s : Res A} → (s ≡ stuck) ⊎ P → (P → R) → Unless-stuck s R
+settle (inl e) f = rw e tt
+settle {s = s} (inr p) f = claimed s (f p)
 
-  pub seen-filled : {r : CodeCell} {y : CodeValue}
-      → r ≡ Filled y → ((q : ℕ → Qual) → cell-as r ≡ as-cell (slot-in plain q w)) → v .variable x ≡ filled (value-as y) tt
-  seen-filled {r} told is = seen r is ∙ ap cell-as told
+-- ---- what the words read say of the variables of the view
 
-  pub seen-word : {r : CodeCell} {y : CodeValue} {n : ℕ}
-      → r ≡ Filled y → y ≡ Word n → ((q : ℕ → Qual) → cell-as r ≡ as-cell (slot-in plain q w)) → v .variable x ≡ filled (word n) tt
-  seen-word told kind is = seen-filled told is ∙ ap (λ (z : CodeValue). filled (value-as z) tt) kind
+-- variable x is filled, and w is its word
+pub record Holds (q : ℕ → Qual) (v : View plain) (x w : ℕ) : Type 0 where
+  pub slot : slot-in plain q w ≡ cell (v .variable x)
+  pub value : Value
+  pub filled : v .variable x ≡ filled value tt
+  pub kind : (value ≡ word (low w)) ⊎ (value ≡ object (payload w))
 
-  pub seen-object : {r : CodeCell} {y : CodeValue} {o : ℕ}
-      → r ≡ Filled y → y ≡ Object o → ((q : ℕ → Qual) → cell-as r ≡ as-cell (slot-in plain q w)) → v .variable x ≡ filled (object o) tt
-  seen-object told kind is = seen-filled told is ∙ ap (λ (z : CodeValue). filled (value-as z) tt) kind
+holds : (q : ℕ → Qual) (v : View plain) (x w : ℕ) → slot-in plain q w ≡ cell (v .variable x) → (w ≡ 0 → ⊥) → Holds q v x w
+holds q v x w here not0 = by (filled-word plain q w here not0)
+  where
+    by : (v .variable x ≡ filled (word (low w)) tt) ⊎ (v .variable x ≡ filled (object (payload w)) tt) → Holds q v x w
+    by (inl e) = record { slot = here; value = word (low w); filled = e; kind = inl refl }
+    by (inr e) = record { slot = here; value = object (payload w); filled = e; kind = inr refl }
 
--- a word that is read as a filled cell is a cell's
-pub cell-there : (s : Slot plain) (x : Value) → as-cell s ≡ filled x tt → s ≡ cell (as-cell s)
-cell-there (cell c) x e = refl
-cell-there (head h) x e = absurd (let z : _≡_ {A = ℕ} 0 1 = cc in omega arith)
-cell-there (place p i) x e = absurd (let z : _≡_ {A = ℕ} 0 1 = cc in omega arith)
+module _ {q : ℕ → Qual} {v : View plain} {f h : List ℕ} (s : Sees plain q v f h) {x w : ℕ} {r : Read} (at : w ≡ getD f x 0) (is : r ≡ read-as w) where
+  pub blank-there : r ≡ Blank → v .variable x ≡ empty
+  blank-there told = blank-word plain q w (ap (slot-in plain q) at ∙ s .variable x) (told-blank is told)
 
--- ---- heads by their sizes
-
-array-of-size : (h : Head plain) (n : ℕ) → array-size h ≡ some n → h ≡ array-head tt n
-array-of-size (array-head e k) n p = let same : k ≡ n = cc in rw same
-array-of-size (record-head t k) n p = absurd (let z : _≡_ {A = ℕ} 0 1 = cc in omega arith)
-array-of-size no-head n p = absurd (let z : _≡_ {A = ℕ} 0 1 = cc in omega arith)
-
-record-of-size : (h : Head plain) (n : ℕ) → record-size h ≡ some n → h ≡ record-head tt n
-record-of-size (array-head e k) n p = absurd (let z : _≡_ {A = ℕ} 0 1 = cc in omega arith)
-record-of-size (record-head t k) n p = let same : k ≡ n = cc in rw same
-record-of-size no-head n p = absurd (let z : _≡_ {A = ℕ} 0 1 = cc in omega arith)
-
-no-array : (o : ℕ) (h : Head plain) → array-size h ≡ none → array-head-of plain o h ≡ stuck
-unfolding array-head-of amiss
-no-array o (array-head e k) p = absurd (let z : _≡_ {A = ℕ} 0 1 = cc in omega arith)
-no-array o (record-head t k) p = refl
-no-array o no-head p = refl
-
-no-record : (t o : ℕ) (h : Head plain) → record-size h ≡ none → record-head-of plain t o h ≡ stuck
-unfolding record-head-of amiss
-no-record t o (array-head e k) p = refl
-no-record t o (record-head u k) p = absurd (let z : _≡_ {A = ℕ} 0 1 = cc in omega arith)
-no-record t o no-head p = refl
-
--- the words of the objects say what the head at o is
-module _ (h : List ℕ) (o w : ℕ) (at : w ≡ getD h o 0) where
-  array-there : {r : Size} {n : ℕ} → r ≡ Of n → size-as r ≡ array-size (as-head (slot w)) → heads-in h o ≡ array-head tt n
-  unfolding size-as
-  array-there told is =
-      array-of-size _ _ (ap (λ (y : ℕ). array-size (as-head (slot y))) (sym at) ∙ sym is ∙ ap size-as told)
-
-  record-there : {r : Size} {n : ℕ} → r ≡ Of n → size-as r ≡ record-size (as-head (slot w)) → heads-in h o ≡ record-head tt n
-  unfolding size-as
-  record-there told is =
-      record-of-size _ _ (ap (λ (y : ℕ). record-size (as-head (slot y))) (sym at) ∙ sym is ∙ ap size-as told)
-
-  pub inside-array : {r : Size} {n : ℕ} (i : ℕ) → r ≡ Of n → size-as r ≡ array-size (as-head (slot w)) → i < n → Inside h o i
-  inside-array {n = n} i told is below = record { size = n; head = ap head-size (array-there told is); below = below }
-
-  pub inside-record : {r : Size} {n : ℕ} (i : ℕ) → r ≡ Of n → size-as r ≡ record-size (as-head (slot w)) → i < n → Inside h o i
-  inside-record {n = n} i told is below = record { size = n; head = ap head-size (record-there told is); below = below }
-
--- and so what the view's head is
-module _ (v : View plain) (f h : List ℕ) (s : Sees v f h) (o w : ℕ) (at : w ≡ getD h o 0) where
-  head-seen : v .head o ≡ heads-in h o
-  head-seen = ap (λ (u : ℕ → Head plain). u o) (s .head)
-
-  pub array-seen : {r : Size} {n : ℕ} → r ≡ Of n → size-as r ≡ array-size (as-head (slot w)) → v .head o ≡ array-head tt n
-  array-seen told is = head-seen ∙ array-there h o w at told is
-
-  pub record-seen : {r : Size} {n : ℕ} → r ≡ Of n → size-as r ≡ record-size (as-head (slot w)) → v .head o ≡ record-head tt n
-  record-seen told is = head-seen ∙ record-there h o w at told is
-
-  pub no-array-seen : {r : Size} → r ≡ Nothing → size-as r ≡ array-size (as-head (slot w)) → array-head-of plain o (v .head o) ≡ stuck
-  unfolding size-as
-  no-array-seen told is =
-      no-array o _ (ap array-size head-seen ∙ ap (λ (y : ℕ). array-size (as-head (slot y))) (sym at) ∙ sym is ∙ ap size-as told)
-
-  pub no-record-seen : {r : Size} (t : ℕ) → r ≡ Nothing → size-as r ≡ record-size (as-head (slot w)) → record-head-of plain t o (v .head o) ≡ stuck
-  unfolding size-as
-  no-record-seen t told is =
-      no-record t o _ (ap record-size head-seen ∙ ap (λ (y : ℕ). record-size (as-head (slot y))) (sym at) ∙ sym is ∙ ap size-as told)
-
-inside-below : (h : Head plain) (n i : ℕ) (c : Cell plain) → head-size h ≡ some n → i < n → inside h i c ≡ c
-inside-below (array-head e k) n i c p below = let same : k ≡ n = cc in rw (same, lt-ltb i n below)
-inside-below (record-head t k) n i c p below = let same : k ≡ n = cc in rw (same, lt-ltb i n below)
-inside-below no-head n i c p below = absurd (let z : _≡_ {A = ℕ} 0 1 = cc in omega arith)
-
--- a cell of an object, by its word
-pub inside-seen : (v : View plain) (f h : List ℕ) (o i n w : ℕ)
-    → Sees v f h
-    → head-size (v .head o) ≡ some n
-    → i < n
-    → w ≡ getD h (o + 1 + i) 0
-    → v .cell o i ≡ as-cell (slot w)
-inside-seen v f h o i n w s size below at =
-    ap (λ (u : ℕ → ℕ → Cell plain). u o i) (s .cell)
-    ∙ inside-below (heads-in h o) n i _ (ap (λ (u : ℕ → Head plain). head-size (u o)) (sym (s .head)) ∙ size) below
-    ∙ ap (λ (y : ℕ). as-cell (slot y)) (sym at)
+  pub filled-there : {y : ℕ} → r ≡ Filled y → Holds q v x y
+  filled-there {y} told =
+      let k = told-filled is told in
+      holds q v x y (ap (slot-in plain q) (k .0 ∙ at) ∙ s .variable x) (λ z. k .1 (sym (k .0) ∙ z))
 
 -- ---- one and two integers
 
@@ -141,54 +71,79 @@ module _ (g : Program) (v : View plain) (b : ℕ) where
   unfolding one-integer held _>>=_
   one-blank e = rw e
 
-  pub one-object : (o : ℕ) → v .variable b ≡ filled (object o) tt → one-integer plain g v b ≡ stuck
+  pub one-filled : {q : ℕ → Qual} {w : ℕ} → Holds q v b w → (one-integer plain g v b ≡ stuck) ⊎ (one-integer plain g v b ≡ ok (low w))
   unfolding one-integer held as-integer amiss _>>=_
-  one-object o e = rw e
+  one-filled {w = w} B = by (B .kind)
+    where
+      by : (B .value ≡ word (low w)) ⊎ (B .value ≡ object (payload w)) → (one-integer plain g v b ≡ stuck) ⊎ (one-integer plain g v b ≡ ok (low w))
+      by (inl i) = inr (rw (B .filled, i))
+      by (inr o) = inl (rw (B .filled, o))
 
-  pub one-word : (n : ℕ) → v .variable b ≡ filled (word n) tt → one-integer plain g v b ≡ ok n
-  unfolding one-integer held as-integer _>>=_
-  one-word n e = rw e
+-- two integers, b before c, make one on its way into variable a
+module _ (g : Program) (v : View plain) (a b c : ℕ) (op : ℕ → ℕ → ℕ) where
+  abbrev combined : Res (Effect plain)
+  combined = integers plain g v b c >>= λ p. gives plain g v a (op (p .0) (p .1))
 
--- what is done with the two that an instruction reads, b before c
-module _ (g : Program) (v : View plain) (b c : ℕ) (k : ℕ × ℕ → Res (Effect plain)) where
-  pub first-blank : v .variable b ≡ empty → (integers plain g v b c >>= k) ≡ stop blank
+  pub first-blank : v .variable b ≡ empty → combined ≡ stop blank
   unfolding integers held _>>=_
   first-blank e = rw e
 
-  pub second-blank : (x : Value) → v .variable b ≡ filled x tt → v .variable c ≡ empty → (integers plain g v b c >>= k) ≡ stop blank
+  pub second-blank : {q : ℕ → Qual} {x : ℕ} → Holds q v b x → v .variable c ≡ empty → combined ≡ stop blank
   unfolding integers held _>>=_
-  second-blank x e d = rw (e, d)
+  second-blank B e = rw (B .filled, e)
 
-  pub first-object : (o : ℕ) (y : Value) → v .variable b ≡ filled (object o) tt → v .variable c ≡ filled y tt → (integers plain g v b c >>= k) ≡ stuck
-  unfolding integers held as-integer amiss _>>=_
-  first-object o y e d = rw (e, d)
-
-  pub second-object : (m o : ℕ)
-      → v .variable b ≡ filled (word m) tt → v .variable c ≡ filled (object o) tt → (integers plain g v b c >>= k) ≡ stuck
-  unfolding integers held as-integer amiss _>>=_
-  second-object m o e d = rw (e, d)
-
--- two integers make one on its way into variable a
-pub computed : (g : Program) (v : View plain) (a b c : ℕ) (op : ℕ → ℕ → ℕ) (m n r : ℕ)
-    → v .variable b ≡ filled (word m) tt
-    → v .variable c ≡ filled (word n) tt
-    → r ≡ op m n
-    → (integers plain g v b c >>= λ p. gives plain g v a (op (p .0) (p .1))) ≡ ok (write a (filled (word r) tt))
-unfolding integers held as-integer gives give moved bind _>>=_
-computed g v a b c op m n r e d is = rw (e, d, is)
+  pub computed : {q : ℕ → Qual} {x y r : ℕ} → Holds q v b x → Holds q v c y → r ≡ op (low x) (low y)
+      → (combined ≡ stuck) ⊎ (combined ≡ ok (write a (filled (word r) tt)))
+  unfolding integers held as-integer amiss gives give moved bind _>>=_
+  computed {x = x} {y = y} {r = r} B C is = by (B .kind) (C .kind)
+    where
+      by : (B .value ≡ word (low x)) ⊎ (B .value ≡ object (payload x)) → (C .value ≡ word (low y)) ⊎ (C .value ≡ object (payload y))
+          → (combined ≡ stuck) ⊎ (combined ≡ ok (write a (filled (word r) tt)))
+      by (inl i) (inl j) = inr (rw (B .filled, C .filled, i, j, is))
+      by (inl i) (inr p) = inl (rw (B .filled, C .filled, i, p))
+      by (inr o) j = inl (rw (B .filled, C .filled, o))
 
 -- ---- a cell that is moved
 
-module _ (g : Program) (v : View plain) (q : Qual) (k : Cell plain → Res (Effect plain)) where
-  pub moved-blank : (c : Cell plain) → c ≡ empty → (moved plain g v q c >>= k) ≡ stop blank
-  unfolding moved held _>>=_
-  moved-blank c e = rw e
+module _ (q : ℕ → Qual) (g : Program) (v : View plain) (t : Qual) (a : ℕ) where
+  word-moves : (w : ℕ) {c : Cell plain} → slot-in plain q w ≡ cell c
+      → MovedOk (moved-word w) × (moved-to plain q a (moved-word w) ≡ moving plain g v t a c)
+  unfolding moved-to halted moved held bind _>>=_
+  word-moves w {c} here = by (eqb w 0) refl
+    where
+      filled-moves : (c ≡ filled (word (low w)) tt) ⊎ (c ≡ filled (object (payload w)) tt) → ok (write a (as-cell (slot-in plain q w))) ≡ moving plain g v t a c
+      filled-moves (inl e) = rw (here, e)
+      filled-moves (inr e) = rw (here, e)
 
-  pub moved-filled : (x : Value) (c d : Cell plain) → c ≡ filled x tt → c ≡ d → (moved plain g v q c >>= k) ≡ k d
-  unfolding moved held bind _>>=_
-  moved-filled x c d e same = rw e (ap k (sym e ∙ same))
+      by : (z : Bool) → eqb w 0 ≡ z → MovedOk (cond z (Halt 13) (To w)) × (moved-to plain q a (cond z (Halt 13) (To w)) ≡ moving plain g v t a c)
+      by true e = (tt, rw (blank-word plain q w here (eqb-true _ _ e)))
+      by false e = (is-cell plain q w here, filled-moves (filled-word plain q w here (eqb-false _ _ e)))
 
--- ---- an element of an array, at b, by its index, at c: what fetch and store have in common
+  -- the cell of word w, read as u
+  pub moved-is : {c : Cell plain} {r : Moved} {u w : ℕ} {e : Res (Effect plain)}
+      → slot-in plain q w ≡ cell c → u ≡ w → r ≡ moved-word u → e ≡ moving plain g v t a c → MovedOk r × (moved-to plain q a r ≡ e)
+  moved-is {w = w} here at is due = rw (is, at, due) (word-moves w here)
+
+-- ---- the head of the object at o
+
+module _ (q : ℕ → Qual) (v : View plain) (f h : List ℕ) (s : Sees plain q v f h) (o : ℕ) where
+  -- a cell below the size in the head is one of the object's, in either machine
+  pub inside : (i n : ℕ) → head-size (v .head o) ≡ some n → i < n → Inside h o i
+  inside i n e below = record { size = n; head = λ m p. same-size m plain p q (getD h o 0) ∙ ap head-size (s .head o) ∙ e; below = below }
+
+  pub sized : (n : ℕ) → head-size (v .head o) ≡ some n → n ≡ size-of (getD h o 0)
+  sized n e = size-word plain q (getD h o 0) (ap head-size (s .head o) ∙ e)
+
+  array-there : {n w : ℕ} → w ≡ getD h o 0 → n ≡ size-of w → (array-head-of plain o (v .head o) ≡ stuck) ⊎ (v .head o ≡ array-head tt n)
+  unfolding array-head-of amiss
+  array-there {n} at size = by (v .head o) refl
+    where
+      by : (k : Head plain) → v .head o ≡ k → (array-head-of plain o (v .head o) ≡ stuck) ⊎ (v .head o ≡ array-head tt n)
+      by (array-head e k) is = inr (is ∙ ap (array-head tt) (sized k (ap head-size is) ∙ sym (size ∙ ap size-of at)))
+      by (record-head t k) is = inl (rw is)
+      by no-head is = inl (rw is)
+
+-- ---- an element of the array at b by its index, at c: what fetch and store have in common
 
 module _ (g : Program) (v : View plain) (right b c : ℕ) (k : ℕ × Unit {0} × ℕ → ℕ → Res (Effect plain)) where
   abbrev element : Res (Effect plain)
@@ -205,51 +160,53 @@ module _ (g : Program) (v : View plain) (right b c : ℕ) (k : ℕ × Unit {0} �
   unfolding held _>>=_
   element-blank e = rw e
 
-  pub element-blank-index : (x : Value) → v .variable b ≡ filled x tt → v .variable c ≡ empty → element ≡ stop blank
+  pub element-blank-index : {q : ℕ → Qual} {x : ℕ} → Holds q v b x → v .variable c ≡ empty → element ≡ stop blank
   unfolding held _>>=_
-  element-blank-index x e d = rw (e, d)
+  element-blank-index B e = rw (B .filled, e)
 
-  pub element-of-word : (m : ℕ) (y : Value) → v .variable b ≡ filled (word m) tt → v .variable c ≡ filled y tt → element ≡ stuck
-  unfolding held array-at amiss _>>=_
-  element-of-word m y e d = rw (e, d)
+  -- an object and an integer give the test of the index
+  abbrev tested : (o n i : ℕ) → Res (Effect plain)
+  tested o n i = test past-end (ltb i n) >> k (o, tt, n) i
 
-  pub element-of-other : (o : ℕ) (y : Value)
-      → v .variable b ≡ filled (object o) tt
-      → v .variable c ≡ filled y tt
-      → array-head-of plain o (v .head o) ≡ stuck
-      → element ≡ stuck
-  unfolding held array-at _>>=_
-  element-of-other o y e d other = rw (e, d, other)
+  -- the name, the index and the size that the words give
+  module _ {q : ℕ → Qual} {f h : List ℕ} {x y o i n w : ℕ} (s : Sees plain q v f h) (B : Holds q v b x) (C : Holds q v c y)
+      (name : o ≡ payload x) (index : i ≡ low y) (at : w ≡ getD h o 0) (size : n ≡ size-of w) where
+    element-is : (element ≡ stuck) ⊎ ((v .head o ≡ array-head tt n) × (element ≡ tested o n i))
+    unfolding held array-at array-head-of as-integer amiss licence _>>=_ _>>_
+    element-is = by (B .kind) (array-there q v f h s o at size) (C .kind)
+      where
+        by : (B .value ≡ word (low x)) ⊎ (B .value ≡ object (payload x))
+            → (array-head-of plain o (v .head o) ≡ stuck) ⊎ (v .head o ≡ array-head tt n)
+            → (C .value ≡ word (low y)) ⊎ (C .value ≡ object (payload y))
+            → (element ≡ stuck) ⊎ ((v .head o ≡ array-head tt n) × (element ≡ tested o n i))
+        by (inl e) k j = inl (rw (B .filled, C .filled, e))
+        by (inr e) (inl k) j = inl (rw (B .filled, C .filled, e, ← name, k))
+        by (inr e) (inr k) (inl j) = inr (k, rw (B .filled, C .filled, e, j, ← name, ← index, k))
+        by (inr e) (inr k) (inr p) = inl (rw (B .filled, C .filled, e, p, ← name, k))
 
-  pub element-by-object : (o n p : ℕ)
-      → v .variable b ≡ filled (object o) tt
-      → v .variable c ≡ filled (object p) tt
-      → v .head o ≡ array-head tt n
-      → element ≡ stuck
-  unfolding held array-at array-head-of as-integer amiss _>>=_
-  element-by-object o n p e d is = rw (e, d, is)
+    pub element-past : n ≤ i → (element ≡ stuck) ⊎ (element ≡ stop past-end)
+    unfolding test _>>_
+    element-past past = by element-is
+      where
+        by : (element ≡ stuck) ⊎ ((v .head o ≡ array-head tt n) × (element ≡ tested o n i)) → (element ≡ stuck) ⊎ (element ≡ stop past-end)
+        by (inl e) = inl e
+        by (inr e) = inr (e .1 ∙ rw (le-ltb i n past))
 
-  pub element-past : (o n i : ℕ)
-      → v .variable b ≡ filled (object o) tt
-      → v .variable c ≡ filled (word i) tt
-      → v .head o ≡ array-head tt n
-      → n ≤ i
-      → element ≡ stop past-end
-  unfolding held array-at array-head-of as-integer licence test _>>=_ _>>_
-  element-past o n i e d is past = rw (e, d, is, le-ltb i n past)
+    pub element-at : i < n → (element ≡ stuck) ⊎ ((head-size (v .head o) ≡ some n) × (element ≡ k (o, tt, n) i))
+    unfolding test _>>_
+    element-at below = by element-is
+      where
+        by : (element ≡ stuck) ⊎ ((v .head o ≡ array-head tt n) × (element ≡ tested o n i))
+            → (element ≡ stuck) ⊎ ((head-size (v .head o) ≡ some n) × (element ≡ k (o, tt, n) i))
+        by (inl e) = inl e
+        by (inr e) = inr (ap head-size (e .0), e .1 ∙ rw (lt-ltb i n below))
 
-  pub element-at : (o n i : ℕ)
-      → v .variable b ≡ filled (object o) tt
-      → v .variable c ≡ filled (word i) tt
-      → v .head o ≡ array-head tt n
-      → i < n
-      → element ≡ k (o, tt, n) i
-  unfolding held array-at array-head-of as-integer licence test _>>=_ _>>_
-  element-at o n i e d is below = rw (e, d, is, lt-ltb i n below)
+-- what is fetched from there, and what is stored there
+abbrev pub fetching : (g : Program) (v : View plain) (a : ℕ) → ℕ × Unit {0} × ℕ → ℕ → Res (Effect plain)
+fetching g v a o i = moving plain g v (declared-as plain g v a) a (v .cell (o .0) i)
 
--- what is stored into element i of an array, o, is the cell of variable c
-module _ (g : Program) (v : View plain) (o i c : ℕ) where
-  abbrev storing : Res (Effect plain)
+module _ (g : Program) (v : View plain) (c o i : ℕ) where
+  abbrev pub storing : Res (Effect plain)
   storing = do
     h ← held (v .variable c)
     r ← bind-element plain tt (kind-of plain g v (h .0)) (h .1)
@@ -259,9 +216,9 @@ module _ (g : Program) (v : View plain) (o i c : ℕ) where
   unfolding held _>>=_
   storing-blank e = rw e
 
-  pub storing-filled : (x : Value) (d : Cell plain) → v .variable c ≡ filled x tt → v .variable c ≡ d → storing ≡ ok (store o i d)
+  pub storing-filled : {q : ℕ → Qual} {w : ℕ} → Holds q v c w → storing ≡ ok (store o i (as-cell (slot-in plain q w)))
   unfolding held bind-element _>>=_
-  storing-filled x d e same = rw e (ap (λ (z : Cell plain). ok (store o i z)) (sym e ∙ same))
+  storing-filled C = rw (C .slot, C .filled)
 
 -- ---- the size of the array at b
 
@@ -270,18 +227,17 @@ module _ (g : Program) (v : View plain) (a b : ℕ) where
   unfolding plan-size held _>>=_
   size-blank e = rw e
 
-  pub size-of-word : (m : ℕ) → v .variable b ≡ filled (word m) tt → plan-size plain g v a b ≡ stuck
-  unfolding plan-size held array-at amiss _>>=_
-  size-of-word m e = rw e
-
-  pub size-of-other : (o : ℕ) → v .variable b ≡ filled (object o) tt → array-head-of plain o (v .head o) ≡ stuck → plan-size plain g v a b ≡ stuck
-  unfolding plan-size held array-at _>>=_
-  size-of-other o e other = rw (e, other)
-
-  pub size-is : (o n : ℕ)
-      → v .variable b ≡ filled (object o) tt → v .head o ≡ array-head tt n → plan-size plain g v a b ≡ ok (write a (filled (word n) tt))
-  unfolding plan-size held array-at array-head-of licence give moved bind _>>=_ _>>_
-  size-is o n e is = rw (e, is)
+  pub size-filled : {q : ℕ → Qual} {f h : List ℕ} {x o n w : ℕ} → Sees plain q v f h → Holds q v b x → o ≡ payload x → w ≡ getD h o 0 → n ≡ size-of w
+      → (plan-size plain g v a b ≡ stuck) ⊎ (plan-size plain g v a b ≡ ok (write a (filled (word n) tt)))
+  unfolding plan-size held array-at array-head-of amiss licence give moved bind _>>=_ _>>_
+  size-filled {q} {f} {h} {x} {o} {n} s B name at size = by (B .kind) (array-there q v f h s o at size)
+    where
+      by : (B .value ≡ word (low x)) ⊎ (B .value ≡ object (payload x))
+          → (array-head-of plain o (v .head o) ≡ stuck) ⊎ (v .head o ≡ array-head tt n)
+          → (plan-size plain g v a b ≡ stuck) ⊎ (plan-size plain g v a b ≡ ok (write a (filled (word n) tt)))
+      by (inl e) k = inl (rw (B .filled, e))
+      by (inr e) (inl k) = inl (rw (B .filled, e, ← name, k))
+      by (inr e) (inr k) = inr (rw (B .filled, e, ← name, k))
 
 -- ---- slot j of a record, at b, of type t: what the two that open records have in common
 
@@ -298,18 +254,39 @@ module _ (g : Program) (v : View plain) (right t b j : ℕ) (k : ℕ × ℕ → 
   unfolding held _>>=_
   slot-blank e = rw e
 
-  pub slot-of-word : (m : ℕ) → v .variable b ≡ filled (word m) tt → slot-of ≡ stuck
-  unfolding held record-at amiss _>>=_
-  slot-of-word m e = rw e
+  -- the record at o has the slot
+  pub record There (o : ℕ) : Type 0 where
+    pub size : ℕ
+    pub head : head-size (v .head o) ≡ some size
+    pub below : j < size
+    pub is : slot-of ≡ k (o, size)
 
-  pub slot-of-other : (o : ℕ) → v .variable b ≡ filled (object o) tt → record-head-of plain t o (v .head o) ≡ stuck → slot-of ≡ stuck
-  unfolding held record-at _>>=_
-  slot-of-other o e other = rw (e, other)
+  pub slot-filled : {q : ℕ → Qual} {x o : ℕ} → Holds q v b x → o ≡ payload x → (slot-of ≡ stuck) ⊎ There o
+  unfolding held record-at record-head-of amiss is-of licence slot-there _>>=_ _>>_
+  slot-filled {x = x} {o = o} B name = by (B .kind) (v .head o) refl
+    where
+      tested : B .value ≡ object (payload x) → (n : ℕ) → v .head o ≡ record-head tt n → (z : Bool) → ltb j n ≡ z → (slot-of ≡ stuck) ⊎ There o
+      tested e n k true z = inr record { size = n; head = ap head-size k; below = ltb-true j n z; is = rw (B .filled, e, ← name, k, z) }
+      tested e n k false z = inl (rw (B .filled, e, ← name, k, z))
 
-  pub slot-past : (o n : ℕ) → v .variable b ≡ filled (object o) tt → v .head o ≡ record-head tt n → n ≤ j → slot-of ≡ stuck
-  unfolding held record-at record-head-of is-of licence slot-there amiss _>>=_ _>>_
-  slot-past o n e is past = rw (e, is, le-ltb j n past)
+      by : (B .value ≡ word (low x)) ⊎ (B .value ≡ object (payload x)) → (d : Head plain) → v .head o ≡ d → (slot-of ≡ stuck) ⊎ There o
+      by (inl e) d k = inl (rw (B .filled, e))
+      by (inr e) (array-head u n) k = inl (rw (B .filled, e, ← name, k))
+      by (inr e) (record-head u n) k = tested e n k (ltb j n) refl
+      by (inr e) no-head k = inl (rw (B .filled, e, ← name, k))
 
-  pub slot-at : (o n : ℕ) → v .variable b ≡ filled (object o) tt → v .head o ≡ record-head tt n → j < n → slot-of ≡ k (o, n)
-  unfolding held record-at record-head-of is-of licence slot-there _>>=_ _>>_
-  slot-at o n e is below = rw (e, is, lt-ltb j n below)
+-- what is got from there, and what is set there
+abbrev pub getting : (g : Program) (v : View plain) (a j : ℕ) → ℕ × ℕ → Res (Effect plain)
+getting g v a j o = moving plain g v (declared-as plain g v a) a (v .cell (o .0) j)
+
+module _ (g : Program) (v : View plain) (t : Qual) (b o j : ℕ) where
+  abbrev pub setting : Res (Effect plain)
+  setting = moved plain g v t (v .variable b) >>= λ d. ok (store o j d)
+
+  pub setting-blank : v .variable b ≡ empty → setting ≡ stop blank
+  unfolding moved held _>>=_
+  setting-blank e = rw e
+
+  pub setting-filled : {q : ℕ → Qual} {w : ℕ} → Holds q v b w → setting ≡ ok (store o j (as-cell (slot-in plain q w)))
+  unfolding moved held bind _>>=_
+  setting-filled B = rw (B .slot, B .filled)

@@ -1,118 +1,71 @@
-// What each instruction asks for, found by reading alone: f is the running frame's part of the memory, h the objects' part.
-// A blank variable that is read is 13 before any kind is looked at; a value of the wrong kind is 18, where the plain machine is stuck.
+// What each instruction of the plain machine asks for, found by reading alone: f is the running frame's part of the memory, h the objects' part.
+// A blank that is read or moved is 13. No kind is tested: where a value has not the kind due the definition is stuck, and of an accepted sheet
+// condition 3 says that it never is.
 use words::Cell;
-use words::Head;
 use words::Moved;
 use words::Number;
-use words::Size;
 use words::Stored;
-use words::Value;
 use words::cell_of;
-use words::head_of;
+use words::low_of;
+use words::name_of;
 use words::read;
+use words::size_of;
 ghost use mathlib.Core.Path.{_≡_};
-ghost use Prim.Native.Nat.{ℕ, _+_, _<_};
+ghost use mathlib.Core.List.{List};
+ghost use Prim.Native.Nat.{ℕ};
 ghost use Rattle.model.specs.Qualified.{Qual};
 ghost use Rattle.model.specs.Program.{Program};
 ghost use Rattle.model.specs.Modes.{plain};
 ghost use Rattle.model.specs.Machine.{View, plan, one-integer};
 ghost use Rattle.model.specs.declared.Operation.the-variants as Op;
-ghost use Rattle.words.specs.Word.{as-cell, as-head};
-ghost use Rattle.words.specs.Sees.{slot, variables-in, Sees};
-ghost use Rattle.words.specs.Answers.{MovedOk, StoredOk, moving, number-as, given, moved-to, stored, size-as, array-size, record-size};
-
-fn array_size(w: u64) -> Size
-    ensures { λ r. ⌜ size-as r ≡ array-size (as-head (slot w)) ⌝ }
-{
-    match head_of(w) {
-        Head::Array(n) => Size::Of(n),
-        Head::Record(_) => Size::Nothing,
-        Head::Nothing => Size::Nothing,
-    }
-}
-
-fn record_size(w: u64) -> Size
-    ensures { λ r. ⌜ size-as r ≡ record-size (as-head (slot w)) ⌝ }
-{
-    match head_of(w) {
-        Head::Array(_) => Size::Nothing,
-        Head::Record(n) => Size::Of(n),
-        Head::Nothing => Size::Nothing,
-    }
-}
+ghost use Rattle.words.specs.Sees.{Sees};
+ghost use Rattle.words.specs.Answer.{moved-word};
+ghost use Rattle.words.specs.Answers.{Unless-stuck, MovedOk, StoredOk, number-as, given, moved-to, stored};
 
 // The integer in variable x.
 pub fn integer_at(f: &[u64], x: u8) -> Number
-    ensures { λ r. ⌜ ((g : Program) (v : View plain) → v .variable ≡ variables-in (now (f .entry)) → number-as r ≡ one-integer plain g v x) ⌝ }
+    ensures { λ r. ⌜ ((q : ℕ → Qual) (g : Program) (v : View plain) (h : List ℕ) → Sees plain q v (now (f .entry)) h → Unless-stuck (one-integer plain g v x) (number-as plain r ≡ one-integer plain g v x)) ⌝ }
 {
-    let c = cell_of(read(f, x as usize));
-    let Cell::Filled(value) = c else {
+    let Cell::Filled(w) = cell_of(read(f, x as usize)) else {
         return Number::Halt(13);
     };
-    let Value::Word(n) = value else {
-        return Number::Halt(18);
-    };
-    Number::Is(n)
+    Number::Is(low_of(w))
 }
 
 pub fn add_of(f: &[u64], b: u8, c: u8) -> Number
-    ensures { λ r. ⌜ ((g : Program) (v : View plain) (a : ℕ) → v .variable ≡ variables-in (now (f .entry)) → given a r ≡ plan plain g v (Op.Add a b c)) ⌝ }
+    ensures { λ r. ⌜ ((q : ℕ → Qual) (g : Program) (v : View plain) (h : List ℕ) (a : ℕ) → Sees plain q v (now (f .entry)) h → Unless-stuck (plan plain g v (Op.Add a b c)) (given plain a r ≡ plan plain g v (Op.Add a b c))) ⌝ }
 {
-    let left = cell_of(read(f, b as usize));
-    let right = cell_of(read(f, c as usize));
-    let Cell::Filled(x) = left else {
+    let Cell::Filled(x) = cell_of(read(f, b as usize)) else {
         return Number::Halt(13);
     };
-    let Cell::Filled(y) = right else {
+    let Cell::Filled(y) = cell_of(read(f, c as usize)) else {
         return Number::Halt(13);
     };
-    let Value::Word(m) = x else {
-        return Number::Halt(18);
-    };
-    let Value::Word(n) = y else {
-        return Number::Halt(18);
-    };
-    Number::Is(std::num::wrapping_add_u32(m, n))
+    Number::Is(std::num::wrapping_add_u32(low_of(x), low_of(y)))
 }
 
 pub fn subtract_of(f: &[u64], b: u8, c: u8) -> Number
-    ensures { λ r. ⌜ ((g : Program) (v : View plain) (a : ℕ) → v .variable ≡ variables-in (now (f .entry)) → given a r ≡ plan plain g v (Op.Subtract a b c)) ⌝ }
+    ensures { λ r. ⌜ ((q : ℕ → Qual) (g : Program) (v : View plain) (h : List ℕ) (a : ℕ) → Sees plain q v (now (f .entry)) h → Unless-stuck (plan plain g v (Op.Subtract a b c)) (given plain a r ≡ plan plain g v (Op.Subtract a b c))) ⌝ }
 {
-    let left = cell_of(read(f, b as usize));
-    let right = cell_of(read(f, c as usize));
-    let Cell::Filled(x) = left else {
+    let Cell::Filled(x) = cell_of(read(f, b as usize)) else {
         return Number::Halt(13);
     };
-    let Cell::Filled(y) = right else {
+    let Cell::Filled(y) = cell_of(read(f, c as usize)) else {
         return Number::Halt(13);
     };
-    let Value::Word(m) = x else {
-        return Number::Halt(18);
-    };
-    let Value::Word(n) = y else {
-        return Number::Halt(18);
-    };
-    Number::Is(std::num::wrapping_sub_u32(m, n))
+    Number::Is(std::num::wrapping_sub_u32(low_of(x), low_of(y)))
 }
 
 pub fn less_of(f: &[u64], b: u8, c: u8) -> Number
-    ensures { λ r. ⌜ ((g : Program) (v : View plain) (a : ℕ) → v .variable ≡ variables-in (now (f .entry)) → given a r ≡ plan plain g v (Op.Less a b c)) ⌝ }
+    ensures { λ r. ⌜ ((q : ℕ → Qual) (g : Program) (v : View plain) (h : List ℕ) (a : ℕ) → Sees plain q v (now (f .entry)) h → Unless-stuck (plan plain g v (Op.Less a b c)) (given plain a r ≡ plan plain g v (Op.Less a b c))) ⌝ }
 {
-    let left = cell_of(read(f, b as usize));
-    let right = cell_of(read(f, c as usize));
-    let Cell::Filled(x) = left else {
+    let Cell::Filled(x) = cell_of(read(f, b as usize)) else {
         return Number::Halt(13);
     };
-    let Cell::Filled(y) = right else {
+    let Cell::Filled(y) = cell_of(read(f, c as usize)) else {
         return Number::Halt(13);
     };
-    let Value::Word(m) = x else {
-        return Number::Halt(18);
-    };
-    let Value::Word(n) = y else {
-        return Number::Halt(18);
-    };
-    if m < n {
+    if low_of(x) < low_of(y) {
         return Number::Is(1);
     }
     Number::Is(0)
@@ -120,145 +73,84 @@ pub fn less_of(f: &[u64], b: u8, c: u8) -> Number
 
 // A word that is moved is that of a filled cell.
 fn filled_word(w: u64) -> Moved
-    ensures { λ r. ⌜ ((g : Program) (v : View plain) (q : Qual) (a : ℕ) → moved-to a r ≡ moving plain g v q a (as-cell (slot w))) ⌝ }
-    ensures { λ r. ⌜ MovedOk r ⌝ }
+    ensures { λ r. ⌜ r ≡ moved-word w ⌝ }
 {
-    let c = cell_of(w);
-    let Cell::Filled(_) = c else {
+    let Cell::Filled(x) = cell_of(w) else {
         return Moved::Halt(13);
     };
-    Moved::To(w)
+    Moved::To(x)
 }
 
 // Variable x, moved.
 pub fn moved_at(f: &[u64], x: u8) -> Moved
-    ensures { λ r. ⌜ ((g : Program) (v : View plain) (a : ℕ) → v .variable ≡ variables-in (now (f .entry)) → moved-to a r ≡ plan plain g v (Op.Bind a x)) ⌝ }
-    ensures { λ r. ⌜ MovedOk r ⌝ }
+    ensures { λ r. ⌜ ((q : ℕ → Qual) (g : Program) (v : View plain) (h : List ℕ) (a : ℕ) → Sees plain q v (now (f .entry)) h → Unless-stuck (plan plain g v (Op.Bind a x)) (MovedOk r × (moved-to plain q a r ≡ plan plain g v (Op.Bind a x)))) ⌝ }
 {
     filled_word(read(f, x as usize))
 }
 
 pub fn fetch_of(f: &[u64], h: &[u64], b: u8, c: u8) -> Moved
-    ensures { λ r. ⌜ ((g : Program) (v : View plain) (a : ℕ) → Sees v (now (f .entry)) (now (h .entry)) → moved-to a r ≡ plan plain g v (Op.Fetch a b c)) ⌝ }
-    ensures { λ r. ⌜ MovedOk r ⌝ }
+    ensures { λ r. ⌜ ((q : ℕ → Qual) (g : Program) (v : View plain) (a : ℕ) → Sees plain q v (now (f .entry)) (now (h .entry)) → Unless-stuck (plan plain g v (Op.Fetch a b c)) (MovedOk r × (moved-to plain q a r ≡ plan plain g v (Op.Fetch a b c)))) ⌝ }
 {
-    let array = cell_of(read(f, b as usize));
-    let index = cell_of(read(f, c as usize));
-    let Cell::Filled(x) = array else {
+    let Cell::Filled(x) = cell_of(read(f, b as usize)) else {
         return Moved::Halt(13);
     };
-    let Cell::Filled(y) = index else {
+    let Cell::Filled(y) = cell_of(read(f, c as usize)) else {
         return Moved::Halt(13);
     };
-    let Value::Object(o) = x else {
-        return Moved::Halt(18);
-    };
-    let size = array_size(read(h, o as usize));
-    let Size::Of(n) = size else {
-        return Moved::Halt(18);
-    };
-    let Value::Word(i) = y else {
-        return Moved::Halt(18);
-    };
-    if i < n {
-        return filled_word(read(h, (o as usize) + 1 + (i as usize)));
+    let o = name_of(x) as usize;
+    let i = low_of(y);
+    if i < size_of(read(h, o)) {
+        return filled_word(read(h, o + 1 + (i as usize)));
     }
     Moved::Halt(14)
 }
 
-pub fn size_of(f: &[u64], h: &[u64], b: u8) -> Number
-    ensures { λ r. ⌜ ((g : Program) (v : View plain) (a : ℕ) → Sees v (now (f .entry)) (now (h .entry)) → given a r ≡ plan plain g v (Op.Size a b)) ⌝ }
+pub fn array_size_of(f: &[u64], h: &[u64], b: u8) -> Number
+    ensures { λ r. ⌜ ((q : ℕ → Qual) (g : Program) (v : View plain) (a : ℕ) → Sees plain q v (now (f .entry)) (now (h .entry)) → Unless-stuck (plan plain g v (Op.Size a b)) (given plain a r ≡ plan plain g v (Op.Size a b))) ⌝ }
 {
-    let array = cell_of(read(f, b as usize));
-    let Cell::Filled(x) = array else {
+    let Cell::Filled(x) = cell_of(read(f, b as usize)) else {
         return Number::Halt(13);
     };
-    let Value::Object(o) = x else {
-        return Number::Halt(18);
-    };
-    let size = array_size(read(h, o as usize));
-    let Size::Of(n) = size else {
-        return Number::Halt(18);
-    };
-    Number::Is(n)
+    Number::Is(size_of(read(h, name_of(x) as usize)))
 }
 
 pub fn store_at(f: &[u64], h: &[u64], a: u8, b: u8, c: u8) -> Stored
-    ensures { λ r. ⌜ ((g : Program) (v : View plain) → Sees v (now (f .entry)) (now (h .entry)) → stored r ≡ plan plain g v (Op.Store a b c)) ⌝ }
-    ensures { λ r. ⌜ StoredOk (now (h .entry)) r ⌝ }
+    ensures { λ r. ⌜ ((q : ℕ → Qual) (g : Program) (v : View plain) → Sees plain q v (now (f .entry)) (now (h .entry)) → Unless-stuck (plan plain g v (Op.Store a b c)) (StoredOk (now (h .entry)) r × (stored plain q r ≡ plan plain g v (Op.Store a b c)))) ⌝ }
 {
-    let array = cell_of(read(f, a as usize));
-    let index = cell_of(read(f, b as usize));
-    let Cell::Filled(x) = array else {
+    let Cell::Filled(x) = cell_of(read(f, a as usize)) else {
         return Stored::Halt(13);
     };
-    let Cell::Filled(y) = index else {
+    let Cell::Filled(y) = cell_of(read(f, b as usize)) else {
         return Stored::Halt(13);
     };
-    let Value::Object(o) = x else {
-        return Stored::Halt(18);
-    };
-    let size = array_size(read(h, o as usize));
-    let Size::Of(n) = size else {
-        return Stored::Halt(18);
-    };
-    let Value::Word(i) = y else {
-        return Stored::Halt(18);
-    };
-    if n <= i {
+    let o = name_of(x);
+    let i = low_of(y);
+    if size_of(read(h, o as usize)) <= i {
         return Stored::Halt(14);
     }
-    let w = read(f, c as usize);
-    let value = cell_of(w);
-    let Cell::Filled(_) = value else {
+    let Cell::Filled(w) = cell_of(read(f, c as usize)) else {
         return Stored::Halt(13);
     };
     Stored::At(o, i, w)
 }
 
 pub fn get_of(f: &[u64], h: &[u64], b: u8, k: u16) -> Moved
-    ensures { λ r. ⌜ ((g : Program) (v : View plain) (a : ℕ) → Sees v (now (f .entry)) (now (h .entry)) → moved-to a r ≡ plan plain g v (Op.GetSlot a b k)) ⌝ }
-    ensures { λ r. ⌜ MovedOk r ⌝ }
+    ensures { λ r. ⌜ ((q : ℕ → Qual) (g : Program) (v : View plain) (a : ℕ) → Sees plain q v (now (f .entry)) (now (h .entry)) → Unless-stuck (plan plain g v (Op.GetSlot a b k)) (MovedOk r × (moved-to plain q a r ≡ plan plain g v (Op.GetSlot a b k)))) ⌝ }
 {
-    let record = cell_of(read(f, b as usize));
-    let Cell::Filled(x) = record else {
+    let Cell::Filled(x) = cell_of(read(f, b as usize)) else {
         return Moved::Halt(13);
     };
-    let Value::Object(o) = x else {
-        return Moved::Halt(18);
-    };
-    let size = record_size(read(h, o as usize));
-    let Size::Of(n) = size else {
-        return Moved::Halt(18);
-    };
-    if (k as u32) < n {
-        return filled_word(read(h, (o as usize) + 1 + (k as usize)));
-    }
-    Moved::Halt(18)
+    filled_word(read(h, (name_of(x) as usize) + 1 + (k as usize)))
 }
 
-pub fn set_at(f: &[u64], h: &[u64], a: u8, b: u8, k: u16) -> Stored
-    ensures { λ r. ⌜ ((g : Program) (v : View plain) → Sees v (now (f .entry)) (now (h .entry)) → stored r ≡ plan plain g v (Op.SetSlot a b k)) ⌝ }
-    ensures { λ r. ⌜ StoredOk (now (h .entry)) r ⌝ }
+pub fn set_at(f: &[u64], a: u8, b: u8, k: u16) -> Stored
+    ensures { λ r. ⌜ ((q : ℕ → Qual) (g : Program) (v : View plain) (h : List ℕ) → Sees plain q v (now (f .entry)) h → Unless-stuck (plan plain g v (Op.SetSlot a b k)) (StoredOk h r × (stored plain q r ≡ plan plain g v (Op.SetSlot a b k)))) ⌝ }
 {
-    let record = cell_of(read(f, a as usize));
-    let Cell::Filled(x) = record else {
+    let Cell::Filled(x) = cell_of(read(f, a as usize)) else {
         return Stored::Halt(13);
     };
-    let Value::Object(o) = x else {
-        return Stored::Halt(18);
-    };
-    let size = record_size(read(h, o as usize));
-    let Size::Of(n) = size else {
-        return Stored::Halt(18);
-    };
-    if n <= (k as u32) {
-        return Stored::Halt(18);
-    }
-    let w = read(f, b as usize);
-    let value = cell_of(w);
-    let Cell::Filled(_) = value else {
+    let Cell::Filled(w) = cell_of(read(f, b as usize)) else {
         return Stored::Halt(13);
     };
-    Stored::At(o, k as u32, w)
+    Stored::At(name_of(x), k as u32, w)
 }

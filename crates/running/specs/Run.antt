@@ -1,17 +1,19 @@
--- What `run` says of any bytes, input, fuel, memory and output, and what it leaves behind (document 01, "What check, run and watch say").
+-- What `run` and `watch` say of any bytes, input, fuel, memory and output, and what they leave behind (document 01, "What check, run and watch say").
+-- They are one definition: the mode tells which machine runs, and what is refused first.
 use Prim.Native.Nat.{ℕ}
 use mathlib.Core.Bool.{Bool, cond}
 use mathlib.Core.List.{List, []}
 use lib.Dec.{leb}
 use lib.ListN.{length, replicate}
-use Rattle.model.specs.Modes.{plain}
+use Rattle.model.specs.Modes.{Mode, plain, watched}
 use Rattle.model.specs.Outcome.{number}
-use Rattle.model.specs.Refusal.{big-memory}
+use Rattle.model.specs.Refusal.{big-memory, verdict}
 use Rattle.model.specs.Refusal as refusal
 use Rattle.model.specs.Run.{End, stopped, stuck-at, run, written}
 use Rattle.model.specs.declared.Verdict.{Verdict}
 use Rattle.model.specs.declared.Verdict.the-variants.{Accepted, Refused}
 use Rattle.sheet.specs.Meaning.{programOf}
+use Rattle.form.specs.WellFormed.{form-tests}
 use Rattle.checking.specs.Check.{check}
 use Rattle.running.specs.declared.Reply.{Reply}
 
@@ -19,7 +21,7 @@ use Rattle.running.specs.declared.Reply.{Reply}
 abbrev pub refused : (number place : ℕ) → Reply
 refused n at = record { number = n; place = at; steps = 0; put = 0; procedure = 0; instruction = 0 }
 
--- "11 to 19 are stops, with steps, words put, procedure and instruction"; condition 3 says that no accepted sheet is stuck
+-- "11 to 19 are stops, with steps, words put, procedure and instruction"; condition 3 says that no accepted sheet is stuck, and the watched machine never is
 abbrev pub reply-of : End → Reply
 reply-of (stopped x n put p i) =
     record { number = number x; place = 0; steps = n; put = length put; procedure = p; instruction = i }
@@ -29,10 +31,15 @@ abbrev pub words-put : End → List ℕ
 words-put (stopped x n put p i) = put
 words-put (stuck-at n put p i) = put
 
-module _ (sheet input : List ℕ) (fuel : ℕ) (memory output : List ℕ) where
+-- "run an accepted one on the plain machine; watch a well-formed one on the watched machine": "watch all but 6 to 9"
+abbrev pub verdict-before : Mode → List ℕ → Verdict
+verdict-before plain s = check s
+verdict-before watched s = verdict (form-tests s)
+
+module _ (m : Mode) (sheet input : List ℕ) (fuel : ℕ) (memory output : List ℕ) where
   -- the run itself
   unfoldable pub end : End
-  end = run plain (programOf sheet) (length memory) (length output) input fuel
+  end = run m (programOf sheet) (length memory) (length output) input fuel
 
   -- "then 10": over 65,536 words
   unfoldable pub fits : Bool
@@ -53,10 +60,10 @@ module _ (sheet input : List ℕ) (fuel : ℕ) (memory output : List ℕ) where
   output-by Accepted = cond fits (written output (words-put end)) output
 
   unfoldable pub reply : Reply
-  reply = reply-by (check sheet)
+  reply = reply-by (verdict-before m sheet)
 
   unfoldable pub memory-after : List ℕ
-  memory-after = memory-by (check sheet)
+  memory-after = memory-by (verdict-before m sheet)
 
   unfoldable pub output-after : List ℕ
-  output-after = output-by (check sheet)
+  output-after = output-by (verdict-before m sheet)

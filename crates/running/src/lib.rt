@@ -1,12 +1,20 @@
-// A run of any bytes: check them, then the plain machine in the lent memory.
+// A run of any bytes: check them, then a machine in the lent memory.
 use checking::check;
-use machine::Ended;
-use machine::run::run_in;
+use form::calls::well_formed;
 use model::Verdict;
 use sheet::places::places;
+use turns::Ended;
+use turns::run::run_in;
 use words::clear;
 ghost use mathlib.Core.Path.{_≡_};
-ghost use Rattle.running.specs.Run.{refused, reply, memory-after, output-after};
+ghost use Prim.Native.Nat.{_≤_};
+ghost use lib.ListN.{length};
+ghost use Rattle.model.specs.Modes.{plain, watched};
+ghost use Rattle.model.specs.Refusal.{verdict};
+ghost use Rattle.model.specs.declared.Verdict.the-variants.{Accepted};
+ghost use Rattle.form.specs.WellFormed.{form-tests};
+ghost use Rattle.turns.specs.Turn.{mode-of, Never-stuck};
+ghost use Rattle.running.specs.Run.{refused, end, reply-by, memory-by, output-by, reply, memory-after, output-after};
 
 // What a run says: the number and place of a refusal; or the number of the stop, steps, words put, procedure and instruction.
 pub struct Reply {
@@ -44,22 +52,57 @@ fn stop(e: Ended) -> Reply
     }
 }
 
+// The run of a sheet that is not refused: 10 and nothing touched, or the machine's stop. Each library sees the flag as a constant.
+fn run_lent(
+    sheet: &[u8],
+    input: &[u32],
+    fuel: u64,
+    memory: &mut [u64],
+    output: &mut [u32],
+    watch: bool,
+) -> Reply
+    requires { ⌜ verdict (form-tests (now sheet)) ≡ Accepted ⌝ }
+    requires { ⌜ (length (now memory) ≤ 65536 → Never-stuck (end (mode-of watch) (now sheet) (now input) fuel (now memory) (now output))) ⌝ }
+    ensures { λ r. ⌜ r ≡ reply-by (mode-of watch) (now (sheet .entry)) (now (input .entry)) fuel (now (memory .entry)) (now (output .entry)) Accepted ⌝ }
+    ensures { λ r. ⌜ now (memory .exit) ≡ memory-by (mode-of watch) (now (sheet .entry)) (now (input .entry)) fuel (now (memory .entry)) (now (output .entry)) Accepted ⌝ }
+    ensures { λ r. ⌜ now (output .exit) ≡ output-by (mode-of watch) (now (sheet .entry)) (now (input .entry)) fuel (now (memory .entry)) (now (output .entry)) Accepted ⌝ }
+{
+    if 65536 < memory.len() {
+        return refusal(10, 0);
+    }
+    let table = places(sheet);
+    let e = run_in(sheet, &table, input, fuel, memory, output, watch);
+    clear(memory);
+    stop(e)
+}
+
 // Refuses with 1 to 10 and touches neither memory nor output, or runs and stops with 11 to 17.
 pub fn run(sheet: &[u8], input: &[u32], fuel: u64, memory: &mut [u64], output: &mut [u32]) -> Reply
-    ensures { λ r. ⌜ r ≡ reply (now (sheet .entry)) (now (input .entry)) fuel (now (memory .entry)) (now (output .entry)) ⌝ }
-    ensures { λ r. ⌜ now (memory .exit) ≡ memory-after (now (sheet .entry)) (now (input .entry)) fuel (now (memory .entry)) (now (output .entry)) ⌝ }
-    ensures { λ r. ⌜ now (output .exit) ≡ output-after (now (sheet .entry)) (now (input .entry)) fuel (now (memory .entry)) (now (output .entry)) ⌝ }
+    ensures { λ r. ⌜ r ≡ reply plain (now (sheet .entry)) (now (input .entry)) fuel (now (memory .entry)) (now (output .entry)) ⌝ }
+    ensures { λ r. ⌜ now (memory .exit) ≡ memory-after plain (now (sheet .entry)) (now (input .entry)) fuel (now (memory .entry)) (now (output .entry)) ⌝ }
+    ensures { λ r. ⌜ now (output .exit) ≡ output-after plain (now (sheet .entry)) (now (input .entry)) fuel (now (memory .entry)) (now (output .entry)) ⌝ }
 {
     match check(sheet) {
         Verdict::Refused(number, place) => refusal(number, place),
-        Verdict::Accepted => {
-            if 65536 < memory.len() {
-                return refusal(10, 0);
-            }
-            let table = places(sheet);
-            let e = run_in(sheet, &table, input, fuel, memory, output);
-            clear(memory);
-            stop(e)
-        }
+        Verdict::Accepted => run_lent(sheet, input, fuel, memory, output, false),
+    }
+}
+
+// Refuses with 1 to 5 and 10 and touches neither memory nor output, or runs any well-formed sheet with every test and stops with 11 to 19.
+pub fn watch(
+    sheet: &[u8],
+    input: &[u32],
+    fuel: u64,
+    memory: &mut [u64],
+    output: &mut [u32],
+) -> Reply
+    ensures { λ r. ⌜ r ≡ reply watched (now (sheet .entry)) (now (input .entry)) fuel (now (memory .entry)) (now (output .entry)) ⌝ }
+    ensures { λ r. ⌜ now (memory .exit) ≡ memory-after watched (now (sheet .entry)) (now (input .entry)) fuel (now (memory .entry)) (now (output .entry)) ⌝ }
+    ensures { λ r. ⌜ now (output .exit) ≡ output-after watched (now (sheet .entry)) (now (input .entry)) fuel (now (memory .entry)) (now (output .entry)) ⌝ }
+{
+    let table = places(sheet);
+    match well_formed(sheet, &table) {
+        Verdict::Refused(number, place) => refusal(number, place),
+        Verdict::Accepted => run_lent(sheet, input, fuel, memory, output, true),
     }
 }

@@ -1,19 +1,21 @@
 -- Laws of the definitions in specs/, which the functions' proofs and the layers above cite.
-use Prim.Native.Nat.{ℕ, zero, suc, _+_, _<_, _≤_}
+use Prim.Native.Nat.{ℕ, zero, suc, _+_, _-_, _<_, _≤_}
 use mathlib.Core.Path.{_≡_, refl, sym, ap, _∙_}
 use mathlib.Core.List.{List}
 use mathlib.Core.Logic.{_⊎_, inl, inr}
 use mathlib.Core.Bool.{Bool, true, false, _&&_, cond}
 use native.Mathlib.Omega.{arith}
 use native.Mathlib.Numerals.{add-one}
-use lib.Dec.{leb, ltb}
-use lib.ListN.{length, getD, set}
-use lib.Seq.{getD-set-same, getD-set-other}
+use lib.Dec.{leb, ltb, eqb}
+use lib.ListN.{length, getD, set, take, drop, length-take, length-drop}
+use lib.Seq.{getD-set-same, getD-set-other, getD-take, getD-drop, length-take-le}
 use borrow.Author.Count.{below-more}
-use borrow.Author.Tests.{leb-true, leb-false, le-leb, lt-leb, ltb-true, ltb-false, le-ltb}
+use borrow.Author.Tests.{leb-true, leb-false, le-leb, lt-leb, ltb-true, ltb-false, le-ltb, eqb-true}
 use Rattle.model.specs.Qualified.{Qual, integer, array, declared, base}
-use Rattle.sheet.specs.Bytes.{wholeAt}
+use Rattle.model.proofs.Verdicts.{both-true}
+use Rattle.sheet.specs.Bytes.{byteAt, wholeAt, markedAt}
 use Rattle.sheet.specs.Layout.{qualsOf, rightsOf, elementOf, instructionAt, instructionsAt, procedureAt}
+use Rattle.sheet.specs.Reader.{sizeAt, recordAt}
 use Rattle.sheet.specs.Meaning.{shaped, baseIn, elementIn, tree, qualOf}
 
 -- ---- tests
@@ -50,6 +52,45 @@ leb-iff a b c d f g = same (leb c d) (λ e. g (leb-true c d e)) (λ e. other (le
 pub whole-true : (s : List ℕ) (at n : ℕ) → wholeAt s at n ≡ true → at + n ≤ length s
 unfolding wholeAt
 whole-true s at n h = leb-true (at + n) (length s) h
+
+-- ---- the reader of records
+-- what it gives ends within the sheet
+pub record-inside : (s : List ℕ) (at : ℕ) → length (recordAt s at) ≤ length s - at
+unfolding recordAt
+record-inside s at = within (cond (wholeAt s at (sizeAt s at)) (sizeAt s at) 0)
+  where
+    within : (n : ℕ) → length (take n (drop at s)) ≤ length s - at
+    within n = omega (arith, length-take n (drop at s), length-drop at s)
+
+-- a mark rules out those whose first byte differs
+other-mark : (s : List ℕ) (at m n : ℕ) → markedAt s at m n ≡ true → (k l : ℕ) → eqb m k ≡ false → markedAt s at k l ≡ false
+unfolding markedAt
+other-mark s at m n h k l d = let e = eqb-true (byteAt s at 0) m (both-true (eqb (byteAt s at 0) m) _ h .0) in rw (e, d)
+
+pub hd-sized : (s : List ℕ) (at : ℕ) → markedAt s at 72 68 ≡ true → sizeAt s at ≡ 6
+unfolding sizeAt
+hd-sized s at h = rw h
+
+pub in-sized : (s : List ℕ) (at : ℕ) → markedAt s at 73 78 ≡ true → sizeAt s at ≡ 8
+unfolding sizeAt
+in-sized s at h =
+    let other = other-mark s at 73 78 h in
+    rw (other 72 68 refl, other 84 89 refl, other 81 84 refl, other 80 82 refl, other 86 82 refl, h)
+
+module _ (s : List ℕ) (at n : ℕ) (z : sizeAt s at ≡ n) (w : wholeAt s at n ≡ true) where
+  -- a record that stands whole is as long as its mark says
+  pub record-sized : length (recordAt s at) ≡ n
+  unfolding recordAt
+  record-sized =
+      let e : n ≤ length (drop at s) = omega (arith, length-drop at s, whole-true s at n w) in
+      rw (z, w) (length-take-le n (drop at s) e)
+
+  -- and its bytes are the sheet's
+  pub record-byte : (k : ℕ) → k < n → byteAt (recordAt s at) 0 k ≡ byteAt s at k
+  unfolding recordAt byteAt
+  record-byte k l =
+      let e : 0 + k ≡ k = omega arith in
+      rw (z, w, e) (getD-take n (drop at s) k 0 l ∙ getD-drop at s k 0)
 
 -- ---- the places of procedures
 -- a table whose first i entries are those of f, and one entry more

@@ -1,8 +1,8 @@
 -- Document 01: "A reader of records gives back the bytes of one record, as part of the sheet."
-use Prim.Native.Nat.{ℕ}
+use Prim.Native.Nat.{ℕ, _+_, _-_}
 use mathlib.Core.List.{List}
-use mathlib.Core.Bool.{Bool, cond}
-use lib.ListN.{take, drop}
+use mathlib.Core.Bool.{cond}
+use lib.ListN.{length, take, drop}
 use Rattle.sheet.specs.Bytes.{wholeAt, markedAt}
 use Rattle.sheet.specs.Layout.{hd-size, ty-size, qt-size, pr-size, vr-size, in-size}
 
@@ -20,3 +20,11 @@ sizeAt s at =
 -- "Where no record with a known mark stands whole at the place given, that part is empty."
 unfoldable pub recordAt : List ℕ → ℕ → List ℕ
 recordAt s at = take (cond (wholeAt s at (sizeAt s at)) (sizeAt s at) 0) (drop at s)
+
+-- where the record at `at` ends; `at` itself where none stands whole there, so that a reader never moves past bytes that are no record
+unfoldable pub pastAt : List ℕ → ℕ → ℕ
+pastAt s at = at + length (recordAt s at)
+
+-- how many bytes are left from `at` on
+unfoldable pub leftAt : List ℕ → ℕ → ℕ
+leftAt s at = length s - at

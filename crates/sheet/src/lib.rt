@@ -1,5 +1,6 @@
 // The bytes of a sheet (document 01: worksheet): its fields, its records, its instructions.
 pub mod bytes; // single bytes and words, marks, what stands whole
 pub mod places; // where each record starts
-pub mod reader; // one record as part of the sheet
+pub mod records; // one record as part of the sheet, where it ends, what is left
 pub mod decode; // the operation of an instruction
+pub mod fetch; // the same where its record stands whole

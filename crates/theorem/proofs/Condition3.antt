@@ -10,7 +10,7 @@ use Rattle.model.proofs.Run.{condition3}
 use Rattle.model.proofs.Open.{open-stays}
 use Rattle.sheet.specs.Meaning.{programOf}
 use Rattle.form.specs.WellFormed.{form-tests}
-use Rattle.form.proofs.Laws.{left-accepted, right-accepted}
+use Rattle.model.proofs.Verdicts.{left-accepted, right-accepted}
 use Rattle.checking.specs.Check.{check-tests, check}
 use Rattle.theorem.specs.Condition3.{Claim, OpenClaim}
 use Rattle.theorem.proofs.Formed.{formed, numbered}

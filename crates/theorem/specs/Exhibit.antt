@@ -82,7 +82,7 @@ amplified =
 abbrev pub CounterRaised : Type 0
 CounterRaised = state-after watched (programOf counter) 40 4 (3 ∷ []) 1000 8 ≡ amplified
 
--- ---- Takes a number of calls and the time of each, sorts the calls by time, and reports the times (samples/sorter.hex). Only the module of the
+-- ---- Takes a number of calls and the time of each, sorts the calls by time, and reports the times (samples/sorter.ws). Only the module of the
 -- type call opens a call; main and the sorting procedure have the right to read, and no other.
 unfoldable pub sorter : List ℕ
 sorter =

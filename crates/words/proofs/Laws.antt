@@ -4,13 +4,20 @@ use native.Mathlib.Omega.{arith}
 use mathlib.Core.Path.{_≡_, refl, sym, ap, _∙_}
 use mathlib.Core.Bool.{Bool, true, false, cond}
 use mathlib.Core.List.{List, [], _∷_, map}
+use mathlib.Core.Logic.{_⊎_, inl, inr}
+use mathlib.Core.Option.{none, some}
 use lib.Dec.{eqb}
 use lib.ListN.{getD, set, List·getD-map}
-use borrow.Author.Tests.{ne-eqb}
+use borrow.Author.Tests.{eqb-true, eqb-false, ne-eqb}
 use Rattle.model.specs.Qualified.{Qual}
-use Rattle.model.specs.Modes.{Mode, mark, element-mark, type-mark}
-use Rattle.model.specs.Machine.{word, object, Cell, empty, filled, Head, array-head, record-head, no-head}
+use Rattle.model.specs.Modes.{Mode, plain, Mark, ElementMark, TypeMark, mark, element-mark, type-mark}
+use Rattle.model.specs.Machine.{Value, word, object, Cell, empty, filled, array-head, record-head}
 use Rattle.words.specs.Word.{low, tag, payload, pack, size-of, kind-of, Slot, cell, head, place, slot-in, as-cell, as-head, place-procedure, place-next}
+use Rattle.words.specs.Answer.{read-as}
+use Rattle.words.specs.Sees.{head-size}
+use Rattle.words.specs.Answers.{IsCell}
+use Rattle.words.specs.declared.Cell.{Cell as Read}
+use Rattle.words.specs.declared.Cell.the-variants.{Blank, Filled}
 
 -- ---- the parts of a packed word
 
@@ -29,78 +36,173 @@ module _ (t p l : ℕ) (t-fits : t < 8) (l-fits : l < 2 ^ 32) where
 
 -- ---- what a tag makes of a word
 
+-- a word with a tag other than 0 is not 0
+pub tagged : (w t : ℕ) → tag w ≡ suc t → w ≡ 0 → ⊥
+unfolding tag
+tagged w t e z = omega arith
+
+pub slot-zero : (m : Mode) (qual : ℕ → Qual) → slot-in m qual 0 ≡ cell empty
+unfolding slot-in
+slot-zero m qual = refl
+
 module _ (m : Mode) (qual : ℕ → Qual) (w : ℕ) where
   pub slot-integer : tag w ≡ 1 → slot-in m qual w ≡ cell (filled (word (low w)) (mark m 0))
   unfolding slot-in
-  slot-integer e = rw e
+  slot-integer e = rw (ne-eqb w 0 (tagged w 0 e), e)
 
   pub slot-object : tag w ≡ 2 → slot-in m qual w ≡ cell (filled (object (payload w)) (mark m (low w)))
   unfolding slot-in
-  slot-object e = rw e
+  slot-object e = rw (ne-eqb w 0 (tagged w 1 e), e)
 
   pub slot-array : tag w ≡ 3 → slot-in m qual w ≡ head (array-head (element-mark m (qual (kind-of w))) (size-of w))
   unfolding slot-in
-  slot-array e = rw e
+  slot-array e = rw (ne-eqb w 0 (tagged w 2 e), e)
 
   pub slot-record : tag w ≡ 4 → slot-in m qual w ≡ head (record-head (type-mark m (kind-of w)) (size-of w))
   unfolding slot-in
-  slot-record e = rw e
+  slot-record e = rw (ne-eqb w 0 (tagged w 3 e), e)
 
   pub slot-place : tag w ≡ 5 → slot-in m qual w ≡ place (payload w) (low w)
   unfolding slot-in
-  slot-place e = rw e
+  slot-place e = rw (ne-eqb w 0 (tagged w 4 e), e)
 
--- ---- what a word without the tag is read as
+-- the six kinds of word, the same in both machines and for all maps of element numbers
+pub data Reading (w : ℕ) : Type 0 where
+  a-blank : w ≡ 0 → Reading w
+  an-integer : tag w ≡ 1 → Reading w
+  an-object : tag w ≡ 2 → Reading w
+  an-array : tag w ≡ 3 → Reading w
+  a-record : tag w ≡ 4 → Reading w
+  a-place : ((m : Mode) (qual : ℕ → Qual) → slot-in m qual w ≡ place (payload w) (low w)) → Reading w
 
-no-cell-there : {m : Mode} (g h : Head m) (p i : ℕ) (is3 is4 is5 : Bool)
-    → as-cell (cond is3 (head g) (cond is4 (head h) (cond is5 (place p i) (cell empty)))) ≡ empty
-no-cell-there g h p i true is4 is5 = refl
-no-cell-there g h p i false true is5 = refl
-no-cell-there g h p i false false true = refl
-no-cell-there g h p i false false false = refl
+pub reading : (w : ℕ) → Reading w
+unfolding slot-in
+reading w = by (eqb w 0) (eqb (tag w) 1) (eqb (tag w) 2) (eqb (tag w) 3) (eqb (tag w) 4) refl refl refl refl refl
+  where
+    by : (is0 is1 is2 is3 is4 : Bool)
+        → eqb w 0 ≡ is0 → eqb (tag w) 1 ≡ is1 → eqb (tag w) 2 ≡ is2 → eqb (tag w) 3 ≡ is3 → eqb (tag w) 4 ≡ is4 → Reading w
+    by true is1 is2 is3 is4 z i o a r = a-blank (eqb-true _ _ z)
+    by false true is2 is3 is4 z i o a r = an-integer (eqb-true _ _ i)
+    by false false true is3 is4 z i o a r = an-object (eqb-true _ _ o)
+    by false false false true is4 z i o a r = an-array (eqb-true _ _ a)
+    by false false false false true z i o a r = a-record (eqb-true _ _ r)
+    by false false false false false z i o a r = a-place (λ m q. rw (z, i, o, a, r))
 
-no-head-there : {m : Mode} (c d : Cell m) (p i : ℕ) (is1 is2 is5 : Bool)
-    → as-head (cond is1 (cell c) (cond is2 (cell d) (cond is5 (place p i) (cell empty)))) ≡ no-head
-no-head-there c d p i true is2 is5 = refl
-no-head-there c d p i false true is5 = refl
-no-head-there c d p i false false true = refl
-no-head-there c d p i false false false = refl
-
-no-place-there : {m : Mode} (f : Slot m → ℕ) → ((c : Cell m) → f (cell c) ≡ 0) → ((h : Head m) → f (head h) ≡ 0)
-    → (c d : Cell m) (g h : Head m) (is1 is2 is3 is4 : Bool)
-    → f (cond is1 (cell c) (cond is2 (cell d) (cond is3 (head g) (cond is4 (head h) (cell empty))))) ≡ 0
-no-place-there f of-cell of-head c d g h true is2 is3 is4 = of-cell c
-no-place-there f of-cell of-head c d g h false true is3 is4 = of-cell d
-no-place-there f of-cell of-head c d g h false false true is4 = of-head g
-no-place-there f of-cell of-head c d g h false false false true = of-head h
-no-place-there f of-cell of-head c d g h false false false false = of-cell empty
+-- ---- what a slot says of its word
 
 module _ (m : Mode) (qual : ℕ → Qual) (w : ℕ) where
-  pub as-cell-other : (tag w ≡ 1 → ⊥) → (tag w ≡ 2 → ⊥) → as-cell (slot-in m qual w) ≡ empty
-  unfolding slot-in
-  as-cell-other not1 not2 = rw (ne-eqb _ _ not1, ne-eqb _ _ not2) (no-cell-there _ _ _ _ (eqb (tag w) 3) (eqb (tag w) 4) (eqb (tag w) 5))
+  pub blank-word : {c : Cell m} → slot-in m qual w ≡ cell c → w ≡ 0 → c ≡ empty
+  blank-word e z = ap as-cell (sym e ∙ ap (slot-in m qual) z ∙ slot-zero m qual)
 
-  pub as-head-other : (tag w ≡ 3 → ⊥) → (tag w ≡ 4 → ⊥) → as-head (slot-in m qual w) ≡ no-head
-  unfolding slot-in
-  as-head-other not3 not4 = rw (ne-eqb _ _ not3, ne-eqb _ _ not4) (no-head-there _ _ _ _ (eqb (tag w) 1) (eqb (tag w) 2) (eqb (tag w) 5))
+  pub filled-word : {c : Cell m} → slot-in m qual w ≡ cell c → (w ≡ 0 → ⊥)
+      → (c ≡ filled (word (low w)) (mark m 0)) ⊎ (c ≡ filled (object (payload w)) (mark m (low w)))
+  filled-word {c} e not0 = by (reading w)
+    where
+      by : Reading w → (c ≡ filled (word (low w)) (mark m 0)) ⊎ (c ≡ filled (object (payload w)) (mark m (low w)))
+      by (a-blank z) = absurd (not0 z)
+      by (an-integer t) = inl (ap as-cell (sym e ∙ slot-integer m qual w t))
+      by (an-object t) = inr (ap as-cell (sym e ∙ slot-object m qual w t))
+      by (an-array t) = let k = slot-array m qual w t in absurd (let z : _≡_ {A = ℕ} 0 1 = cc in omega arith)
+      by (a-record t) = let k = slot-record m qual w t in absurd (let z : _≡_ {A = ℕ} 0 1 = cc in omega arith)
+      by (a-place t) = let k = t m qual in absurd (let z : _≡_ {A = ℕ} 0 1 = cc in omega arith)
 
-  pub place-procedure-other : (tag w ≡ 5 → ⊥) → place-procedure (slot-in m qual w) ≡ 0
-  unfolding slot-in
-  place-procedure-other not5 =
-      rw (ne-eqb _ _ not5) (no-place-there place-procedure (λ c. refl) (λ h. refl) _ _ _ _ (eqb (tag w) 1) (eqb (tag w) 2) (eqb (tag w) 3) (eqb (tag w) 4))
+  pub size-word : {n : ℕ} → head-size (as-head (slot-in m qual w)) ≡ some n → n ≡ size-of w
+  size-word {n} e = by (reading w)
+    where
+      by : Reading w → n ≡ size-of w
+      by (a-blank z) =
+          let k : head-size (as-head (slot-in m qual w)) ≡ none = rw (z, slot-zero m qual) in
+          absurd (let z : _≡_ {A = ℕ} 0 1 = cc in omega arith)
+      by (an-integer t) =
+          let k : head-size (as-head (slot-in m qual w)) ≡ none = rw (slot-integer m qual w t) in
+          absurd (let z : _≡_ {A = ℕ} 0 1 = cc in omega arith)
+      by (an-object t) =
+          let k : head-size (as-head (slot-in m qual w)) ≡ none = rw (slot-object m qual w t) in
+          absurd (let z : _≡_ {A = ℕ} 0 1 = cc in omega arith)
+      by (an-array t) = let k : some (size-of w) ≡ some n = sym (ap (λ (s : Slot m). head-size (as-head s)) (slot-array m qual w t)) ∙ e in cc
+      by (a-record t) = let k : some (size-of w) ≡ some n = sym (ap (λ (s : Slot m). head-size (as-head s)) (slot-record m qual w t)) ∙ e in cc
+      by (a-place t) =
+          let k : head-size (as-head (slot-in m qual w)) ≡ none = rw (t m qual) in
+          absurd (let z : _≡_ {A = ℕ} 0 1 = cc in omega arith)
 
-  pub place-next-other : (tag w ≡ 5 → ⊥) → place-next (slot-in m qual w) ≡ 0
-  unfolding slot-in
-  place-next-other not5 =
-      rw (ne-eqb _ _ not5) (no-place-there place-next (λ c. refl) (λ h. refl) _ _ _ _ (eqb (tag w) 1) (eqb (tag w) 2) (eqb (tag w) 3) (eqb (tag w) 4))
+  pub array-word : {e : ElementMark m} {n : ℕ} → as-head (slot-in m qual w) ≡ array-head e n → n ≡ size-of w
+  array-word is = size-word (ap head-size is)
+
+  pub record-word : {t : TypeMark m} {n : ℕ} → as-head (slot-in m qual w) ≡ record-head t n → n ≡ size-of w
+  record-word is = size-word (ap head-size is)
+
+  pub place-word : {p i : ℕ} → slot-in m qual w ≡ place p i → (p ≡ payload w) × (i ≡ low w)
+  place-word {p} {i} e = by (reading w)
+    where
+      by : Reading w → (p ≡ payload w) × (i ≡ low w)
+      by (a-blank z) =
+          let k : slot-in m qual w ≡ cell empty = rw (z, slot-zero m qual) in
+          absurd (let z : _≡_ {A = ℕ} 0 1 = cc in omega arith)
+      by (an-integer t) = let k = slot-integer m qual w t in absurd (let z : _≡_ {A = ℕ} 0 1 = cc in omega arith)
+      by (an-object t) = let k = slot-object m qual w t in absurd (let z : _≡_ {A = ℕ} 0 1 = cc in omega arith)
+      by (an-array t) = let k = slot-array m qual w t in absurd (let z : _≡_ {A = ℕ} 0 1 = cc in omega arith)
+      by (a-record t) = let k = slot-record m qual w t in absurd (let z : _≡_ {A = ℕ} 0 1 = cc in omega arith)
+      by (a-place t) = let k : place p i ≡ place (payload w) (low w) = sym e ∙ t m qual in (ap place-procedure k, ap place-next k)
+
+-- ---- what the two machines, and all maps of element numbers, have in common
+
+-- a word that one of them reads as a cell is a cell's
+pub is-cell : (m : Mode) (qual : ℕ → Qual) (w : ℕ) {c : Cell m} → slot-in m qual w ≡ cell c → IsCell w
+is-cell m qual w e k q = by (reading w)
+  where
+    by : Reading w → slot-in k q w ≡ cell (as-cell (slot-in k q w))
+    by (a-blank z) = rw (z, slot-zero k q)
+    by (an-integer t) = rw (slot-integer k q w t)
+    by (an-object t) = rw (slot-object k q w t)
+    by (an-array t) = let s = slot-array m qual w t in absurd (let z : _≡_ {A = ℕ} 0 1 = cc in omega arith)
+    by (a-record t) = let s = slot-record m qual w t in absurd (let z : _≡_ {A = ℕ} 0 1 = cc in omega arith)
+    by (a-place t) = let s = t m qual in absurd (let z : _≡_ {A = ℕ} 0 1 = cc in omega arith)
+
+pub filled-is-cell : (m : Mode) (qual : ℕ → Qual) (w : ℕ) (x : Value) (r : Mark m) → as-cell (slot-in m qual w) ≡ filled x r → IsCell w
+filled-is-cell m qual w x r e = is-cell m qual w (known (slot-in m qual w) e)
+  where
+    known : (s : Slot m) → as-cell s ≡ filled x r → s ≡ cell (filled x r)
+    known (cell c) e = ap cell e
+    known (head h) e = absurd (let z : _≡_ {A = ℕ} 0 1 = cc in omega arith)
+    known (place p i) e = absurd (let z : _≡_ {A = ℕ} 0 1 = cc in omega arith)
+
+-- the plain machine keeps no types
+pub plain-slot : (q p : ℕ → Qual) (w : ℕ) → slot-in plain q w ≡ slot-in plain p w
+unfolding slot-in
+plain-slot q p w = refl
+
+-- all read the same size of a head
+pub same-size : (m k : Mode) (q p : ℕ → Qual) (w : ℕ) → head-size (as-head (slot-in m q w)) ≡ head-size (as-head (slot-in k p w))
+same-size m k q p w = by (reading w)
+  where
+    by : Reading w → head-size (as-head (slot-in m q w)) ≡ head-size (as-head (slot-in k p w))
+    by (a-blank z) = rw (z, slot-zero m q, slot-zero k p)
+    by (an-integer t) = rw (slot-integer m q w t, slot-integer k p w t)
+    by (an-object t) = rw (slot-object m q w t, slot-object k p w t)
+    by (an-array t) = rw (slot-array m q w t, slot-array k p w t)
+    by (a-record t) = rw (slot-record m q w t, slot-record k p w t)
+    by (a-place t) = rw (t m q, t k p)
+
+-- ---- what reading a word as a cell tells of it
+
+module _ {w : ℕ} {r : Read} (is : r ≡ read-as w) where
+  pub told-blank : r ≡ Blank → w ≡ 0
+  told-blank told = go (eqb w 0) refl (sym is ∙ told)
+    where
+      go : (t : Bool) → eqb w 0 ≡ t → cond t Blank (Filled w) ≡ Blank → w ≡ 0
+      go true e k = eqb-true _ _ e
+      go false e k = absurd (let z : _≡_ {A = ℕ} 0 1 = cc in omega arith)
+
+  pub told-filled : {x : ℕ} → r ≡ Filled x → (x ≡ w) × (w ≡ 0 → ⊥)
+  told-filled {x} told = go (eqb w 0) refl (sym is ∙ told)
+    where
+      go : (t : Bool) → eqb w 0 ≡ t → cond t Blank (Filled w) ≡ Filled x → (x ≡ w) × (w ≡ 0 → ⊥)
+      go true e k = absurd (let z : _≡_ {A = ℕ} 0 1 = cc in omega arith)
+      go false e k = (cc, eqb-false _ _ e)
 
 -- ---- what a packed word is
 
 module _ (m : Mode) (qual : ℕ → Qual) where
-  pub slot-zero : slot-in m qual 0 ≡ cell empty
-  unfolding slot-in tag
-  slot-zero = refl
-
   pub integer-packed : (n : ℕ) → n < 2 ^ 32 → slot-in m qual (pack 1 0 n) ≡ cell (filled (word n) (mark m 0))
   integer-packed n h =
       slot-integer m qual _ (tag-pack 1 0 n (omega arith) h) ∙ rw (low-pack 1 0 n (omega arith) h)
@@ -110,17 +212,19 @@ module _ (m : Mode) (qual : ℕ → Qual) where
       slot-object m qual _ (tag-pack 2 a r (omega arith) h) ∙ rw (payload-pack 2 a r (omega arith) h, low-pack 2 a r (omega arith) h)
 
   -- a head of kind k (the element's number, or the type's) and size n
-  pub array-packed : (k n : ℕ) → n < 2 ^ 17 → slot-in m qual (pack 3 (k * 2 ^ 17 + n) 0) ≡ head (array-head (element-mark m (qual k)) n)
-  array-packed k n h =
+  pub array-packed : (k n : ℕ) → k < 2 ^ 8 → n < 2 ^ 17 → slot-in m qual (pack 3 (k * 2 ^ 17 + n) 0) ≡ head (array-head (element-mark m (qual k)) n)
+  array-packed k n b h =
       let size : (k * 2 ^ 17 + n) % 2 ^ 17 ≡ n = omega arith in
-      let kind : (k * 2 ^ 17 + n) / 2 ^ 17 ≡ k = omega arith in
-      slot-array m qual _ (tag-pack 3 _ 0 (omega arith) (omega arith)) ∙ rw (payload-pack 3 (k * 2 ^ 17 + n) 0 (omega arith) (omega arith), size, kind)
+      let over : (k * 2 ^ 17 + n) / 2 ^ 17 ≡ k = omega arith in
+      let kind : k % 2 ^ 8 ≡ k = omega arith in
+      slot-array m qual _ (tag-pack 3 _ 0 (omega arith) (omega arith)) ∙ rw (payload-pack 3 (k * 2 ^ 17 + n) 0 (omega arith) (omega arith), size, over, kind)
 
-  pub record-packed : (k n : ℕ) → n < 2 ^ 17 → slot-in m qual (pack 4 (k * 2 ^ 17 + n) 0) ≡ head (record-head (type-mark m k) n)
-  record-packed k n h =
+  pub record-packed : (k n : ℕ) → k < 2 ^ 8 → n < 2 ^ 17 → slot-in m qual (pack 4 (k * 2 ^ 17 + n) 0) ≡ head (record-head (type-mark m k) n)
+  record-packed k n b h =
       let size : (k * 2 ^ 17 + n) % 2 ^ 17 ≡ n = omega arith in
-      let kind : (k * 2 ^ 17 + n) / 2 ^ 17 ≡ k = omega arith in
-      slot-record m qual _ (tag-pack 4 _ 0 (omega arith) (omega arith)) ∙ rw (payload-pack 4 (k * 2 ^ 17 + n) 0 (omega arith) (omega arith), size, kind)
+      let over : (k * 2 ^ 17 + n) / 2 ^ 17 ≡ k = omega arith in
+      let kind : k % 2 ^ 8 ≡ k = omega arith in
+      slot-record m qual _ (tag-pack 4 _ 0 (omega arith) (omega arith)) ∙ rw (payload-pack 4 (k * 2 ^ 17 + n) 0 (omega arith) (omega arith), size, over, kind)
 
   pub place-packed : (p i : ℕ) → i < 2 ^ 32 → slot-in m qual (pack 5 p i) ≡ place p i
   place-packed p i h =

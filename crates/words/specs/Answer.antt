@@ -1,22 +1,15 @@
--- What the code's cells and heads stand for in the definitions.
-use Rattle.model.specs.Modes.{plain}
-use Rattle.model.specs.Machine.{Value, word, object, Cell, empty, filled, Head, array-head, record-head, no-head}
-use Rattle.words.specs.declared.Value.{Value as CodeValue}
-use Rattle.words.specs.declared.Value.the-variants.{Word, Object}
-use Rattle.words.specs.declared.Cell.{Cell as CodeCell}
+-- A word read as a cell, and moved: the code's answers.
+use Prim.Native.Nat.{ℕ}
+use mathlib.Core.Bool.{cond}
+use lib.Dec.{eqb}
+use Rattle.words.specs.declared.Cell.{Cell}
 use Rattle.words.specs.declared.Cell.the-variants.{Blank, Filled}
-use Rattle.words.specs.declared.Head.{Head as CodeHead}
-use Rattle.words.specs.declared.Head.the-variants.{Array, Record, Nothing}
+use Rattle.words.specs.declared.Moved.{Moved}
+use Rattle.words.specs.declared.Moved.the-variants.{To, Halt}
 
-abbrev pub value-as : CodeValue → Value
-value-as (Word n) = word n
-value-as (Object a) = object a
+-- 0 is blank; a filled cell is known by its word
+abbrev pub read-as : ℕ → Cell
+read-as w = cond (eqb w 0) Blank (Filled w)
 
-abbrev pub cell-as : CodeCell → Cell plain
-cell-as Blank = empty
-cell-as (Filled v) = filled (value-as v) tt
-
-abbrev pub head-as : CodeHead → Head plain
-head-as (Array n) = array-head tt n
-head-as (Record n) = record-head tt n
-head-as Nothing = no-head
+abbrev pub moved-word : ℕ → Moved
+moved-word w = cond (eqb w 0) (Halt 13) (To w)

@@ -1,35 +1,26 @@
 -- What an instruction sees of a state (`View`), read off words: the variables' part of the memory, f, and the objects' part, h.
-use Prim.Native.Nat.{ℕ, _+_}
+use Prim.Native.Nat.{ℕ, _+_, _<_}
 use mathlib.Core.Path.{_≡_}
-use mathlib.Core.Bool.{Bool, cond}
 use mathlib.Core.List.{List}
-use lib.Dec.{ltb}
+use mathlib.Core.Option.{Option, none, some}
 use lib.ListN.{getD}
-use Rattle.model.specs.Qualified.{Qual, integer}
-use Rattle.model.specs.Modes.{plain}
-use Rattle.model.specs.Machine.{Cell, empty, Head, array-head, record-head, no-head, View}
-use Rattle.words.specs.Word.{Slot, slot-in, as-cell, as-head}
+use Rattle.model.specs.Qualified.{Qual}
+use Rattle.model.specs.Modes.{Mode}
+use Rattle.model.specs.Machine.{Head, array-head, record-head, no-head, View}
+use Rattle.words.specs.Word.{cell, slot-in, as-head}
 
--- the plain machine keeps no rights and no types, so that the types of element numbers are of no account
-abbrev pub slot : ℕ → Slot plain
-slot w = slot-in plain (λ j. integer) w
+abbrev pub head-size : {m : Mode} → Head m → Option ℕ
+head-size (array-head e n) = some n
+head-size (record-head t n) = some n
+head-size no-head = none
 
-abbrev pub variables-in : List ℕ → ℕ → Cell plain
-variables-in f x = as-cell (slot (getD f x 0))
+-- `qual` gives the type of an element's number; the plain machine keeps no types, so that there it is of no account
+module _ (m : Mode) (qual : ℕ → Qual) where
+  abbrev pub heads-in : List ℕ → ℕ → Head m
+  heads-in h a = as-head (slot-in m qual (getD h a 0))
 
-abbrev pub heads-in : List ℕ → ℕ → Head plain
-heads-in h a = as-head (slot (getD h a 0))
-
--- cell i of an object with that head
-abbrev pub inside : Head plain → ℕ → Cell plain → Cell plain
-inside (array-head e n) i c = cond (ltb i n) c empty
-inside (record-head t n) i c = cond (ltb i n) c empty
-inside no-head i c = empty
-
-abbrev pub cells-in : List ℕ → ℕ → ℕ → Cell plain
-cells-in h a i = inside (heads-in h a) i (as-cell (slot (getD h (a + 1 + i) 0)))
-
-pub record Sees (v : View plain) (f h : List ℕ) : Type 0 where
-  pub variable : v .variable ≡ variables-in f
-  pub head : v .head ≡ heads-in h
-  pub cell : v .cell ≡ cells-in h
+  -- each variable, the head at each name, and each cell of an object that is there
+  pub record Sees (v : View m) (f h : List ℕ) : Type 0 where
+    pub variable : (x : ℕ) → slot-in m qual (getD f x 0) ≡ cell (v .variable x)
+    pub head : (a : ℕ) → heads-in h a ≡ v .head a
+    pub cell : (a i n : ℕ) → head-size (v .head a) ≡ some n → i < n → slot-in m qual (getD h (a + 1 + i) 0) ≡ cell (v .cell a i)

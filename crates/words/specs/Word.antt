@@ -1,13 +1,13 @@
 -- A 64-bit word of the memory (document 01: bench) as a cell, as the head of an object, or as a place to go back to.
 -- The low half is a number or rights; the high half is 8 times a payload, plus a tag: 1 an integer, 2 an object, 3 an array's head, 4 a record's head,
--- 5 a place; any other word is a blank cell. An object's payload is its name and its low half its rights; a head's payload is its size and, from bit 17
--- on, its element or type.
+-- any other a place; but 0 is a blank cell, and nothing else is. An object's payload is its name and its low half its rights; a head's payload is its
+-- size and, in the eight bits from bit 17 on, the number of its element or type.
 use Prim.Native.Nat.{ℕ, _+_, _*_, _/_, _%_, _^_}
-use mathlib.Core.Bool.{Bool, cond}
+use mathlib.Core.Bool.{cond}
 use lib.Dec.{eqb}
 use Rattle.model.specs.Qualified.{Qual}
 use Rattle.model.specs.Modes.{Mode, mark, element-mark, type-mark}
-use Rattle.model.specs.Machine.{Value, word, object, Cell, empty, filled, Head, array-head, record-head, no-head}
+use Rattle.model.specs.Machine.{word, object, Cell, empty, filled, Head, array-head, record-head, no-head}
 
 unfoldable pub low : ℕ → ℕ
 low w = w % 2 ^ 32
@@ -26,7 +26,7 @@ abbrev pub size-of : ℕ → ℕ
 size-of w = payload w % 2 ^ 17
 
 abbrev pub kind-of : ℕ → ℕ
-kind-of w = payload w / 2 ^ 17
+kind-of w = payload w / 2 ^ 17 % 2 ^ 8
 
 -- one word of the memory; `qual` gives the type of an element's number
 pub data Slot (m : Mode) : Type 0 where
@@ -36,12 +36,12 @@ pub data Slot (m : Mode) : Type 0 where
 
 unfoldable pub slot-in : (m : Mode) → (qual : ℕ → Qual) → ℕ → Slot m
 slot-in m qual w =
-    cond (eqb (tag w) 1) (cell (filled (word (low w)) (mark m 0)))
+    cond (eqb w 0) (cell empty)
+    (cond (eqb (tag w) 1) (cell (filled (word (low w)) (mark m 0)))
     (cond (eqb (tag w) 2) (cell (filled (object (payload w)) (mark m (low w))))
     (cond (eqb (tag w) 3) (head (array-head (element-mark m (qual (kind-of w))) (size-of w)))
     (cond (eqb (tag w) 4) (head (record-head (type-mark m (kind-of w)) (size-of w)))
-    (cond (eqb (tag w) 5) (place (payload w) (low w))
-    (cell empty)))))
+    (place (payload w) (low w))))))
 
 -- a slot read as a cell, as a head, as a place
 abbrev pub as-cell : {m : Mode} → Slot m → Cell m

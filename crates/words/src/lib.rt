@@ -1,31 +1,17 @@
 // One word of the memory: what it stands for, and how it is read and written.
 ghost use mathlib.Core.Path.{_≡_};
-ghost use mathlib.Core.List.{map};
 ghost use Prim.Native.Nat.{ℕ, _+_, _<_, _^_};
 ghost use lib.ListN.{length, getD, set, replicate};
 ghost use Rattle.model.specs.Qualified.{Qual};
-ghost use Rattle.model.specs.Modes.{plain};
-ghost use Rattle.model.specs.Machine.{word, object, filled, empty, array-head, record-head};
-ghost use Rattle.words.specs.Word.{Slot, cell, head, place, slot-in, as-cell, as-head, place-procedure, place-next};
-ghost use Rattle.words.specs.Answer.{cell-as, head-as};
+ghost use Rattle.model.specs.Modes.{Mode, mark, element-mark, type-mark};
+ghost use Rattle.model.specs.Machine.{word, object, filled, array-head, record-head};
+ghost use Rattle.words.specs.Word.{cell, head, place, low, tag, payload, size-of, kind-of, slot-in};
+ghost use Rattle.words.specs.Answer.{read-as};
 
-// An integer, or an object by its name.
-pub enum Value {
-    Word(u32),
-    Object(u32),
-}
-
-// What a variable, a cell of an array or a slot of a record holds.
+// What a variable, a cell of an array or a slot of a record holds: a filled one by its word.
 pub enum Cell {
     Blank,
-    Filled(Value),
-}
-
-// The head of an object, with its size.
-pub enum Head {
-    Array(u32),
-    Record(u32),
-    Nothing,
+    Filled(u64),
 }
 
 // An integer, or the number of the stop.
@@ -46,12 +32,6 @@ pub enum Stored {
     Halt(u8),
 }
 
-// The size of an object of the kind that is due.
-pub enum Size {
-    Of(u32),
-    Nothing,
-}
-
 // The word at i, 0 (a blank cell) past the end.
 pub fn read(b: &[u64], i: usize) -> u64
     ensures { λ r. ⌜ r ≡ getD (now (b .entry)) i 0 ⌝ }
@@ -69,83 +49,79 @@ pub fn write(b: &mut [u64], i: usize, w: u64)
 }
 
 pub fn cell_of(w: u64) -> Cell
-    ensures { λ r. ⌜ ((q : ℕ → Qual) → cell-as r ≡ as-cell (slot-in plain q w)) ⌝ }
+    ensures { λ r. ⌜ r ≡ read-as w ⌝ }
 {
-    let tag = w / 4294967296 % 8;
-    if tag == 1 {
-        return Cell::Filled(Value::Word((w % 4294967296) as u32));
+    if w == 0 {
+        return Cell::Blank;
     }
-    if tag == 2 {
-        return Cell::Filled(Value::Object((w / 34359738368) as u32));
-    }
-    Cell::Blank
+    Cell::Filled(w)
 }
 
-pub fn head_of(w: u64) -> Head
-    ensures { λ r. ⌜ ((q : ℕ → Qual) → head-as r ≡ as-head (slot-in plain q w)) ⌝ }
+// The integer of a word, or an object's rights; the name of an object; the size in the head of an object.
+pub fn low_of(w: u64) -> u32
+    ensures { λ n. ⌜ n ≡ low w ⌝ }
 {
-    let tag = w / 4294967296 % 8;
-    if tag == 3 {
-        return Head::Array((w / 34359738368 % 131072) as u32);
-    }
-    if tag == 4 {
-        return Head::Record((w / 34359738368 % 131072) as u32);
-    }
-    Head::Nothing
+    (w % 4294967296) as u32
+}
+
+pub fn name_of(w: u64) -> u32
+    ensures { λ n. ⌜ n ≡ payload w ⌝ }
+{
+    (w / 34359738368) as u32
+}
+
+pub fn size_of(w: u64) -> u32
+    ensures { λ n. ⌜ n ≡ size-of w ⌝ }
+{
+    (w / 34359738368 % 131072) as u32
+}
+
+// What a word is; the number of the element or of the type in the head of an object.
+pub fn tag_of(w: u64) -> u8
+    ensures { λ n. ⌜ n ≡ tag w ⌝ }
+{
+    (w / 4294967296 % 8) as u8
+}
+
+pub fn kind_in(w: u64) -> u8
+    ensures { λ n. ⌜ n ≡ kind-of w ⌝ }
+{
+    (w / 34359738368 / 131072 % 256) as u8
 }
 
 // The words of an integer, of an object, of the heads of an array and of a record, of a place.
 pub fn integer_word(n: u32) -> u64
-    ensures { λ w. ⌜ ((q : ℕ → Qual) → slot-in plain q w ≡ cell (filled (word n) tt)) ⌝ }
+    ensures { λ w. ⌜ ((m : Mode) (q : ℕ → Qual) → slot-in m q w ≡ cell (filled (word n) (mark m 0))) ⌝ }
 {
     4294967296 + (n as u64)
 }
 
-pub fn object_word(a: u32) -> u64
+pub fn object_word(a: u32, rights: u32) -> u64
     requires { ⌜ a < 2 ^ 29 ⌝ }
-    ensures { λ w. ⌜ ((q : ℕ → Qual) → slot-in plain q w ≡ cell (filled (object a) tt)) ⌝ }
+    ensures { λ w. ⌜ ((m : Mode) (q : ℕ → Qual) → slot-in m q w ≡ cell (filled (object a) (mark m rights))) ⌝ }
 {
-    ((a as u64) * 8 + 2) * 4294967296
+    ((a as u64) * 8 + 2) * 4294967296 + (rights as u64)
 }
 
-pub fn array_word(n: u32) -> u64
+pub fn array_word(n: u32, element: u8) -> u64
     requires { ⌜ n < 2 ^ 17 ⌝ }
-    ensures { λ w. ⌜ ((q : ℕ → Qual) → slot-in plain q w ≡ head (array-head tt n)) ⌝ }
+    ensures { λ w. ⌜ ((m : Mode) (q : ℕ → Qual) → slot-in m q w ≡ head (array-head (element-mark m (q element)) n)) ⌝ }
 {
-    ((n as u64) * 8 + 3) * 4294967296
+    (((element as u64) * 131072 + (n as u64)) * 8 + 3) * 4294967296
 }
 
-pub fn record_word(n: u32) -> u64
+pub fn record_word(n: u32, kind: u8) -> u64
     requires { ⌜ n < 2 ^ 17 ⌝ }
-    ensures { λ w. ⌜ ((q : ℕ → Qual) → slot-in plain q w ≡ head (record-head tt n)) ⌝ }
+    ensures { λ w. ⌜ ((m : Mode) (q : ℕ → Qual) → slot-in m q w ≡ head (record-head (type-mark m kind) n)) ⌝ }
 {
-    ((n as u64) * 8 + 4) * 4294967296
+    (((kind as u64) * 131072 + (n as u64)) * 8 + 4) * 4294967296
 }
 
 pub fn place_word(procedure: u32, next: u32) -> u64
     requires { ⌜ procedure < 2 ^ 29 ⌝ }
-    ensures { λ w. ⌜ ((q : ℕ → Qual) → slot-in plain q w ≡ place procedure next) ⌝ }
+    ensures { λ w. ⌜ ((m : Mode) (q : ℕ → Qual) → slot-in m q w ≡ place procedure next) ⌝ }
 {
     ((procedure as u64) * 8 + 5) * 4294967296 + (next as u64)
-}
-
-// The procedure and the instruction of a place; 0 of another word.
-pub fn procedure_of(w: u64) -> u32
-    ensures { λ p. ⌜ ((q : ℕ → Qual) → p ≡ place-procedure (slot-in plain q w)) ⌝ }
-{
-    if w / 4294967296 % 8 == 5 {
-        return (w / 34359738368) as u32;
-    }
-    0
-}
-
-pub fn next_of(w: u64) -> u32
-    ensures { λ i. ⌜ ((q : ℕ → Qual) → i ≡ place-next (slot-in plain q w)) ⌝ }
-{
-    if w / 4294967296 % 8 == 5 {
-        return (w % 4294967296) as u32;
-    }
-    0
 }
 
 // Every word of a slice becomes 0.

@@ -9,10 +9,9 @@ use borrow.Rule.Slice.PartMut.{put-same, set-mid-at}
 use lib.Dec.{ltb}
 use lib.ListN.{length, set, take, drop, replicate, length-set, length-map, length-drop}
 use lib.Seq.{take-set-le, drop-set-add, set-append-left, set-out, length-take-le}
-use Rattle.model.specs.Modes.{plain}
+use Rattle.model.specs.Modes.{Mode}
 use Rattle.model.specs.Machine.{Cell}
 use Rattle.words.specs.Word.{Slot, cell}
-use Rattle.words.specs.Sees.{slot}
 use Rattle.words.proofs.Laws.{map-set}
 use Rattle.writers.specs.Steps.{set-first}
 
@@ -52,31 +51,32 @@ put-word-is words base variables a w h = go (ltb a variables) refl
         let k : length (take variables (drop base words)) ≤ a = omega (arith, size, ltb-false a variables q) in
         rw (set-out (take variables (drop base words)) a w k) (put-same base variables words)
 
-module _ (words : List ℕ) (base variables a w : ℕ) where
-  pub length-put-word : length (put-word words base variables a w) ≡ length words
-  length-put-word = go (ltb a variables)
-    where
-      go : (t : Bool) → length (cond t (set words (base + a) w) words) ≡ length words
-      go true = length-set words (base + a) w
-      go false = refl
+pub length-put-word : (words : List ℕ) (base variables a w : ℕ) → length (put-word words base variables a w) ≡ length words
+length-put-word words base variables a w = go (ltb a variables)
+  where
+    go : (t : Bool) → length (cond t (set words (base + a) w) words) ≡ length words
+    go true = length-set words (base + a) w
+    go false = refl
 
+-- seen through any map, such as the slots of a machine
+module _ {A : Type 0} (f : ℕ → A) (words : List ℕ) (base variables a w : ℕ) where
   -- what lies before the frame is as it was
-  pub put-word-before : (m : ℕ) → m ≤ base → take m (map slot (put-word words base variables a w)) ≡ take m (map slot words)
-  put-word-before m h = go (ltb a variables)
+  pub put-word-before : (n : ℕ) → n ≤ base → take n (map f (put-word words base variables a w)) ≡ take n (map f words)
+  put-word-before n h = go (ltb a variables)
     where
-      go : (t : Bool) → take m (map slot (cond t (set words (base + a) w) words)) ≡ take m (map slot words)
-      go true = rw map-set (take-set-le m (map slot words) (base + a) (slot w) (omega arith))
+      go : (t : Bool) → take n (map f (cond t (set words (base + a) w) words)) ≡ take n (map f words)
+      go true = rw map-set (take-set-le n (map f words) (base + a) (f w) (omega arith))
       go false = refl
 
-  pub put-word-frame : drop base (map slot (put-word words base variables a w)) ≡ set-first variables (drop base (map slot words)) a (slot w)
+  pub put-word-frame : drop base (map f (put-word words base variables a w)) ≡ set-first variables (drop base (map f words)) a (f w)
   put-word-frame = go (ltb a variables)
     where
-      go : (t : Bool) → drop base (map slot (cond t (set words (base + a) w) words)) ≡ cond t (set (drop base (map slot words)) a (slot w)) (drop base (map slot words))
-      go true = rw map-set (drop-set-add base (map slot words) a (slot w))
+      go : (t : Bool) → drop base (map f (cond t (set words (base + a) w) words)) ≡ cond t (set (drop base (map f words)) a (f w)) (drop base (map f words))
+      go true = rw map-set (drop-set-add base (map f words) a (f w))
       go false = refl
 
 -- a frame's variables before what follows them
-pub set-variable : (n : ℕ) (vs : List (Cell plain)) (rest : List (Slot plain)) (a : ℕ) (d : Cell plain) → n ≡ length vs
+pub set-variable : {m : Mode} (n : ℕ) (vs : List (Cell m)) (rest : List (Slot m)) (a : ℕ) (d : Cell m) → n ≡ length vs
     → set-first n (map cell vs ++ rest) a (cell d) ≡ map cell (set vs a d) ++ rest
 set-variable n vs rest a d e = go (ltb a n) refl
   where

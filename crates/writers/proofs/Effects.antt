@@ -11,17 +11,19 @@ use borrow.Rule.Slice.PartMut.{midOf, putMid, same-len-mid, mid-len, drop-put}
 use lib.Dec.{eqb}
 use lib.ListN.{length, set, take, drop, replicate, length-set, length-append, length-drop, length-replicate, take-append-drop}
 use lib.Seq.{drop-drop, drop-cons, set-at, take-at, take-set-lt, take-suc-set, drop-set-lt, set-append-left, length-take-le}
-use Rattle.model.specs.Outcome.{Stop, number, blank, past-end, input-ended, output-full, memory-full, Res, ok, stop, stuck, _>>=_}
-use Rattle.model.specs.Modes.{plain}
+use Rattle.model.specs.Outcome.{Stop, number, blank, past-end, input-ended, output-full, memory-full, missing-right, Res, ok, stop, stuck, _>>=_}
+use Rattle.model.specs.Qualified.{Qual}
+use Rattle.model.specs.Modes.{Mode, plain, watched, Mark, ElementMark, TypeMark, amiss}
 use Rattle.model.specs.Machine as M
 use Rattle.model.specs.Machine.{Cell, empty, filled, object, Object, array-of, record-of, cells-of, head-of, find, update, Frame, frame, state, apply, rest-of, object-units}
-use Rattle.words.specs.Word.{Slot, cell, head}
-use Rattle.words.specs.Sees.{slot}
-use Rattle.words.specs.Answers.{halted, Inside, head-size}
+use Rattle.sheet.specs.Meaning.{qualOf}
+use Rattle.words.specs.Word.{Slot, cell, head, slot-in}
+use Rattle.words.specs.Sees.{head-size}
+use Rattle.words.specs.Answers.{halted, Inside}
 use Rattle.words.proofs.Laws.{map-set, slot-zero}
 use Rattle.writers.specs.declared.Registers.{Registers}
 use Rattle.writers.specs.declared.Stepped.the-variants.{Go, Halt}
-use Rattle.writers.specs.Memory.{Given, Sane, Stands, flat-objects, flat-frames}
+use Rattle.writers.specs.Memory.{Given, slots, Sane, Stands, flat-objects, flat-frames}
 use Rattle.writers.specs.Steps.{After, Does, onward, set-first, Allotted}
 use Rattle.writers.proofs.Change.{put-word, put-word-is, length-put-word, put-word-before, put-word-frame, set-variable, map-take, map-drop, map-replicate}
 use Rattle.writers.proofs.Flat.{set-at-cell, found-fits, flat-snoc, size-is, length-objects}
@@ -29,57 +31,77 @@ use Rattle.writers.proofs.View.{used-is, head-is}
 
 -- ---- a stop
 
-abbrev stops : {A : Type 0} → (is13 is14 is15 is16 is17 : Bool) → Res A
-stops is13 is14 is15 is16 is17 =
+abbrev stops : {A : Type 0} → Mode → (is13 is14 is15 is16 is17 is18 is19 : Bool) → Res A
+stops m is13 is14 is15 is16 is17 is18 is19 =
     cond is13 (stop blank)
     (cond is14 (stop past-end)
     (cond is15 (stop input-ended)
     (cond is16 (stop output-full)
     (cond is17 (stop memory-full)
-    stuck))))
+    (cond is18 (amiss m)
+    (cond is19 (stop missing-right)
+    stuck))))))
 
-pub halted-then : {A B : Type 0} (k : ℕ) (f : A → Res B) → halted k >>= f ≡ halted k
+amiss-then : {A B : Type 0} (m : Mode) (f : A → Res B) → amiss m >>= f ≡ amiss m
+unfolding amiss _>>=_
+amiss-then plain f = refl
+amiss-then watched f = refl
+
+pub halted-then : {A B : Type 0} (m : Mode) (k : ℕ) (f : A → Res B) → halted m k >>= f ≡ halted m k
 unfolding halted _>>=_
-halted-then k f = go (eqb k 13) (eqb k 14) (eqb k 15) (eqb k 16) (eqb k 17)
+halted-then m k f = go (eqb k 13) (eqb k 14) (eqb k 15) (eqb k 16) (eqb k 17) (eqb k 18) (eqb k 19)
   where
-    go : (is13 is14 is15 is16 is17 : Bool) → stops is13 is14 is15 is16 is17 >>= f ≡ stops is13 is14 is15 is16 is17
-    go true is14 is15 is16 is17 = refl
-    go false true is15 is16 is17 = refl
-    go false false true is16 is17 = refl
-    go false false false true is17 = refl
-    go false false false false true = refl
-    go false false false false false = refl
+    go : (is13 is14 is15 is16 is17 is18 is19 : Bool)
+        → stops m is13 is14 is15 is16 is17 is18 is19 >>= f ≡ stops m is13 is14 is15 is16 is17 is18 is19
+    go true is14 is15 is16 is17 is18 is19 = refl
+    go false true is15 is16 is17 is18 is19 = refl
+    go false false true is16 is17 is18 is19 = refl
+    go false false false true is17 is18 is19 = refl
+    go false false false false true is18 is19 = refl
+    go false false false false false true is19 = amiss-then m f
+    go false false false false false false true = refl
+    go false false false false false false false = refl
 
-pub halted-after : (c : Given) (words out : List ℕ) (k : ℕ) → After c words out out (Halt k) (halted k)
+amiss-after : (m : Mode) (c : Given) (words out : List ℕ) (r : Registers) (k : ℕ) → k ≡ 18 → After m c words out out r (Halt k) (amiss m)
+unfolding amiss
+amiss-after plain c words out r k e = tt
+amiss-after watched c words out r k e = (e, refl)
+
+pub halted-after : (m : Mode) (c : Given) (words out : List ℕ) (r : Registers) (k : ℕ) → After m c words out out r (Halt k) (halted m k)
 unfolding halted
-halted-after c words out k = go (eqb k 13) (eqb k 14) (eqb k 15) (eqb k 16) (eqb k 17) refl refl refl refl refl
+halted-after m c words out r k =
+    go (eqb k 13) (eqb k 14) (eqb k 15) (eqb k 16) (eqb k 17) (eqb k 18) (eqb k 19) refl refl refl refl refl refl refl
   where
-    go : (is13 is14 is15 is16 is17 : Bool)
-        → eqb k 13 ≡ is13 → eqb k 14 ≡ is14 → eqb k 15 ≡ is15 → eqb k 16 ≡ is16 → eqb k 17 ≡ is17
-        → After c words out out (Halt k) (stops is13 is14 is15 is16 is17)
-    go true is14 is15 is16 is17 e13 e14 e15 e16 e17 = (eqb-true _ _ e13, refl)
-    go false true is15 is16 is17 e13 e14 e15 e16 e17 = (eqb-true _ _ e14, refl)
-    go false false true is16 is17 e13 e14 e15 e16 e17 = (eqb-true _ _ e15, refl)
-    go false false false true is17 e13 e14 e15 e16 e17 = (eqb-true _ _ e16, refl)
-    go false false false false true e13 e14 e15 e16 e17 = (eqb-true _ _ e17, refl)
-    go false false false false false e13 e14 e15 e16 e17 = tt
+    go : (is13 is14 is15 is16 is17 is18 is19 : Bool)
+        → eqb k 13 ≡ is13 → eqb k 14 ≡ is14 → eqb k 15 ≡ is15 → eqb k 16 ≡ is16 → eqb k 17 ≡ is17 → eqb k 18 ≡ is18 → eqb k 19 ≡ is19
+        → After m c words out out r (Halt k) (stops m is13 is14 is15 is16 is17 is18 is19)
+    go true is14 is15 is16 is17 is18 is19 e13 e14 e15 e16 e17 e18 e19 = (eqb-true _ _ e13, refl)
+    go false true is15 is16 is17 is18 is19 e13 e14 e15 e16 e17 e18 e19 = (eqb-true _ _ e14, refl)
+    go false false true is16 is17 is18 is19 e13 e14 e15 e16 e17 e18 e19 = (eqb-true _ _ e15, refl)
+    go false false false true is17 is18 is19 e13 e14 e15 e16 e17 e18 e19 = (eqb-true _ _ e16, refl)
+    go false false false false true is18 is19 e13 e14 e15 e16 e17 e18 e19 = (eqb-true _ _ e17, refl)
+    go false false false false false true is19 e13 e14 e15 e16 e17 e18 e19 = amiss-after m c words out r k (eqb-true _ _ e18)
+    go false false false false false false true e13 e14 e15 e16 e17 e18 e19 = (eqb-true _ _ e19, refl)
+    go false false false false false false false e13 e14 e15 e16 e17 e18 e19 = tt
 
-pub does-halt : (words words′ out : List ℕ) (r : Registers) (k : ℕ) → Does words words′ out out r (Halt k) (halted k)
-does-halt words words′ out r k c t S = rw halted-then (halted-after c words′ out k)
+pub does-halt : (m : Mode) (c : Given) (words words′ out : List ℕ) (r : Registers) (k : ℕ)
+    → Does m c words words′ out out r (Halt k) (halted m k)
+does-halt m c words words′ out r k t S = rw halted-then (halted-after m c words′ out r k)
 
-pub does-stop : (words words′ out : List ℕ) (r : Registers) (x : Stop) → Does words words′ out out r (Halt (number x)) (stop x)
+pub does-stop : (m : Mode) (c : Given) (words words′ out : List ℕ) (r : Registers) (x : Stop)
+    → Does m c words words′ out out r (Halt (number x)) (stop x)
 unfolding _>>=_
-does-stop words words′ out r x c t S = (refl, refl)
+does-stop m c words words′ out r x t S = (refl, refl)
 
 -- ---- the parts of a state that a step changes
 
-module _ {c : Given} {words out : List ℕ} {r : Registers} {p i : ℕ} {vs : List (Cell plain)} {fs : List (Frame plain)} {os : List (Object plain)}
-    {input put : List ℕ} (S : Stands c words out r p i vs fs os input put) where
+module _ {m : Mode} {c : Given} {words out : List ℕ} {r : Registers} {p i : ℕ} {vs : List (Cell m)} {fs : List (Frame m)} {os : List (Object m)}
+    {input put : List ℕ} (S : Stands m c words out r p i vs fs os input put) where
   -- the next instruction, variables and objects
-  pub goes-on : (words′ : List ℕ) (next j used : ℕ) (vs′ : List (Cell plain)) (os′ : List (Object plain))
+  pub goes-on : (words′ : List ℕ) (next j used : ℕ) (vs′ : List (Cell m)) (os′ : List (Object m))
       → next ≡ j → length words′ ≡ length words → used ≤ r .base → length vs′ ≡ length vs
-      → take used (map slot words′) ≡ flat-objects os′ → drop (r .base) (map slot words′) ≡ map cell vs′ ++ flat-frames fs
-      → Stands c words′ out (onward r next used (r .taken) (r .put)) p j vs′ fs os′ input put
+      → take used (slots m c words′) ≡ flat-objects os′ → drop (r .base) (slots m c words′) ≡ map cell vs′ ++ flat-frames (c .sheet) fs
+      → Stands m c words′ out (onward r next used (r .taken) (r .put)) p j vs′ fs os′ input put
   goes-on words′ next j used vs′ os′ at long room many objects frames =
       record {
         procedure = S .procedure;
@@ -104,7 +126,7 @@ module _ {c : Given} {words out : List ℕ} {r : Registers} {p i : ℕ} {vs : Li
       }
 
   -- one input word fewer
-  pub took : Stands c words out (onward r (r .next) (r .used) (r .taken + 1) (r .put)) p i vs fs os (rest-of input) put
+  pub took : Stands m c words out (onward r (r .next) (r .used) (r .taken + 1) (r .put)) p i vs fs os (rest-of input) put
   took =
       record {
         procedure = S .procedure;
@@ -131,7 +153,7 @@ module _ {c : Given} {words out : List ℕ} {r : Registers} {p i : ℕ} {vs : Li
 
   -- one output word more
   pub put-one : (x : ℕ) → r .put < length out
-      → Stands c words (set out (r .put) x) (onward r (r .next) (r .used) (r .taken) (r .put + 1)) p i vs fs os input (put ++ (x ∷ []))
+      → Stands m c words (set out (r .put) x) (onward r (r .next) (r .used) (r .taken) (r .put + 1)) p i vs fs os input (put ++ (x ∷ []))
   put-one x h =
       let e = S .put-words in
       let l : length out ≡ length put + (length (c .output) - length put) = ap length (S .output-is) ∙ rw (length-append, length-drop) in
@@ -157,86 +179,87 @@ module _ {c : Given} {words out : List ℕ} {r : Registers} {p i : ℕ} {vs : Li
 
 -- ---- a variable is written
 
-pub record Put (words words′ : List ℕ) (r : Registers) (a : ℕ) (d : Cell plain) : Type 0 where
+-- the words seen through any map, such as the slots of a machine
+pub record Put {A : Type 0} (f : ℕ → A) (words words′ : List ℕ) (r : Registers) (a : ℕ) (x : A) : Type 0 where
   pub long : length words′ ≡ length words
-  pub objects : take (r .used) (map slot words′) ≡ take (r .used) (map slot words)
-  pub frame : drop (r .base) (map slot words′) ≡ set-first (r .variables) (drop (r .base) (map slot words)) a (cell d)
+  pub objects : take (r .used) (map f words′) ≡ take (r .used) (map f words)
+  pub frame : drop (r .base) (map f words′) ≡ set-first (r .variables) (drop (r .base) (map f words)) a x
 
-pub puts : (words words′ : List ℕ) (r : Registers) (a w : ℕ) (d : Cell plain) → Sane (length words) r → slot w ≡ cell d
+pub puts : {A : Type 0} (f : ℕ → A) (words words′ : List ℕ) (r : Registers) (a w : ℕ) (x : A) → Sane (length words) r → f w ≡ x
     → words′
     ≡ take (r .base) words
     ++ (set (take (r .variables) (drop (r .base) words)) a w ++ drop (r .variables) (drop (r .base) words))
-    → Put words words′ r a d
-puts words words′ r a w d sane is e =
+    → Put f words words′ r a x
+puts f words words′ r a w x sane is e =
     let room = sane .room in
     let frame = sane .frame in
     let q : words′ ≡ put-word words (r .base) (r .variables) a w = e ∙ put-word-is words (r .base) (r .variables) a w (omega arith) in
     record {
       long = rw q (length-put-word words (r .base) (r .variables) a w);
-      objects = rw q (put-word-before words (r .base) (r .variables) a w (r .used) room);
-      frame = rw (q, ← is) (put-word-frame words (r .base) (r .variables) a w);
+      objects = rw q (put-word-before f words (r .base) (r .variables) a w (r .used) room);
+      frame = rw (q, ← is) (put-word-frame f words (r .base) (r .variables) a w);
     }
 
-module _ {c : Given} {words out : List ℕ} {r : Registers} {p i : ℕ} {vs : List (Cell plain)} {fs : List (Frame plain)} {os : List (Object plain)}
-    {input put : List ℕ} (S : Stands c words out r p i vs fs os input put) where
-  pub wrote : (words′ : List ℕ) (a : ℕ) (d : Cell plain) → Put words words′ r a d
-      → Stands c words′ out (onward r (r .next + 1) (r .used) (r .taken) (r .put)) p (suc i) (set vs a d) fs os input put
+module _ {m : Mode} {c : Given} {words out : List ℕ} {r : Registers} {p i : ℕ} {vs : List (Cell m)} {fs : List (Frame m)} {os : List (Object m)}
+    {input put : List ℕ} (S : Stands m c words out r p i vs fs os input put) where
+  pub wrote : (words′ : List ℕ) (a : ℕ) (d : Cell m) → Put (slot-in m (qualOf (c .sheet))) words words′ r a (cell d)
+      → Stands m c words′ out (onward r (r .next + 1) (r .used) (r .taken) (r .put)) p (suc i) (set vs a d) fs os input put
   wrote words′ a d P =
       goes-on S words′ (r .next + 1) (suc i) (r .used) (set vs a d) os (add-one (r .next) ∙ ap suc (S .next)) (P .long) (S .sane .room)
-      (length-set vs a d) (P .objects ∙ S .objects) (P .frame ∙ rw (S .frames) (set-variable (r .variables) vs (flat-frames fs) a d (S .variables)))
+      (length-set vs a d) (P .objects ∙ S .objects) (P .frame ∙ rw (S .frames) (set-variable (r .variables) vs (flat-frames (c .sheet) fs) a d (S .variables)))
 
   -- to another instruction
-  pub went : (next j : ℕ) → next ≡ j → Stands c words out (onward r next (r .used) (r .taken) (r .put)) p j vs fs os input put
+  pub went : (next j : ℕ) → next ≡ j → Stands m c words out (onward r next (r .used) (r .taken) (r .put)) p j vs fs os input put
   went next j e = goes-on S words next j (r .used) vs os e refl (S .sane .room) refl (S .objects) (S .frames)
 
-pub does-write : (words words′ out : List ℕ) (r : Registers) (a : ℕ) (d : Cell plain) → Put words words′ r a d
-    → Does words words′ out out r (Go (onward r (r .next + 1) (r .used) (r .taken) (r .put))) (ok (M.write a d))
+pub does-write : (m : Mode) (c : Given) (words words′ out : List ℕ) (r : Registers) (a : ℕ) (d : Cell m) → Put (slot-in m (qualOf (c .sheet))) words words′ r a (cell d)
+    → Does m c words words′ out out r (Go (onward r (r .next + 1) (r .used) (r .taken) (r .put))) (ok (M.write a d))
 unfolding apply _>>=_
-does-write words words′ out r a d P c (state (frame p i vs) fs os input put) S = wrote S words′ a d P
+does-write m c words words′ out r a d P (state (frame p i vs) fs os input put) S = (refl, wrote S words′ a d P)
 
-pub does-take : (words words′ out : List ℕ) (r : Registers) (a : ℕ) (d : Cell plain) → Put words words′ r a d
-    → Does words words′ out out r (Go (onward r (r .next + 1) (r .used) (r .taken + 1) (r .put))) (ok (M.take a d))
+pub does-take : (m : Mode) (c : Given) (words words′ out : List ℕ) (r : Registers) (a : ℕ) (d : Cell m) → Put (slot-in m (qualOf (c .sheet))) words words′ r a (cell d)
+    → Does m c words words′ out out r (Go (onward r (r .next + 1) (r .used) (r .taken + 1) (r .put))) (ok (M.take a d))
 unfolding apply _>>=_
-does-take words words′ out r a d P c (state (frame p i vs) fs os input put) S = took (wrote S words′ a d P)
+does-take m c words words′ out r a d P (state (frame p i vs) fs os input put) S = (refl, took (wrote S words′ a d P))
 
-pub does-skip : (words out : List ℕ) (r : Registers)
-    → Does words words out out r (Go (onward r (r .next + 1) (r .used) (r .taken) (r .put))) (ok M.skip)
+pub does-skip : (m : Mode) (c : Given) (words out : List ℕ) (r : Registers)
+    → Does m c words words out out r (Go (onward r (r .next + 1) (r .used) (r .taken) (r .put))) (ok M.skip)
 unfolding apply _>>=_
-does-skip words out r c (state (frame p i vs) fs os input put) S = went S (r .next + 1) (suc i) (add-one (r .next) ∙ ap suc (S .next))
+does-skip m c words out r (state (frame p i vs) fs os input put) S = (refl, went S (r .next + 1) (suc i) (add-one (r .next) ∙ ap suc (S .next)))
 
-pub does-jump : (words out : List ℕ) (r : Registers) (k : ℕ)
-    → Does words words out out r (Go (onward r k (r .used) (r .taken) (r .put))) (ok (M.jump k))
+pub does-jump : (m : Mode) (c : Given) (words out : List ℕ) (r : Registers) (k : ℕ)
+    → Does m c words words out out r (Go (onward r k (r .used) (r .taken) (r .put))) (ok (M.jump k))
 unfolding apply _>>=_
-does-jump words out r k c (state (frame p i vs) fs os input put) S = went S k k refl
+does-jump m c words out r k (state (frame p i vs) fs os input put) S = (refl, went S k k refl)
 
-pub does-put : (words out : List ℕ) (r : Registers) (x : ℕ) → r .put < length out
-    → Does words words out (set out (r .put) x) r (Go (onward r (r .next + 1) (r .used) (r .taken) (r .put + 1))) (ok (M.put x))
+pub does-put : (m : Mode) (c : Given) (words out : List ℕ) (r : Registers) (x : ℕ) → r .put < length out
+    → Does m c words words out (set out (r .put) x) r (Go (onward r (r .next + 1) (r .used) (r .taken) (r .put + 1))) (ok (M.put x))
 unfolding apply _>>=_
-does-put words out r x h c (state (frame p i vs) fs os input put) S =
-    put-one (went S (r .next + 1) (suc i) (add-one (r .next) ∙ ap suc (S .next))) x h
+does-put m c words out r x h (state (frame p i vs) fs os input put) S =
+    (refl, put-one (went S (r .next + 1) (suc i) (add-one (r .next) ∙ ap suc (S .next))) x h)
 
 -- ---- a cell of an object is written
 
-module _ {c : Given} {words out : List ℕ} {r : Registers} {p i : ℕ} {vs : List (Cell plain)} {fs : List (Frame plain)} {os : List (Object plain)}
-    {input put : List ℕ} (S : Stands c words out r p i vs fs os input put) where
+module _ {m : Mode} {c : Given} {words out : List ℕ} {r : Registers} {p i : ℕ} {vs : List (Cell m)} {fs : List (Frame m)} {os : List (Object m)}
+    {input put : List ℕ} (S : Stands m c words out r p i vs fs os input put) where
   -- an object with a head in the objects' part is one of the state's, of that size
-  pub there : (a j : ℕ) → Inside (take (r .used) words) a j → (o : Object plain) × ((find os a ≡ some o) × (j < length (cells-of o)))
+  pub there : (a j : ℕ) → Inside (take (r .used) words) a j → (o : Object m) × ((find os a ≡ some o) × (j < length (cells-of o)))
   there a j I = go (find os a) refl
     where
-      go : (f : Option (Object plain)) → find os a ≡ f → (o : Object plain) × ((find os a ≡ some o) × (j < length (cells-of o)))
+      go : (f : Option (Object m)) → find os a ≡ f → (o : Object m) × ((find os a ≡ some o) × (j < length (cells-of o)))
       go none e =
-          let n : none ≡ some (I .size) = ap head-size (ap head-of (sym e) ∙ head-is S a) ∙ I .head in
+          let n : none ≡ some (I .size) = ap head-size (ap head-of (sym e) ∙ sym (head-is S a)) ∙ I .head m (qualOf (c .sheet)) in
           let z : _≡_ {A = ℕ} 0 1 = cc in
           absurd (omega arith)
       go (some o) e =
-          let n : some (length (cells-of o)) ≡ some (I .size) = sym (size-is o) ∙ ap head-size (ap head-of (sym e) ∙ head-is S a) ∙ I .head in
-          let m : length (cells-of o) ≡ I .size = cc in
+          let n : some (length (cells-of o)) ≡ some (I .size) = sym (size-is o) ∙ ap head-size (ap head-of (sym e) ∙ sym (head-is S a)) ∙ I .head m (qualOf (c .sheet)) in
+          let same : length (cells-of o) ≡ I .size = cc in
           let b = I .below in
           (o, (e, omega arith))
 
-  pub stored-at : (words′ : List ℕ) (a j w : ℕ) (d : Cell plain) → slot w ≡ cell d → Inside (take (r .used) words) a j
+  pub stored-at : (words′ : List ℕ) (a j w : ℕ) (d : Cell m) → slot-in m (qualOf (c .sheet)) w ≡ cell d → Inside (take (r .used) words) a j
       → words′ ≡ set (take (r .used) words) (a + 1 + j) w ++ drop (r .used) words
-      → Stands c words′ out (onward r (r .next + 1) (r .used) (r .taken) (r .put)) p (suc i) vs fs (update os a j d) input put
+      → Stands m c words′ out (onward r (r .next + 1) (r .used) (r .taken) (r .put)) p (suc i) vs fs (update os a j d) input put
   stored-at words′ a j w d is I e =
       let o = there a j I in
       let f = found-fits os a (o .0) (o .1 .0) in
@@ -251,16 +274,16 @@ module _ {c : Given} {words out : List ℕ} {r : Registers} {p i : ℕ} {vs : Li
       let h′ : a + 1 + j < length (take (r .used) words) = omega arith in
       let q : words′ ≡ set words (a + 1 + j) w =
       e ∙ sym (set-append-left (take (r .used) words) (drop (r .used) words) (a + 1 + j) w h′) ∙ ap (λ (x : List ℕ). set x (a + 1 + j) w) (take-append-drop (r .used) words) in
-      let s : map slot words′ ≡ set (map slot words) (suc (a + j)) (cell d) = rw (q, map-set, is, k) in
+      let s : slots m c words′ ≡ set (slots m c words) (suc (a + j)) (cell d) = rw (q, map-set, is, k) in
       goes-on S words′ (r .next + 1) (suc i) (r .used) vs (update os a j d) (add-one (r .next) ∙ ap suc (S .next)) (rw (q, length-set)) room refl
-      (rw s (take-set-lt (r .used) (map slot words) (suc (a + j)) (cell d) h ∙ rw (S .objects) (set-at-cell os a j (o .0) d (o .1 .0) b)))
-      (rw s (drop-set-lt (r .base) (map slot words) (suc (a + j)) (cell d) (omega arith) ∙ S .frames))
+      (rw s (take-set-lt (r .used) (slots m c words) (suc (a + j)) (cell d) h ∙ rw (S .objects) (set-at-cell os a j (o .0) d (o .1 .0) b)))
+      (rw s (drop-set-lt (r .base) (slots m c words) (suc (a + j)) (cell d) (omega arith) ∙ S .frames))
 
-pub does-store : (words words′ out : List ℕ) (r : Registers) (a j w : ℕ) (d : Cell plain) → slot w ≡ cell d → Inside (take (r .used) words) a j
+pub does-store : (m : Mode) (c : Given) (words words′ out : List ℕ) (r : Registers) (a j w : ℕ) (d : Cell m) → slot-in m (qualOf (c .sheet)) w ≡ cell d → Inside (take (r .used) words) a j
     → words′ ≡ set (take (r .used) words) (a + 1 + j) w ++ drop (r .used) words
-    → Does words words′ out out r (Go (onward r (r .next + 1) (r .used) (r .taken) (r .put))) (ok (M.store a j d))
+    → Does m c words words′ out out r (Go (onward r (r .next + 1) (r .used) (r .taken) (r .put))) (ok (M.store a j d))
 unfolding apply _>>=_
-does-store words words′ out r a j w d is I e c (state (frame p i vs) fs os input put) S = stored-at S words′ a j w d is I e
+does-store m c words words′ out r a j w d is I e (state (frame p i vs) fs os input put) S = (refl, stored-at S words′ a j w d is I e)
 
 -- ---- a new object
 
@@ -282,8 +305,9 @@ module _ (words zeros : List ℕ) (used w n : ℕ) (fits : used + 1 + n ≤ leng
       let z : length zeros ≡ length (midOf (used + 1) (used + 1 + n - (used + 1)) (set words used w)) = ap length cleared ∙ length-replicate _ 0 in
       same-len-mid (used + 1) (used + 1 + n - (used + 1)) (set words used w) zeros z ∙ length-set words used w
 
-  pub laid-objects : take (used + (n + 1)) (map slot (laid words zeros used w n)) ≡ take used (map slot words) ++ (slot w ∷ replicate n (cell empty))
-  laid-objects =
+  pub laid-objects : (m : Mode) (q : ℕ → Qual)
+      → take (used + (n + 1)) (map (slot-in m q) (laid words zeros used w n)) ≡ take used (map (slot-in m q) words) ++ (slot-in m q w ∷ replicate n (cell empty))
+  laid-objects m q =
       let h : used < length words = omega arith in
       let l : length (take (used + 1) (set words used w) ++ zeros) ≡ used + (n + 1) =
       length-append (take (used + 1) (set words used w)) zeros
@@ -296,66 +320,67 @@ module _ (words zeros : List ℕ) (used w n : ℕ) (fits : used + 1 + n ≤ leng
       ap (take (used + (n + 1))) (sym (append-assoc (take (used + 1) (set words used w)) zeros _)) ∙ take-at (take (used + 1) (set words used w) ++ zeros) _ (used + (n + 1)) l in
       let f : take (used + 1) (set words used w) ++ zeros ≡ take used words ++ (w ∷ replicate n 0) =
       rw (add-one, take-suc-set words used w h, zeros-are) (append-assoc (take used words) (w ∷ []) (replicate n 0)) in
-      sym (map-take slot (used + (n + 1)) (laid words zeros used w n)) ∙ ap (map slot) (e ∙ f) ∙ rw (map-append, map-take, map-replicate, slot-zero)
+      sym (map-take (slot-in m q) (used + (n + 1)) (laid words zeros used w n)) ∙ ap (map (slot-in m q)) (e ∙ f) ∙ rw (map-append, map-take, map-replicate, slot-zero)
 
-  pub laid-frames : (m : ℕ) → used + (n + 1) ≤ m → drop m (map slot (laid words zeros used w n)) ≡ drop m (map slot words)
-  laid-frames m h =
+  pub laid-frames : {A : Type 0} (f : ℕ → A) (m : ℕ) → used + (n + 1) ≤ m → drop m (map f (laid words zeros used w n)) ≡ drop m (map f words)
+  laid-frames f m h =
       let z : length zeros ≡ used + 1 + n - (used + 1) = omega (arith, ap length zeros-are ∙ length-replicate n 0) in
       let e : used + 1 + n + (m - (used + 1 + n)) ≡ m = omega arith in
       let d : drop (used + 1 + n) (laid words zeros used w n) ≡ drop (used + 1 + n) words =
       drop-put (used + 1) (used + 1 + n) (set words used w) zeros (omega arith) (rw length-set fits) z
       ∙ drop-set-lt (used + 1 + n) words used w (omega arith) in
-      let f : drop m (laid words zeros used w n) ≡ drop m words =
+      let g : drop m (laid words zeros used w n) ≡ drop m words =
       ap (λ (k : ℕ). drop k (laid words zeros used w n)) (sym e)
       ∙ sym (drop-drop (m - (used + 1 + n)) (used + 1 + n) (laid words zeros used w n))
       ∙ ap (drop (m - (used + 1 + n))) d
       ∙ drop-drop (m - (used + 1 + n)) (used + 1 + n) words
       ∙ ap (λ (k : ℕ). drop k words) e in
-      sym (map-drop slot m (laid words zeros used w n)) ∙ ap (map slot) f ∙ map-drop slot m words
+      sym (map-drop f m (laid words zeros used w n)) ∙ ap (map f) g ∙ map-drop f m words
 
-pub allots : (words zeros words′ : List ℕ) (r : Registers) (a w n v : ℕ) → Sane (length words) r → r .used + (n + 1) ≤ r .base
+pub allots : (m : Mode) (q : ℕ → Qual) (words zeros words′ : List ℕ) (r : Registers) (a w n v : ℕ) → Sane (length words) r → r .used + (n + 1) ≤ r .base
     → zeros ≡ replicate (length (midOf (r .used + 1) (r .used + 1 + n - (r .used + 1)) (set words (r .used) w))) 0
-    → slot v ≡ cell (filled (object (r .used)) tt)
     → words′
     ≡ take (r .base) (laid words zeros (r .used) w n)
     ++ (set (take (r .variables) (drop (r .base) (laid words zeros (r .used) w n))) a v
     ++ drop (r .variables) (drop (r .base) (laid words zeros (r .used) w n)))
-    → Allotted words words′ r a w n
-allots words zeros words′ r a w n v sane room cleared is e =
+    → Allotted m q words words′ r a w n v
+allots m q words zeros words′ r a w n v sane room cleared e =
     let frame = sane .frame in
     let fits : r .used + 1 + n ≤ length words = omega arith in
     let l : length (laid words zeros (r .used) w n) ≡ length words = length-laid words zeros (r .used) w n fits cleared in
     let s : Sane (length (laid words zeros (r .used) w n)) (onward r (r .next) (r .used + (n + 1)) (r .taken) (r .put)) =
     record { room = room; frame = rw l frame; small = rw l (sane .small); procedure = sane .procedure } in
-    let P = puts (laid words zeros (r .used) w n) words′ (onward r (r .next) (r .used + (n + 1)) (r .taken) (r .put)) a v (filled (object (r .used)) tt) s is e in
+    let P = puts (slot-in m q) (laid words zeros (r .used) w n) words′ (onward r (r .next) (r .used + (n + 1)) (r .taken) (r .put)) a v (slot-in m q v) s refl e in
     record {
       long = P .long ∙ l;
-      objects = P .objects ∙ laid-objects words zeros (r .used) w n fits cleared;
-      frame = P .frame ∙ ap (λ (x : List (Slot plain)). set-first (r .variables) x a (cell (filled (object (r .used)) tt))) (laid-frames words zeros (r .used) w n fits cleared (r .base) room);
+      objects = P .objects ∙ laid-objects words zeros (r .used) w n fits cleared m q;
+      frame = P .frame ∙ ap (λ (x : List (Slot m)). set-first (r .variables) x a (slot-in m q v)) (laid-frames words zeros (r .used) w n fits cleared (slot-in m q) (r .base) room);
     }
 
-module _ {c : Given} {words out : List ℕ} {r : Registers} {p i : ℕ} {vs : List (Cell plain)} {fs : List (Frame plain)} {os : List (Object plain)}
-    {input put : List ℕ} (S : Stands c words out r p i vs fs os input put) where
-  pub made : (words′ : List ℕ) (a w n : ℕ) (o : Object plain) → r .used + (n + 1) ≤ r .base → slot w ≡ head (head-of (some o))
-      → cells-of o ≡ replicate n empty → Allotted words words′ r a w n
-      → Stands c words′ out (onward r (r .next + 1) (r .used + (n + 1)) (r .taken) (r .put)) p (suc i)
-      (set vs a (filled (object (object-units os)) tt)) fs (os ++ (o ∷ [])) input put
-  made words′ a w n o room is new A =
-      goes-on S words′ (r .next + 1) (suc i) (r .used + (n + 1)) (set vs a (filled (object (object-units os)) tt)) (os ++ (o ∷ []))
-      (add-one (r .next) ∙ ap suc (S .next)) (A .long) room (length-set vs a (filled (object (object-units os)) tt))
+module _ {m : Mode} {c : Given} {words out : List ℕ} {r : Registers} {p i : ℕ} {vs : List (Cell m)} {fs : List (Frame m)} {os : List (Object m)}
+    {input put : List ℕ} (S : Stands m c words out r p i vs fs os input put) where
+  pub made : (words′ : List ℕ) (a w n v : ℕ) (o : Object m) (k : Mark m) → r .used + (n + 1) ≤ r .base
+      → slot-in m (qualOf (c .sheet)) w ≡ head (head-of (some o)) → slot-in m (qualOf (c .sheet)) v ≡ cell (filled (object (r .used)) k)
+      → cells-of o ≡ replicate n empty → Allotted m (qualOf (c .sheet)) words words′ r a w n v
+      → Stands m c words′ out (onward r (r .next + 1) (r .used + (n + 1)) (r .taken) (r .put)) p (suc i)
+      (set vs a (filled (object (object-units os)) k)) fs (os ++ (o ∷ [])) input put
+  made words′ a w n v o k room is named new A =
+      goes-on S words′ (r .next + 1) (suc i) (r .used + (n + 1)) (set vs a (filled (object (object-units os)) k)) (os ++ (o ∷ []))
+      (add-one (r .next) ∙ ap suc (S .next)) (A .long) room (length-set vs a (filled (object (object-units os)) k))
       (A .objects ∙ rw (S .objects, is, flat-snoc os o, new, map-replicate))
-      (A .frame ∙ rw (S .frames, used-is S) (set-variable (r .variables) vs (flat-frames fs) a (filled (object (object-units os)) tt) (S .variables)))
+      (A .frame ∙ rw (named, S .frames, used-is S) (set-variable (r .variables) vs (flat-frames (c .sheet) fs) a (filled (object (object-units os)) k) (S .variables)))
 
-pub does-array : (words words′ out : List ℕ) (r : Registers) (a w n : ℕ) → r .used + (n + 1) ≤ r .base → slot w ≡ head (M.array-head tt n)
-    → Allotted words words′ r a w n
-    → Does words words′ out out r (Go (onward r (r .next + 1) (r .used + (n + 1)) (r .taken) (r .put))) (ok (M.new-array a tt n tt))
-unfolding apply _>>=_
-does-array words words′ out r a w n room is A c (state (frame p i vs) fs os input put) S =
-    made S words′ a w n (array-of tt (replicate n empty)) room (rw length-replicate is) refl A
+-- an object with that head and that name, in either machine
+module _ (m : Mode) (c : Given) (words words′ out : List ℕ) (r : Registers) (a w n v : ℕ) (k : Mark m) (room : r .used + (n + 1) ≤ r .base)
+    (named : slot-in m (qualOf (c .sheet)) v ≡ cell (filled (object (r .used)) k)) (A : Allotted m (qualOf (c .sheet)) words words′ r a w n v) where
+  pub does-array : (e : ElementMark m) → slot-in m (qualOf (c .sheet)) w ≡ head (M.array-head e n)
+      → Does m c words words′ out out r (Go (onward r (r .next + 1) (r .used + (n + 1)) (r .taken) (r .put))) (ok (M.new-array a e n k))
+  unfolding apply _>>=_
+  does-array e is (state (frame p i vs) fs os input put) S =
+      (refl, made S words′ a w n v (array-of e (replicate n empty)) k room (rw length-replicate is) named refl A)
 
-pub does-record : (words words′ out : List ℕ) (r : Registers) (a w n : ℕ) → r .used + (n + 1) ≤ r .base → slot w ≡ head (M.record-head tt n)
-    → Allotted words words′ r a w n
-    → Does words words′ out out r (Go (onward r (r .next + 1) (r .used + (n + 1)) (r .taken) (r .put))) (ok (M.new-record a tt n tt))
-unfolding apply _>>=_
-does-record words words′ out r a w n room is A c (state (frame p i vs) fs os input put) S =
-    made S words′ a w n (record-of tt (replicate n empty)) room (rw length-replicate is) refl A
+  pub does-record : (t : TypeMark m) → slot-in m (qualOf (c .sheet)) w ≡ head (M.record-head t n)
+      → Does m c words words′ out out r (Go (onward r (r .next + 1) (r .used + (n + 1)) (r .taken) (r .put))) (ok (M.new-record a t n k))
+  unfolding apply _>>=_
+  does-record t is (state (frame p i vs) fs os input put) S =
+      (refl, made S words′ a w n v (record-of t (replicate n empty)) k room (rw length-replicate is) named refl A)

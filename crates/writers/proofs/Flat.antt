@@ -10,10 +10,10 @@ use borrow.Author.Tests.{ltb-true, ltb-false}
 use lib.Dec.{ltb}
 use lib.ListN.{length, getD, set, length-set, length-append, length-map, List·getD-append, List·getD-map}
 use lib.Seq.{getD-append-add, set-append-left}
-use Rattle.model.specs.Modes.{plain}
+use Rattle.model.specs.Modes.{Mode}
 use Rattle.model.specs.Machine.{Cell, empty, Object, array-of, record-of, cells-of, with-cells, head-of, find, update, Frame, frame, object-units, frame-units}
 use Rattle.words.specs.Word.{cell, head, as-head}
-use Rattle.words.specs.Answers.{head-size}
+use Rattle.words.specs.Sees.{head-size}
 use Rattle.words.proofs.Laws.{map-set}
 use Rattle.writers.specs.Memory.{flat-objects, flat-frames}
 
@@ -25,22 +25,22 @@ set-append-add {A} (x ∷ xs) ys n a = rw suc-add (ap (λ (r : List A). x ∷ r)
 
 -- ---- an object
 
-pub size-is : (o : Object plain) → head-size (head-of (some o)) ≡ some (length (cells-of o))
+pub size-is : {m : Mode} (o : Object m) → head-size (head-of (some o)) ≡ some (length (cells-of o))
 size-is (array-of e cs) = refl
 size-is (record-of t cs) = refl
 
-cells-with : (o : Object plain) (ds : List (Cell plain)) → cells-of (with-cells o ds) ≡ ds
+cells-with : {m : Mode} (o : Object m) (ds : List (Cell m)) → cells-of (with-cells o ds) ≡ ds
 cells-with (array-of e cs) ds = refl
 cells-with (record-of t cs) ds = refl
 
-head-with : (o : Object plain) (ds : List (Cell plain)) → length ds ≡ length (cells-of o) → head-of (some (with-cells o ds)) ≡ head-of (some o)
+head-with : {m : Mode} (o : Object m) (ds : List (Cell m)) → length ds ≡ length (cells-of o) → head-of (some (with-cells o ds)) ≡ head-of (some o)
 head-with (array-of e cs) ds h = rw h
 head-with (record-of t cs) ds h = rw h
 
 -- ---- the objects
 
 -- the object of a name has its head there
-pub heads : (os : List (Object plain)) (a : ℕ) → as-head (getD (flat-objects os) a (cell empty)) ≡ head-of (find os a)
+pub heads : {m : Mode} (os : List (Object m)) (a : ℕ) → as-head (getD (flat-objects os) a (cell empty)) ≡ head-of (find os a)
 unfolding flat-objects find
 heads [] a = refl
 heads (o ∷ os) zero = refl
@@ -59,7 +59,7 @@ heads (o ∷ os) (suc a) = go (ltb a (length (cells-of o))) refl (heads os (a - 
         ∙ rw (getD-append-add (map cell (cells-of o)) (flat-objects os) (a - length (cells-of o)) (cell empty)) ih
 
 -- cell i of the object of a name
-pub cells-at : (os : List (Object plain)) (a i : ℕ) (o : Object plain) → find os a ≡ some o → i < length (cells-of o)
+pub cells-at : {m : Mode} (os : List (Object m)) (a i : ℕ) (o : Object m) → find os a ≡ some o → i < length (cells-of o)
     → getD (flat-objects os) (suc (a + i)) (cell empty) ≡ cell (getD (cells-of o) i empty)
 unfolding flat-objects find
 cells-at [] a i o e h = let z : _≡_ {A = ℕ} 0 1 = cc in absurd (omega arith)
@@ -80,7 +80,7 @@ cells-at (p ∷ os) (suc a) i o e h = go (ltb a (length (cells-of p))) refl e (�
         ∙ rw (getD-append-add (map cell (cells-of p)) (flat-objects os) (suc (a - length (cells-of p) + i)) (cell empty)) (ih f)
 
 -- a store to cell i of the object of a name
-pub set-at-cell : (os : List (Object plain)) (a i : ℕ) (o : Object plain) (c : Cell plain) → find os a ≡ some o → i < length (cells-of o)
+pub set-at-cell : {m : Mode} (os : List (Object m)) (a i : ℕ) (o : Object m) (c : Cell m) → find os a ≡ some o → i < length (cells-of o)
     → set (flat-objects os) (suc (a + i)) (cell c) ≡ flat-objects (update os a i c)
 unfolding flat-objects find update
 set-at-cell [] a i o c e h = let z : _≡_ {A = ℕ} 0 1 = cc in absurd (omega arith)
@@ -108,18 +108,18 @@ set-at-cell (p ∷ os) (suc a) i o c e h = go (ltb a (length (cells-of p))) refl
         ap (λ (n : ℕ). head (head-of (some p)) ∷ set (map cell (cells-of p) ++ flat-objects os) n (cell c)) k
         ∙ rw (set-append-add (map cell (cells-of p)) (flat-objects os) (suc (a - length (cells-of p) + i)) (cell c), ih f)
 
-pub length-objects : (os : List (Object plain)) → length (flat-objects os) ≡ object-units os
+pub length-objects : {m : Mode} (os : List (Object m)) → length (flat-objects os) ≡ object-units os
 unfolding flat-objects object-units
 length-objects [] = refl
 length-objects (o ∷ os) = rw (length-append, length-map, length-objects os) (omega arith)
 
-pub length-frames : (fs : List (Frame plain)) → length (flat-frames fs) ≡ frame-units fs + 2
+pub length-frames : {m : Mode} (s : List ℕ) (fs : List (Frame m)) → length (flat-frames s fs) ≡ frame-units fs + 2
 unfolding flat-frames frame-units
-length-frames [] = refl
-length-frames (frame p i vs ∷ fs) = rw (length-append, length-map, length-frames fs) (omega arith)
+length-frames s [] = refl
+length-frames s (frame p i vs ∷ fs) = rw (length-append, length-map, length-frames s fs) (omega arith)
 
 -- an object that is found lies within the slots
-pub found-fits : (os : List (Object plain)) (a : ℕ) (o : Object plain) → find os a ≡ some o → suc (a + length (cells-of o)) ≤ length (flat-objects os)
+pub found-fits : {m : Mode} (os : List (Object m)) (a : ℕ) (o : Object m) → find os a ≡ some o → suc (a + length (cells-of o)) ≤ length (flat-objects os)
 unfolding flat-objects find
 found-fits [] a o e = let z : _≡_ {A = ℕ} 0 1 = cc in absurd (omega arith)
 found-fits (p ∷ os) zero o e =
@@ -137,7 +137,7 @@ found-fits (p ∷ os) (suc a) o e = go (ltb a (length (cells-of p))) refl e (fou
         rw (length-append, length-map) (omega arith)
 
 -- a new object lies after the others
-pub flat-snoc : (os : List (Object plain)) (o : Object plain)
+pub flat-snoc : {m : Mode} (os : List (Object m)) (o : Object m)
     → flat-objects (os ++ (o ∷ [])) ≡ flat-objects os ++ (head (head-of (some o)) ∷ map cell (cells-of o))
 unfolding flat-objects
 flat-snoc [] o = rw append-nil

@@ -12,9 +12,12 @@ ghost use mathlib.Core.Path.{_≡_};
 ghost use mathlib.Core.List.{List, _++_};
 ghost use Prim.Native.Nat.{ℕ, _+_, _-_, _≤_, _<_};
 ghost use lib.ListN.{length, take, drop, set};
+ghost use Rattle.model.specs.Qualified.{Qual};
+ghost use Rattle.model.specs.Modes.{Mode, plain};
 ghost use Rattle.model.specs.Machine.{first-of};
+ghost use Rattle.sheet.specs.Meaning.{qualOf};
 ghost use Rattle.words.specs.Answers.{MovedOk, StoredOk, given, moved-to, stored};
-ghost use Rattle.writers.specs.Memory.{Sane};
+ghost use Rattle.writers.specs.Memory.{Given, Sane};
 ghost use Rattle.writers.specs.Steps.{Does, onward, Allotted, jumped, put-effect, take-effect, array-effect, record-effect};
 
 // The registers: the running frame's procedure, next instruction, where its instructions start in the sheet, its count of variables and where they
@@ -30,9 +33,10 @@ pub struct Registers {
     pub put: usize,
 }
 
-// What a step came to: the registers after it, the number of a stop, or main's return.
+// What a step came to: the registers after it, in the same frame or in another; the number of a stop; or main's return.
 pub enum Stepped {
     Go(Registers),
+    Enter(Registers),
     Halt(u8),
     Done,
 }
@@ -66,7 +70,7 @@ pub fn put_variable(memory: &mut [u64], base: usize, variables: usize, a: u8, w:
 pub fn give_number(memory: &mut [u64], r: Registers, a: u8, n: Number) -> Stepped
     requires { ⌜ Sane (length (now memory)) r ⌝ }
     requires { ⌜ r .next < 65536 ⌝ }
-    ensures { λ o. ⌜ ((out : List ℕ) → Does (now (memory .entry)) (now (memory .exit)) out out r o (given a n)) ⌝ }
+    ensures { λ o. ⌜ ((mode : Mode) (c : Given) (out : List ℕ) → Does mode c (now (memory .entry)) (now (memory .exit)) out out r o (given mode a n)) ⌝ }
 {
     match n {
         Number::Is(x) => {
@@ -77,12 +81,11 @@ pub fn give_number(memory: &mut [u64], r: Registers, a: u8, n: Number) -> Steppe
     }
 }
 
-// Variable a becomes a moved cell.
+// Variable a becomes a moved cell; where the definition is stuck the word may be none's.
 pub fn give_moved(memory: &mut [u64], r: Registers, a: u8, m: Moved) -> Stepped
     requires { ⌜ Sane (length (now memory)) r ⌝ }
-    requires { ⌜ MovedOk m ⌝ }
     requires { ⌜ r .next < 65536 ⌝ }
-    ensures { λ o. ⌜ ((out : List ℕ) → Does (now (memory .entry)) (now (memory .exit)) out out r o (moved-to a m)) ⌝ }
+    ensures { λ o. ⌜ ((mode : Mode) (c : Given) (out : List ℕ) → MovedOk m → Does mode c (now (memory .entry)) (now (memory .exit)) out out r o (moved-to mode (qualOf (c .sheet)) a m)) ⌝ }
 {
     match m {
         Moved::To(w) => {
@@ -93,12 +96,11 @@ pub fn give_moved(memory: &mut [u64], r: Registers, a: u8, m: Moved) -> Stepped
     }
 }
 
-// A cell of an object becomes a moved cell.
+// A cell of an object becomes a moved cell; where the definition is stuck there may be no such cell.
 pub fn store_cell(memory: &mut [u64], r: Registers, m: Stored) -> Stepped
     requires { ⌜ Sane (length (now memory)) r ⌝ }
-    requires { ⌜ StoredOk (take (r .used) (now memory)) m ⌝ }
     requires { ⌜ r .next < 65536 ⌝ }
-    ensures { λ o. ⌜ ((out : List ℕ) → Does (now (memory .entry)) (now (memory .exit)) out out r o (stored m)) ⌝ }
+    ensures { λ o. ⌜ ((mode : Mode) (c : Given) (out : List ℕ) → StoredOk (take (r .used) (now (memory .entry))) m → Does mode c (now (memory .entry)) (now (memory .exit)) out out r o (stored mode (qualOf (c .sheet)) m)) ⌝ }
 {
     match m {
         Stored::At(o, i, w) => {
@@ -113,7 +115,7 @@ pub fn store_cell(memory: &mut [u64], r: Registers, m: Stored) -> Stepped
 // To instruction k if the integer is zero, else to the next.
 pub fn jump(r: Registers, n: Number, k: u16) -> Stepped
     requires { ⌜ r .next < 65536 ⌝ }
-    ensures { λ o. ⌜ ((words out : List ℕ) → Does words words out out r o (jumped k n)) ⌝ }
+    ensures { λ o. ⌜ ((mode : Mode) (c : Given) (words out : List ℕ) → Does mode c words words out out r o (jumped mode k n)) ⌝ }
 {
     match n {
         Number::Is(x) => {
@@ -129,7 +131,7 @@ pub fn jump(r: Registers, n: Number, k: u16) -> Stepped
 // The next output word becomes an integer.
 pub fn put_output(output: &mut [u32], r: Registers, n: Number) -> Stepped
     requires { ⌜ r .next < 65536 ⌝ }
-    ensures { λ o. ⌜ ((words : List ℕ) → Does words words (now (output .entry)) (now (output .exit)) r o (put-effect (length (now (output .entry)) - r .put) n)) ⌝ }
+    ensures { λ o. ⌜ ((mode : Mode) (c : Given) (words : List ℕ) → Does mode c words words (now (output .entry)) (now (output .exit)) r o (put-effect mode (length (now (output .entry)) - r .put) n)) ⌝ }
 {
     match n {
         Number::Is(x) => {
@@ -157,7 +159,7 @@ pub fn put_output(output: &mut [u32], r: Registers, n: Number) -> Stepped
 pub fn take_input(input: &[u32], memory: &mut [u64], r: Registers, a: u8) -> Stepped
     requires { ⌜ Sane (length (now memory)) r ⌝ }
     requires { ⌜ r .next < 65536 ⌝ }
-    ensures { λ o. ⌜ ((out : List ℕ) → Does (now (memory .entry)) (now (memory .exit)) out out r o (take-effect a (first-of (drop (r .taken) (now (input .entry)))))) ⌝ }
+    ensures { λ o. ⌜ ((mode : Mode) (c : Given) (out : List ℕ) → Does mode c (now (memory .entry)) (now (memory .exit)) out out r o (take-effect mode a (first-of (drop (r .taken) (now (input .entry)))))) ⌝ }
 {
     let at = r.taken;
     if at < input.len() {
@@ -176,20 +178,20 @@ pub fn take_input(input: &[u32], memory: &mut [u64], r: Registers, a: u8) -> Ste
     Stepped::Halt(15)
 }
 
-// A new object with a head and n blank cells, after the others; variable a becomes it.
-fn allot(memory: &mut [u64], r: Registers, a: u8, head: u64, n: u32) -> Registers
+// A new object with a head and n blank cells, after the others; variable a becomes `name`.
+pub fn allot(memory: &mut [u64], r: Registers, a: u8, head: u64, n: u32, name: u64) -> Registers
     requires { ⌜ Sane (length (now memory)) r ⌝ }
     requires { ⌜ r .next < 65536 ⌝ }
     requires { ⌜ r .used + (n + 1) ≤ r .base ⌝ }
     ensures { λ q. ⌜ q ≡ onward r (r .next + 1) (r .used + (n + 1)) (r .taken) (r .put) ⌝ }
-    ensures { λ q. ⌜ Allotted (now (memory .entry)) (now (memory .exit)) r a head n ⌝ }
+    ensures { λ q. ⌜ ((mode : Mode) (qual : ℕ → Qual) → Allotted mode qual (now (memory .entry)) (now (memory .exit)) r a head n name) ⌝ }
 {
     let used = r.used;
     let cells = used + 1;
     let end = cells + (n as usize);
     memory[used] = head;
     clear(&mut memory[cells..end]);
-    put_variable(memory, r.base, r.variables, a, object_word(used as u32));
+    put_variable(memory, r.base, r.variables, a, name);
     Registers {
         procedure: r.procedure,
         next: r.next + 1,
@@ -205,12 +207,13 @@ fn allot(memory: &mut [u64], r: Registers, a: u8, head: u64, n: u32) -> Register
 pub fn give_array(memory: &mut [u64], r: Registers, a: u8, n: Number) -> Stepped
     requires { ⌜ Sane (length (now memory)) r ⌝ }
     requires { ⌜ r .next < 65536 ⌝ }
-    ensures { λ o. ⌜ ((out : List ℕ) → Does (now (memory .entry)) (now (memory .exit)) out out r o (array-effect (r .base - r .used) a n)) ⌝ }
+    ensures { λ o. ⌜ ((c : Given) (out : List ℕ) → Does plain c (now (memory .entry)) (now (memory .exit)) out out r o (array-effect plain (r .base - r .used) a tt tt n)) ⌝ }
 {
     match n {
         Number::Is(x) => {
             if (x as usize) < r.base - r.used {
-                return Stepped::Go(allot(memory, r, a, array_word(x), x));
+                let name = object_word(r.used as u32, 0);
+                return Stepped::Go(allot(memory, r, a, array_word(x, 0), x, name));
             }
             Stepped::Halt(17)
         }
@@ -221,11 +224,12 @@ pub fn give_array(memory: &mut [u64], r: Registers, a: u8, n: Number) -> Stepped
 pub fn give_record(memory: &mut [u64], r: Registers, a: u8, slots: u8) -> Stepped
     requires { ⌜ Sane (length (now memory)) r ⌝ }
     requires { ⌜ r .next < 65536 ⌝ }
-    ensures { λ o. ⌜ ((out : List ℕ) → Does (now (memory .entry)) (now (memory .exit)) out out r o (record-effect (r .base - r .used) a slots)) ⌝ }
+    ensures { λ o. ⌜ ((c : Given) (out : List ℕ) → Does plain c (now (memory .entry)) (now (memory .exit)) out out r o (record-effect plain (r .base - r .used) a tt tt slots)) ⌝ }
 {
     let n = slots as u32;
     if (n as usize) < r.base - r.used {
-        return Stepped::Go(allot(memory, r, a, record_word(n), n));
+        let name = object_word(r.used as u32, 0);
+        return Stepped::Go(allot(memory, r, a, record_word(n, 0), n, name));
     }
     Stepped::Halt(17)
 }

@@ -6,7 +6,7 @@ use Rattle.model.specs.Rules.{access-rules}
 use Rattle.model.specs.declared.Verdict.the-variants.{Accepted}
 use Rattle.sheet.specs.Meaning.{programOf}
 use Rattle.form.specs.WellFormed.{form-tests}
-use Rattle.form.proofs.Laws.{stop-here, go-on}
+use Rattle.model.proofs.Verdicts.{stop-here, go-on}
 use Rattle.form.proofs.WellFormed.{form-small, callee-below}
 use Rattle.access.specs.Callees.{CalleesAt}
 use Rattle.checking.specs.Check.{check-tests, check}

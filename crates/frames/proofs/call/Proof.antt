@@ -1,30 +1,36 @@
--- The tests are those of the definition, in its order; actuals that are filled are variables of the frame.
-use Prim.Native.Nat.{_≤_}
-use native.Mathlib.Omega.{arith}
-use mathlib.Core.Path.{ap, sym, _∙_}
+-- The tests are those of the definition, in its order.
+use Prim.Native.Nat.{_≤_, _<_}
+use mathlib.Core.Path.{ap, subst, _∙_}
 use mathlib.Core.Logic.{inl, inr, ⊎-elim}
 use denote.Ref.{now}
-use borrow.Author.Needs.{needs}
+use Rattle.model.specs.Modes.{plain}
 use Rattle.sheet.specs.Layout.{formalsAt, variablesAt, instructionAt}
-use Rattle.frames.proofs.Laws.{few-procedures, table-at, formals-within, call-without-room, call-of-blank, call-goes, picked-fits}
+use Rattle.form.proofs.WellFormed.{form-short}
+use Rattle.frames.specs.Frames.{Copies}
+use Rattle.frames.proofs.Table.{few-procedures, table-at, record-there, formals-within}
+use Rattle.frames.proofs.Calling.{Picked, picked-fits, call-without-room, call-of-blank, call-goes}
+use native.Mathlib.Omega.{arith}
+use borrow.Author.Needs.{needs}
 use Rattle.frames.proofs.call.Statement.{statement}
 use Rattle.frames.proofs.call.Tie as tie
 
-mul-pr : tie.Need-mul-pr
-mul-pr c = search needs
+mul-header-at : tie.Need-mul-header-at
+mul-header-at c = search needs
 
-element-copy-out-pr : tie.Need-element-copy-out-pr
-element-copy-out-pr c =
-    omega (arith, few-procedures (c .before .before .args .s .now) (c .before .before .args .table .now) (c .before .before .pre .0) (c .before .before .args .k) (c .before .before .pre .1 .1 .1))
+element-copy-out-header-at : tie.Need-element-copy-out-header-at
+element-copy-out-header-at c =
+    let args = c .before .before .args in
+    let pre = c .before .before .pre in
+    omega (arith, few-procedures (args .s .now) (args .table .now) (pre .0) (args .k) (pre .1 .1 .procedure))
 
-formals-of-requires : tie.Need-formals-of-requires
-formals-of-requires c κs = search needs
+header-at-requires : tie.Need-header-at-requires
+header-at-requires c κs =
+    let args = c .before .before .before .args in
+    let pre = c .before .before .before .pre in
+    record-there (args .s .now) (args .table .now) (pre .0) (args .k) (pre .1 .1 .procedure)
 
-variables-of-requires : tie.Need-variables-of-requires
-variables-of-requires c κs = search needs
-
-add-end : tie.Need-add-end
-add-end c = search needs
+cast-v : tie.Need-cast-v
+cast-v c = search needs
 
 sub-if1 : tie.Need-sub-if1
 sub-if1 c = search needs
@@ -34,56 +40,58 @@ add-if1 c = search needs
 
 returns : tie.Need-returns
 returns c =
-    let args = c .before .before .before .before .before .before .before .before .args in
-    let pre = c .before .before .before .before .before .before .before .before .pre in
-    let formals-of = c .before .before .before .before .formals-of in
-    let variables-of = c .before .before .before .variables-of in
-    let if1 = c .if1 in
+    let args = c .before .before .before .before .before .before .before .args in
+    let pre = c .before .before .before .before .before .before .before .pre in
+    let header-at = c .before .before .before .header-at in
     let s = args .s .now in
-    let at = table-at s (args .table .now) (pre .0) (args .k) (pre .1 .1 .1) in
-    let many = variables-of .ensures .0 ∙ ap (variablesAt s) at in
-    let formals = formals-of .ensures ∙ ap (formalsAt s) at in
-    call-without-room s (now (args .memory)) (args .r) (args .b) (args .k) _ _ many formals (if1 .taken)
+    let at = table-at s (args .table .now) (pre .0) (args .k) (pre .1 .1 .procedure) in
+    call-without-room s (now (args .memory)) (args .r) (args .b) (args .k) _ _
+    (header-at .ensures .1 ∙ ap (variablesAt s) at) (header-at .ensures .0 ∙ ap (formalsAt s) at) (c .if1 .taken)
 
-mul-all-filled : tie.Need-mul-all-filled
-mul-all-filled c = search needs
+add-copy-filled : tie.Need-add-copy-filled
+add-copy-filled c = search needs
 
-sub-all-filled : tie.Need-sub-all-filled
-sub-all-filled c = search needs
+add-copy-filled-2 : tie.Need-add-copy-filled-2
+add-copy-filled-2 c = search needs
 
-part-all-filled-start : tie.Need-part-all-filled-start
-part-all-filled-start c = search needs
+sub-copy-filled : tie.Need-sub-copy-filled
+sub-copy-filled c = search needs
 
-part-all-filled-end : tie.Need-part-all-filled-end
-part-all-filled-end c = search needs
+cast-copy-filled : tie.Need-cast-copy-filled
+cast-copy-filled c = search needs
 
-all-filled-requires : tie.Need-all-filled-requires
-all-filled-requires c κs = search needs
+copy-filled-requires : tie.Need-copy-filled-requires
+copy-filled-requires c κs =
+    let args = c .before .before .before .before .before .before .before .before .before .before .args in
+    let pre = c .before .before .before .before .before .before .before .before .before .before .pre in
+    let header-at = c .before .before .before .before .before .before .header-at in
+    let if1 = c .before .before .before .if1 in
+    let if2 = c .before .before .if2 in
+    let s = args .s .now in
+    let at = table-at s (args .table .now) (pre .0) (args .k) (pre .1 .1 .procedure) in
+    let formals = header-at .ensures .0 ∙ ap (formalsAt s) at in
+    let few : header-at .result .formals ≤ header-at .result .variables =
+    rw (header-at .ensures .0, header-at .ensures .1) (formals-within s (args .table .now) (pre .0) (args .k) (pre .1 .1 .procedure)) in
+    let fits =
+    picked-fits (args .b) _ (if2 .from) (args .r .variables) (⊎-elim (λ w. inl (w .0 .taken, w .1)) (λ w. inr (w .0 .left, w .1)) (if2 .came))
+    (λ j h. pre .1 .1 .actuals j (subst (λ n. j < n) formals h)) in
+    let frame-fits = pre .1 .0 .frame in
+    (omega arith, omega arith)
 
-instruction-at-requires : tie.Need-instruction-at-requires
-instruction-at-requires c κs = search needs
-
-push-requires : tie.Need-push-requires
-push-requires c κs =
+open-requires : tie.Need-open-requires
+open-requires c κs =
     let args = c .before .before .before .before .before .before .before .before .before .before .before .before .before .before .before .args in
     let pre = c .before .before .before .before .before .before .before .before .before .before .before .before .before .before .before .pre in
-    let formals-of = c .before .before .before .before .before .before .before .before .before .before .before .formals-of in
-    let variables-of = c .before .before .before .before .before .before .before .before .before .before .variables-of in
-    let if1 = c .before .before .before .before .before .before .before .if1 in
-    let all-filled = c .before .before .before .before .all-filled in
-    let if2 = c .before .before .before .if2 in
-    let if3 = c .before .if3 in
+    let header-at = c .before .before .before .before .before .before .before .before .before .before .before .header-at in
+    let if1 = c .before .before .before .before .before .before .before .before .if1 in
+    let copy-filled = c .before .before .before .before .copy-filled in
     let s = args .s .now in
-    let at = table-at s (args .table .now) (pre .0) (args .k) (pre .1 .1 .1) in
-    let many = variables-of .ensures .0 ∙ ap (variablesAt s) at in
-    let formals = formals-of .ensures ∙ ap (formalsAt s) at in
-    let filled = sym (all-filled .ensures) ∙ if2 .taken in
-    let few : formals-of .result ≤ variables-of .result =
-    rw (variables-of .ensures .0, formals-of .ensures) (formals-within s (args .table .now) (pre .0) (args .k) (pre .1 .1 .1)) in
-    let fits =
-    picked-fits s (now (args .memory)) (args .r) (args .b) (args .k) _ _ many formals (if1 .left) (if3 .from)
-    (⊎-elim (λ w. inl (w .0 .taken, w .1)) (λ w. inr (w .0 .left, w .1)) (if3 .came)) filled (pre .1 .0) in
-    (pre .1 .0, (pre .1 .1 .0, (omega arith, (few, fits))))
+    let few : header-at .result .formals ≤ header-at .result .variables =
+    rw (header-at .ensures .0, header-at .ensures .1) (formals-within s (args .table .now) (pre .0) (args .k) (pre .1 .1 .procedure)) in
+    let C = pre .1 .1 in
+    let short = form-short s (pre .0 .formed) in
+    let first = C .first in
+    (rw (copy-filled .kept .0) (pre .1 .0), ((C .next, omega arith), (if1 .left, few)))
 
 same-length : tie.Need-same-length
 same-length c = search needs
@@ -92,61 +100,66 @@ returns-2 : tie.Need-returns-2
 returns-2 c =
     let args = c .before .before .before .before .before .before .before .before .before .before .before .before .before .before .before .before .before .before .args in
     let pre = c .before .before .before .before .before .before .before .before .before .before .before .before .before .before .before .before .before .before .pre in
-    let formals-of = c .before .before .before .before .before .before .before .before .before .before .before .before .before .before .formals-of in
-    let variables-of = c .before .before .before .before .before .before .before .before .before .before .before .before .before .variables-of in
-    let if1 = c .before .before .before .before .before .before .before .before .before .before .if1 in
-    let all-filled = c .before .before .before .before .before .before .before .all-filled in
-    let if2 = c .before .before .before .before .before .before .if2 in
-    let instruction-at = c .before .before .before .before .before .instruction-at in
+    let header-at = c .before .before .before .before .before .before .before .before .before .before .before .before .before .before .header-at in
+    let if1 = c .before .before .before .before .before .before .before .before .before .before .before .if1 in
+    let if2 = c .before .before .before .before .before .before .before .before .before .before .if2 in
+    let copy-filled = c .before .before .before .before .before .before .before .copy-filled in
     let if3 = c .before .before .before .before .if3 in
-    let push = c .before .before .push in
+    let opened-by = c .before .before .«open» in
     let s = args .s .now in
-    let at = table-at s (args .table .now) (pre .0) (args .k) (pre .1 .1 .1) in
-    let many = variables-of .ensures .0 ∙ ap (variablesAt s) at in
-    let formals = formals-of .ensures ∙ ap (formalsAt s) at in
-    let filled = sym (all-filled .ensures) ∙ if2 .taken in
-    call-goes s (now (args .memory)) (args .r) (args .b) (args .k) _ _ many formals (if1 .left) (if3 .from)
-    (⊎-elim (λ w. inl (w .0 .taken, w .1)) (λ w. inr (w .0 .left, w .1)) (if3 .came)) filled (pre .1 .0) _ _ _ (push .ensures) (pre .1 .1 .1)
-    (few-procedures s (args .table .now) (pre .0) (args .k) (pre .1 .1 .1)) (instruction-at .ensures .0 ∙ ap (λ x. instructionAt s x 0) at)
+    let C = pre .1 .1 in
+    let at = table-at s (args .table .now) (pre .0) (args .k) (C .procedure) in
+    let formals = header-at .ensures .0 ∙ ap (formalsAt s) at in
+    let few : header-at .result .formals ≤ header-at .result .variables =
+    rw (header-at .ensures .0, header-at .ensures .1) (formals-within s (args .table .now) (pre .0) (args .k) (C .procedure)) in
+    let picked : Picked (args .b) (header-at .result .formals) (if2 .from) =
+    ⊎-elim (λ w. inl (w .0 .taken, w .1)) (λ w. inr (w .0 .left, w .1)) (if2 .came) in
+    call-goes s (now (args .memory)) (args .r) (args .b) (args .k) _ _
+    (header-at .ensures .1 ∙ ap (variablesAt s) at) formals (if1 .left) (if2 .from) picked
+    (picked-fits (args .b) _ (if2 .from) (args .r .variables) picked (λ j h. C .actuals j (subst (λ n. j < n) formals h))) _
+    (subst (Copies _ _ _ _ _) (if3 .taken) (copy-filled .ensures)) _ _ _ few (copy-filled .kept .0) (opened-by .ensures plain)
+    (C .procedure) (few-procedures s (args .table .now) (pre .0) (args .k) (C .procedure)) (header-at .ensures .2 ∙ ap (λ x. instructionAt s x 0) at)
 
 same-length-2 : tie.Need-same-length-2
 same-length-2 c = search needs
 
 returns-3 : tie.Need-returns-3
 returns-3 c =
-    let args = c .before .before .before .before .before .before .before .before .before .before .before .before .args in
-    let pre = c .before .before .before .before .before .before .before .before .before .before .before .before .pre in
-    let formals-of = c .before .before .before .before .before .before .before .before .formals-of in
-    let variables-of = c .before .before .before .before .before .before .before .variables-of in
-    let if1 = c .before .before .before .before .if1 in
-    let all-filled = c .before .all-filled in
-    let if2 = c .if2 in
+    let args = c .before .before .before .before .before .before .before .before .before .before .before .before .before .before .args in
+    let pre = c .before .before .before .before .before .before .before .before .before .before .before .before .before .before .pre in
+    let header-at = c .before .before .before .before .before .before .before .before .before .before .header-at in
+    let if1 = c .before .before .before .before .before .before .before .if1 in
+    let if2 = c .before .before .before .before .before .before .if2 in
+    let copy-filled = c .before .before .before .copy-filled in
+    let if3 = c .if3 in
     let s = args .s .now in
-    let at = table-at s (args .table .now) (pre .0) (args .k) (pre .1 .1 .1) in
-    let many = variables-of .ensures .0 ∙ ap (variablesAt s) at in
-    let formals = formals-of .ensures ∙ ap (formalsAt s) at in
-    let blank = sym (all-filled .ensures) ∙ if2 .left in
-    call-of-blank s (now (args .memory)) (args .r) (args .b) (args .k) _ _ many formals (if1 .left) blank
+    let C = pre .1 .1 in
+    let at = table-at s (args .table .now) (pre .0) (args .k) (C .procedure) in
+    let formals = header-at .ensures .0 ∙ ap (formalsAt s) at in
+    let picked : Picked (args .b) (header-at .result .formals) (if2 .from) =
+    ⊎-elim (λ w. inl (w .0 .taken, w .1)) (λ w. inr (w .0 .left, w .1)) (if2 .came) in
+    call-of-blank s (now (args .memory)) (args .r) (args .b) (args .k) _ _
+    (header-at .ensures .1 ∙ ap (variablesAt s) at) formals (if1 .left) (if2 .from) picked
+    (picked-fits (args .b) _ (if2 .from) (args .r .variables) picked (λ j h. C .actuals j (subst (λ n. j < n) formals h))) _
+    (subst (Copies _ _ _ _ _) (if3 .left) (copy-filled .ensures))
 
 pub call-spec : {M : Type 1} → statement M
 call-spec =
     tie.close
     (tie.spec
-    mul-pr
-    element-copy-out-pr
-    formals-of-requires
-    variables-of-requires
-    add-end
+    mul-header-at
+    element-copy-out-header-at
+    header-at-requires
+    cast-v
     sub-if1
     add-if1
     returns
-    mul-all-filled
-    sub-all-filled
-    part-all-filled-start
-    part-all-filled-end
-    all-filled-requires
-    instruction-at-requires
-    push-requires
+    add-copy-filled
+    add-copy-filled-2
+    sub-copy-filled
+    cast-copy-filled
+    copy-filled-requires
+    open-requires
     same-length
     returns-2
     same-length-2

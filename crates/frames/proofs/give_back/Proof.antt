@@ -1,19 +1,28 @@
 -- What is handed over is the word of a filled cell, or nothing.
-use Prim.Native.Nat.{ℕ, _+_, _-_}
-use native.Mathlib.Omega.{arith}
-use mathlib.Core.Path.{_≡_}
 use denote.Ref.{now}
-use borrow.Rule.Slice.PartMut.{midOf}
+use Rattle.model.specs.Modes.{plain}
+use Rattle.frames.proofs.Returning.{blank-told, value-told, gives-blank, gives-over, gives-dropped, gives-kept}
 use borrow.Author.Needs.{needs}
-use Rattle.sheet.specs.Meaning.{programOf}
-use Rattle.frames.proofs.Laws.{moved-filled, gives-none, gives-value, gives-halt}
 use Rattle.frames.proofs.give_back.Statement.{statement}
 use Rattle.frames.proofs.give_back.Tie as tie
 
-resume-requires : tie.Need-resume-requires
-resume-requires c κs =
-    let pre = c .before .before .before .before .pre in
-    (pre .0, (pre .1, λ e. absurd (let z : _≡_ {A = ℕ} 0 1 = cc in omega arith)))
+add-end : tie.Need-add-end
+add-end c = search needs
+
+mul-read : tie.Need-mul-read
+mul-read c = search needs
+
+sub-read : tie.Need-sub-read
+sub-read c = search needs
+
+part-read-start : tie.Need-part-read-start
+part-read-start c = search needs
+
+part-read-end : tie.Need-part-read-end
+part-read-end c = search needs
+
+read-requires : tie.Need-read-requires
+read-requires c κs = search needs
 
 same-length : tie.Need-same-length
 same-length c = search needs
@@ -21,85 +30,88 @@ same-length c = search needs
 returns : tie.Need-returns
 returns c =
     let args = c .before .before .before .before .before .before .before .args in
-    let if1 = c .before .before .before .before .if1 in
-    let resume = c .before .before .resume in
-    gives-none (args .s .now) (now (args .memory)) (args .r) (args .a) (resume .last .1 .1 .0) (resume .result) (if1 .taken) (resume .ensures)
+    let read = c .before .read in
+    let told = blank-told _ _ (c .if1 .taken) in
+    gives-blank (args .s .now) (now (args .memory)) (args .r) (args .a) _ (read .ensures) (told .0) (told .1)
 
-add-end : tie.Need-add-end
-add-end c = search needs
+add-if2 : tie.Need-add-if2
+add-if2 c = search needs
 
-mul-moved-at : tie.Need-mul-moved-at
-mul-moved-at c = search needs
-
-sub-moved-at : tie.Need-sub-moved-at
-sub-moved-at c = search needs
-
-part-moved-at-start : tie.Need-part-moved-at-start
-part-moved-at-start c = search needs
-
-part-moved-at-end : tie.Need-part-moved-at-end
-part-moved-at-end c = search needs
-
-moved-at-requires : tie.Need-moved-at-requires
-moved-at-requires c κs = search needs
-
-enum-known-w : tie.Need-enum-known-w
-enum-known-w c = search needs
-
-resume-requires-2 : tie.Need-resume-requires-2
-resume-requires-2 c κs =
-    let args = c .before .before .before .before .before .before .before .before .before .before .before .args in
-    let pre = c .before .before .before .before .before .before .before .before .before .before .before .pre in
-    let moved-at = c .before .before .before .before .moved-at in
-    let w = c .before .before .w in
-    let part = midOf (args .r .base) (args .r .base + args .r .variables - args .r .base) (now (args .memory)) in
-    let filled = moved-filled (programOf (args .s .now)) part (moved-at .result) _ (args .a) (w .given .1) (moved-at .ensures .1) (moved-at .ensures .0) in
-    (pre .0, (pre .1, λ e. filled))
-
-enum-known-k : tie.Need-enum-known-k
-enum-known-k c = search needs
+add-if2-2 : tie.Need-add-if2-2
+add-if2-2 c = search needs
 
 same-length-2 : tie.Need-same-length-2
 same-length-2 c = search needs
 
 returns-2 : tie.Need-returns-2
 returns-2 c =
-    let args = c .before .before .before .before .before .before .before .before .before .before .before .before .before .before .args in
-    let if1 = c .before .before .before .before .before .before .before .before .before .before .before .if1 in
-    let moved-at = c .before .before .before .before .before .before .before .moved-at in
-    let w = c .before .before .before .before .before .w in
-    let resume2 = c .before .before .resume2 in
-    gives-value (args .s .now) (now (args .memory)) (args .r) (args .a) (if1 .left) (moved-at .result) (moved-at .ensures .0) (resume2 .last .1 .1 .0)
-    (resume2 .result) _ (w .given .1) (resume2 .ensures)
+    let args = c .before .before .before .before .before .before .before .before .before .args in
+    let read = c .before .before .before .read in
+    let if2 = c .if2 in
+    gives-over (args .s .now) (now (args .memory)) (args .r) (args .a) _ (read .ensures) (value-told _ _ (c .before .before .if1 .left)) (if2 .taken)
+
+waiting-requires : tie.Need-waiting-requires
+waiting-requires c κs = search needs
+
+kept-at-requires : tie.Need-kept-at-requires
+kept-at-requires c κs = search needs
 
 same-length-3 : tie.Need-same-length-3
 same-length-3 c = search needs
 
 returns-3 : tie.Need-returns-3
 returns-3 c =
-    let args = c .before .before .before .before .before .before .before .before .before .before .args in
-    let if1 = c .before .before .before .before .before .before .before .if1 in
-    let moved-at = c .before .before .before .moved-at in
-    let k = c .before .k in
-    gives-halt (args .s .now) (now (args .memory)) (args .r) (args .a) (if1 .left) (moved-at .result) (moved-at .ensures .0) _ (k .given .1)
+    let args = c .before .before .before .before .before .before .before .before .before .before .before .before .before .args in
+    let pre = c .before .before .before .before .before .before .before .before .before .before .before .before .before .pre in
+    let read = c .before .before .before .before .before .before .before .read in
+    let if1 = c .before .before .before .before .before .before .if1 in
+    let if2 = c .before .before .before .before .if2 in
+    let waiting = c .before .before .waiting in
+    let kept-at = c .before .kept-at in
+    let if3 = c .if3 in
+    gives-dropped (args .s .now) (now (args .memory)) (args .r) (args .a) _ (read .ensures) (value-told _ _ (if1 .left)) _ _ (if2 .left)
+    (waiting .ensures .0 plain (args .s .now) (pre .0)) (kept-at .ensures) (if3 .taken)
+
+keep-requires : tie.Need-keep-requires
+keep-requires c κs = search needs
+
+same-length-4 : tie.Need-same-length-4
+same-length-4 c = search needs
+
+returns-4 : tie.Need-returns-4
+returns-4 c =
+    let args = c .before .before .before .before .before .before .before .before .before .before .before .before .before .before .before .before .before .args in
+    let pre = c .before .before .before .before .before .before .before .before .before .before .before .before .before .before .before .before .before .pre in
+    let read = c .before .before .before .before .before .before .before .before .before .before .before .read in
+    let if1 = c .before .before .before .before .before .before .before .before .before .before .if1 in
+    let if2 = c .before .before .before .before .before .before .before .before .if2 in
+    let waiting = c .before .before .before .before .before .before .waiting in
+    let kept-at = c .before .before .before .before .before .kept-at in
+    let if3 = c .before .before .before .before .if3 in
+    let keep = c .before .before .keep in
+    gives-kept (args .s .now) (now (args .memory)) (args .r) (args .a) _ (read .ensures) (value-told _ _ (if1 .left)) _ _ (if2 .left)
+    (waiting .ensures .0 plain (args .s .now) (pre .0)) (kept-at .ensures) (if3 .left) _ (keep .ensures plain)
 
 pub give-back-spec : {M : Type 1} → statement M
 give-back-spec =
     tie.close
     (tie.spec
-    resume-requires
+    add-end
+    mul-read
+    sub-read
+    part-read-start
+    part-read-end
+    read-requires
     same-length
     returns
-    add-end
-    mul-moved-at
-    sub-moved-at
-    part-moved-at-start
-    part-moved-at-end
-    moved-at-requires
-    enum-known-w
-    resume-requires-2
-    enum-known-k
+    add-if2
+    add-if2-2
     same-length-2
     returns-2
+    waiting-requires
+    kept-at-requires
     same-length-3
-    returns-3)
+    returns-3
+    keep-requires
+    same-length-4
+    returns-4)

@@ -1,10 +1,11 @@
 -- The words read are those of the variables and of the head; below the size, the word moved is that of the array's cell.
-use mathlib.Core.Path.{_∙_, ap, sym}
-use borrow.Author.Needs.{needs}
+use mathlib.Core.Path.{sym}
+use Rattle.model.specs.Rights.{fetch-right}
 use Rattle.model.specs.Modes.{plain}
 use Rattle.model.specs.Machine.{plan, plan-fetch, declared-as}
-use Rattle.words.specs.Answers.{moved-to, halted, moving, head-size}
-use Rattle.plans.proofs.Laws.{seen-blank, seen-filled, seen-word, seen-object, array-seen, no-array-seen, element-blank, element-blank-index, element-of-word, element-of-other, element-by-object, element-past, element-at, inside-seen}
+use Rattle.words.specs.Answers.{moved-to, halted}
+use Rattle.plans.proofs.Laws.{due, settle, blank-there, filled-there, element-blank, element-blank-index, element-past, element-at, fetching, moved-is}
+use borrow.Author.Needs.{needs}
 use Rattle.plans.proofs.fetch_of.Statement.{statement}
 use Rattle.plans.proofs.fetch_of.Tie as tie
 
@@ -14,14 +15,8 @@ read-requires c κs = search needs
 cell-of-requires : tie.Need-cell-of-requires
 cell-of-requires c κs = search needs
 
-read-requires-2 : tie.Need-read-requires-2
-read-requires-2 c κs = search needs
-
-cell-of-requires-2 : tie.Need-cell-of-requires-2
-cell-of-requires-2 c κs = search needs
-
-enum-known-array : tie.Need-enum-known-array
-enum-known-array c = search needs
+enum-known-x : tie.Need-enum-known-x
+enum-known-x c = search needs
 
 enum-told : tie.Need-enum-told
 enum-told c = search needs
@@ -29,17 +24,19 @@ enum-told c = search needs
 returns : tie.Need-returns
 unfolding plan plan-fetch moved-to halted
 returns c =
-    let args = c .before .before .before .before .before .before .before .before .args in
-    let read = c .before .before .before .before .before .read in
-    let cell-of = c .before .before .before .before .cell-of in
-    let enum-told = c .enum-told in (
-      λ g v a s. sym (element-blank g v _ _ _ _
-          (seen-blank v (args .f .now) _ _ (s .variable) (read .ensures) (enum-told .given .1) (cell-of .ensures))),
-      tt,
-    )
+    let read = c .before .before .before .read in
+    let cell-of = c .before .before .cell-of in
+    let enum-told = c .enum-told in
+    λ q g v a s. due (element-blank g v fetch-right _ _ (fetching g v a) (blank-there s (read .ensures) (cell-of .ensures) (enum-told .given .1))) (λ e. (tt, sym e))
 
-enum-known-index : tie.Need-enum-known-index
-enum-known-index c = search needs
+read-requires-2 : tie.Need-read-requires-2
+read-requires-2 c κs = search needs
+
+cell-of-requires-2 : tie.Need-cell-of-requires-2
+cell-of-requires-2 c κs = search needs
+
+enum-known-y : tie.Need-enum-known-y
+enum-known-y c = search needs
 
 enum-told-2 : tie.Need-enum-told-2
 enum-told-2 c = search needs
@@ -47,114 +44,34 @@ enum-told-2 c = search needs
 returns-2 : tie.Need-returns-2
 unfolding plan plan-fetch moved-to halted
 returns-2 c =
-    let args = c .before .before .before .before .before .before .before .before .before .before .before .args in
     let read = c .before .before .before .before .before .before .before .before .read in
     let cell-of = c .before .before .before .before .before .before .before .cell-of in
-    let read2 = c .before .before .before .before .before .before .read2 in
-    let cell-of2 = c .before .before .before .before .before .cell-of2 in
-    let array = c .before .before .before .array in
-    let enum-told2 = c .enum-told2 in (
-      λ g v a s. sym (element-blank-index g v _ _ _ _ _
-          (seen-filled v (args .f .now) _ _ (s .variable) (read .ensures) (array .given .1) (cell-of .ensures))
-          (seen-blank v (args .f .now) _ _ (s .variable) (read2 .ensures) (enum-told2 .given .1) (cell-of2 .ensures))),
-      tt,
-    )
+    let x = c .before .before .before .before .before .x in
+    let read2 = c .before .before .before .read2 in
+    let cell-of2 = c .before .before .cell-of2 in
+    let enum-told2 = c .enum-told2 in
+    λ q g v a s. due (element-blank-index g v fetch-right _ _ (fetching g v a) (filled-there s (read .ensures) (cell-of .ensures) (x .given .1)) (blank-there s (read2 .ensures) (cell-of2 .ensures) (enum-told2 .given .1))) (λ e. (tt, sym e))
 
-enum-known-x : tie.Need-enum-known-x
-enum-known-x c = search needs
+name-of-requires : tie.Need-name-of-requires
+name-of-requires c κs = search needs
 
-enum-told-3 : tie.Need-enum-told-3
-enum-told-3 c = search needs
+cast-o : tie.Need-cast-o
+cast-o c = search needs
 
-returns-3 : tie.Need-returns-3
-unfolding plan plan-fetch moved-to halted
-returns-3 c =
-    let args = c .before .before .before .before .before .before .before .before .before .before .before .before .before .before .args in
-    let read = c .before .before .before .before .before .before .before .before .before .before .before .read in
-    let cell-of = c .before .before .before .before .before .before .before .before .before .before .cell-of in
-    let read2 = c .before .before .before .before .before .before .before .before .before .read2 in
-    let cell-of2 = c .before .before .before .before .before .before .before .before .cell-of2 in
-    let array = c .before .before .before .before .before .before .array in
-    let index = c .before .before .before .index in
-    let enum-told3 = c .enum-told3 in (
-      λ g v a s. sym (element-of-word g v _ _ _ _ _ _
-          (seen-word v (args .f .now) _ _ (s .variable) (read .ensures) (array .given .1) (enum-told3 .given .1) (cell-of .ensures))
-          (seen-filled v (args .f .now) _ _ (s .variable) (read2 .ensures) (index .given .1) (cell-of2 .ensures))),
-      tt,
-    )
-
-cast-read : tie.Need-cast-read
-cast-read c = search needs
+low-of-requires : tie.Need-low-of-requires
+low-of-requires c κs = search needs
 
 read-requires-3 : tie.Need-read-requires-3
 read-requires-3 c κs = search needs
 
-array-size-requires : tie.Need-array-size-requires
-array-size-requires c κs = search needs
-
-enum-known-size : tie.Need-enum-known-size
-enum-known-size c = search needs
-
-enum-told-4 : tie.Need-enum-told-4
-enum-told-4 c = search needs
-
-returns-4 : tie.Need-returns-4
-unfolding plan plan-fetch moved-to halted
-returns-4 c =
-    let args = c .before .before .before .before .before .before .before .before .before .before .before .before .before .before .before .before .before .before .before .args in
-    let read = c .before .before .before .before .before .before .before .before .before .before .before .before .before .before .before .before .read in
-    let cell-of = c .before .before .before .before .before .before .before .before .before .before .before .before .before .before .before .cell-of in
-    let read2 = c .before .before .before .before .before .before .before .before .before .before .before .before .before .before .read2 in
-    let cell-of2 = c .before .before .before .before .before .before .before .before .before .before .before .before .before .cell-of2 in
-    let array = c .before .before .before .before .before .before .before .before .before .before .before .array in
-    let index = c .before .before .before .before .before .before .before .before .index in
-    let x = c .before .before .before .before .before .x in
-    let read3 = c .before .before .before .read3 in
-    let array-size = c .before .before .array-size in
-    let enum-told4 = c .enum-told4 in (
-      λ g v a s. sym (element-of-other g v _ _ _ _ _ _
-          (seen-object v (args .f .now) _ _ (s .variable) (read .ensures) (array .given .1) (x .given .1) (cell-of .ensures))
-          (seen-filled v (args .f .now) _ _ (s .variable) (read2 .ensures) (index .given .1) (cell-of2 .ensures))
-          (no-array-seen v (args .f .now) (args .h .now) s _ _ (read3 .ensures) (enum-told4 .given .1) (array-size .ensures))),
-      tt,
-    )
-
-enum-known-y : tie.Need-enum-known-y
-enum-known-y c = search needs
-
-enum-told-5 : tie.Need-enum-told-5
-enum-told-5 c = search needs
-
-returns-5 : tie.Need-returns-5
-unfolding plan plan-fetch moved-to halted
-returns-5 c =
-    let args = c .before .before .before .before .before .before .before .before .before .before .before .before .before .before .before .before .before .before .before .before .before .before .args in
-    let read = c .before .before .before .before .before .before .before .before .before .before .before .before .before .before .before .before .before .before .before .read in
-    let cell-of = c .before .before .before .before .before .before .before .before .before .before .before .before .before .before .before .before .before .before .cell-of in
-    let read2 = c .before .before .before .before .before .before .before .before .before .before .before .before .before .before .before .before .before .read2 in
-    let cell-of2 = c .before .before .before .before .before .before .before .before .before .before .before .before .before .before .before .before .cell-of2 in
-    let array = c .before .before .before .before .before .before .before .before .before .before .before .before .before .before .array in
-    let index = c .before .before .before .before .before .before .before .before .before .before .before .index in
-    let x = c .before .before .before .before .before .before .before .before .x in
-    let read3 = c .before .before .before .before .before .before .read3 in
-    let array-size = c .before .before .before .before .before .array-size in
-    let size = c .before .before .before .size in
-    let enum-told5 = c .enum-told5 in (
-      λ g v a s. sym (element-by-object g v _ _ _ _ _ _ _
-          (seen-object v (args .f .now) _ _ (s .variable) (read .ensures) (array .given .1) (x .given .1) (cell-of .ensures))
-          (seen-object v (args .f .now) _ _ (s .variable) (read2 .ensures) (index .given .1) (enum-told5 .given .1) (cell-of2 .ensures))
-          (array-seen v (args .f .now) (args .h .now) s _ _ (read3 .ensures) (size .given .1) (array-size .ensures))),
-      tt,
-    )
-
-cast-read-2 : tie.Need-cast-read-2
-cast-read-2 c = search needs
+size-of-requires : tie.Need-size-of-requires
+size-of-requires c κs = search needs
 
 add-read : tie.Need-add-read
 add-read c = search needs
 
-cast-read-3 : tie.Need-cast-read-3
-cast-read-3 c = search needs
+cast-read : tie.Need-cast-read
+cast-read c = search needs
 
 add-read-2 : tie.Need-add-read-2
 add-read-2 c = search needs
@@ -165,57 +82,39 @@ read-requires-4 c κs = search needs
 filled-word-requires : tie.Need-filled-word-requires
 filled-word-requires c κs = search needs
 
-returns-6 : tie.Need-returns-6
+returns-3 : tie.Need-returns-3
 unfolding plan plan-fetch
-returns-6 c =
-    let args = c .before .before .before .before .before .before .before .before .before .before .before .before .before .before .before .before .before .before .before .before .before .before .before .before .before .before .args in
-    let read = c .before .before .before .before .before .before .before .before .before .before .before .before .before .before .before .before .before .before .before .before .before .before .before .read in
-    let cell-of = c .before .before .before .before .before .before .before .before .before .before .before .before .before .before .before .before .before .before .before .before .before .before .cell-of in
-    let read2 = c .before .before .before .before .before .before .before .before .before .before .before .before .before .before .before .before .before .before .before .before .before .read2 in
-    let cell-of2 = c .before .before .before .before .before .before .before .before .before .before .before .before .before .before .before .before .before .before .before .before .cell-of2 in
-    let array = c .before .before .before .before .before .before .before .before .before .before .before .before .before .before .before .before .before .before .array in
-    let index = c .before .before .before .before .before .before .before .before .before .before .before .before .before .before .before .index in
-    let x = c .before .before .before .before .before .before .before .before .before .before .before .before .x in
-    let read3 = c .before .before .before .before .before .before .before .before .before .before .read3 in
-    let array-size = c .before .before .before .before .before .before .before .before .before .array-size in
-    let size = c .before .before .before .before .before .before .before .size in
-    let y = c .before .before .before .before .y in
-    let test = c .before .before .if1 in
+returns-3 c =
+    let read = c .before .before .before .before .before .before .before .before .before .before .before .before .before .before .before .before .read in
+    let cell-of = c .before .before .before .before .before .before .before .before .before .before .before .before .before .before .before .cell-of in
+    let x = c .before .before .before .before .before .before .before .before .before .before .before .before .before .x in
+    let read2 = c .before .before .before .before .before .before .before .before .before .before .before .read2 in
+    let cell-of2 = c .before .before .before .before .before .before .before .before .before .before .cell-of2 in
+    let y = c .before .before .before .before .before .before .before .before .y in
+    let name-of = c .before .before .before .before .before .before .name-of in
+    let low-of = c .before .before .before .before .before .low-of in
+    let read3 = c .before .before .before .before .read3 in
+    let size-of = c .before .before .before .size-of in
+    let if1 = c .before .before .if1 in
     let read4 = c .before .read4 in
-    let filled-word = c .filled-word in (
-      λ g v a s. filled-word .ensures .0 g v (declared-as plain g v a) a
-          ∙ ap (moving plain g v (declared-as plain g v a) a) (sym
-          (inside-seen v (args .f .now) (args .h .now) _ _ _ _ s (ap head-size
-          (array-seen v (args .f .now) (args .h .now) s _ _ (read3 .ensures) (size .given .1) (array-size .ensures))) (test .taken) (read4 .ensures)))
-          ∙ sym (element-at g v _ _ _ _ _ _ _
-          (seen-object v (args .f .now) _ _ (s .variable) (read .ensures) (array .given .1) (x .given .1) (cell-of .ensures))
-          (seen-word v (args .f .now) _ _ (s .variable) (read2 .ensures) (index .given .1) (y .given .1) (cell-of2 .ensures))
-          (array-seen v (args .f .now) (args .h .now) s _ _ (read3 .ensures) (size .given .1) (array-size .ensures)) (test .taken)),
-      filled-word .ensures .1,
-    )
+    let filled-word = c .filled-word in
+    λ q g v a s. settle (element-at g v fetch-right _ _ (fetching g v a) s (filled-there s (read .ensures) (cell-of .ensures) (x .given .1)) (filled-there s (read2 .ensures) (cell-of2 .ensures) (y .given .1)) (name-of .ensures) (low-of .ensures) (read3 .ensures) (size-of .ensures) (if1 .taken)) (λ e. moved-is q g v (declared-as plain g v a) a (s .cell _ _ _ (e .0) (if1 .taken)) (read4 .ensures) (filled-word .ensures) (e .1))
 
-returns-7 : tie.Need-returns-7
+returns-4 : tie.Need-returns-4
 unfolding plan plan-fetch moved-to halted
-returns-7 c =
-    let args = c .before .before .before .before .before .before .before .before .before .before .before .before .before .before .before .before .before .before .before .before .before .before .before .before .args in
-    let read = c .before .before .before .before .before .before .before .before .before .before .before .before .before .before .before .before .before .before .before .before .before .read in
-    let cell-of = c .before .before .before .before .before .before .before .before .before .before .before .before .before .before .before .before .before .before .before .before .cell-of in
-    let read2 = c .before .before .before .before .before .before .before .before .before .before .before .before .before .before .before .before .before .before .before .read2 in
-    let cell-of2 = c .before .before .before .before .before .before .before .before .before .before .before .before .before .before .before .before .before .before .cell-of2 in
-    let array = c .before .before .before .before .before .before .before .before .before .before .before .before .before .before .before .before .array in
-    let index = c .before .before .before .before .before .before .before .before .before .before .before .before .before .index in
-    let x = c .before .before .before .before .before .before .before .before .before .before .x in
-    let read3 = c .before .before .before .before .before .before .before .before .read3 in
-    let array-size = c .before .before .before .before .before .before .before .array-size in
-    let size = c .before .before .before .before .before .size in
-    let y = c .before .before .y in
-    let test = c .if1 in (
-      λ g v a s. sym (element-past g v _ _ _ _ _ _ _
-          (seen-object v (args .f .now) _ _ (s .variable) (read .ensures) (array .given .1) (x .given .1) (cell-of .ensures))
-          (seen-word v (args .f .now) _ _ (s .variable) (read2 .ensures) (index .given .1) (y .given .1) (cell-of2 .ensures))
-          (array-seen v (args .f .now) (args .h .now) s _ _ (read3 .ensures) (size .given .1) (array-size .ensures)) (test .left)),
-      tt,
-    )
+returns-4 c =
+    let read = c .before .before .before .before .before .before .before .before .before .before .before .before .before .before .read in
+    let cell-of = c .before .before .before .before .before .before .before .before .before .before .before .before .before .cell-of in
+    let x = c .before .before .before .before .before .before .before .before .before .before .before .x in
+    let read2 = c .before .before .before .before .before .before .before .before .before .read2 in
+    let cell-of2 = c .before .before .before .before .before .before .before .before .cell-of2 in
+    let y = c .before .before .before .before .before .before .y in
+    let name-of = c .before .before .before .before .name-of in
+    let low-of = c .before .before .before .low-of in
+    let read3 = c .before .before .read3 in
+    let size-of = c .before .size-of in
+    let if1 = c .if1 in
+    λ q g v a s. settle (element-past g v fetch-right _ _ (fetching g v a) s (filled-there s (read .ensures) (cell-of .ensures) (x .given .1)) (filled-there s (read2 .ensures) (cell-of2 .ensures) (y .given .1)) (name-of .ensures) (low-of .ensures) (read3 .ensures) (size-of .ensures) (if1 .left)) (λ e. (tt, sym e))
 
 pub fetch-of-spec : {M : Type 1} → statement M
 fetch-of-spec =
@@ -223,31 +122,23 @@ fetch-of-spec =
     (tie.spec
     read-requires
     cell-of-requires
-    read-requires-2
-    cell-of-requires-2
-    enum-known-array
+    enum-known-x
     enum-told
     returns
-    enum-known-index
+    read-requires-2
+    cell-of-requires-2
+    enum-known-y
     enum-told-2
     returns-2
-    enum-known-x
-    enum-told-3
-    returns-3
-    cast-read
+    name-of-requires
+    cast-o
+    low-of-requires
     read-requires-3
-    array-size-requires
-    enum-known-size
-    enum-told-4
-    returns-4
-    enum-known-y
-    enum-told-5
-    returns-5
-    cast-read-2
+    size-of-requires
     add-read
-    cast-read-3
+    cast-read
     add-read-2
     read-requires-4
     filled-word-requires
-    returns-6
-    returns-7)
+    returns-3
+    returns-4)

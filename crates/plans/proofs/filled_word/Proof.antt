@@ -1,33 +1,33 @@
--- A blank cell is not moved, and a word that is read as a filled cell is a cell's.
-use mathlib.Core.Path.{_∙_, refl, ap, sym}
+-- A word is blank exactly if it is 0.
+use mathlib.Core.Path.{ap}
+use borrow.Author.Tests.{eq-eqb, ne-eqb}
+use Rattle.words.specs.declared.Moved.the-variants.{To}
+use Rattle.words.proofs.Laws.{told-blank, told-filled}
 use borrow.Author.Needs.{needs}
-use Rattle.model.specs.Qualified.{integer}
-use Rattle.words.specs.Answer.{cell-as}
-use Rattle.words.specs.Answers.{moved-to, halted}
-use Rattle.plans.proofs.Laws.{moved-blank, moved-filled, cell-there}
 use Rattle.plans.proofs.filled_word.Statement.{statement}
 use Rattle.plans.proofs.filled_word.Tie as tie
 
 cell-of-requires : tie.Need-cell-of-requires
 cell-of-requires c κs = search needs
 
+enum-known-x : tie.Need-enum-known-x
+enum-known-x c = search needs
+
 enum-told : tie.Need-enum-told
 enum-told c = search needs
 
-enum-told-2 : tie.Need-enum-told-2
-enum-told-2 c = search needs
-
 returns : tie.Need-returns
-unfolding moved-to halted
 returns c =
-    let is = sym (c .before .before .cell-of .ensures (λ j. integer)) ∙ ap cell-as (c .enum-told2 .given .1) in
-    (λ g v q a. sym (moved-blank g v q _ _ is), tt)
+    let cell-of = c .before .before .cell-of in
+    let enum-told = c .enum-told in
+    rw (eq-eqb _ 0 (told-blank (cell-of .ensures) (enum-told .given .1)))
 
 returns-2 : tie.Need-returns-2
-unfolding moved-to
 returns-2 c =
-    let is = sym (c .before .before .cell-of .ensures (λ j. integer)) ∙ ap cell-as (c .enum-told .given .1) in
-    (λ g v q a. sym (moved-filled g v q _ _ _ _ is refl), cell-there _ _ is)
+    let args = c .before .before .before .before .args in
+    let cell-of = c .before .before .before .cell-of in
+    let x = c .before .x in
+    let k = told-filled {w = args .w} (cell-of .ensures) (x .given .1) in rw (ne-eqb _ 0 (k .1)) (ap To (k .0))
 
 pub filled-word-spec : {M : Type 1} → statement M
-filled-word-spec = tie.close (tie.spec cell-of-requires enum-told enum-told-2 returns returns-2)
+filled-word-spec = tie.close (tie.spec cell-of-requires enum-known-x enum-told returns returns-2)

@@ -1,11 +1,11 @@
--- The cells of the words read are those of the variables; the test is that of the definition.
-use mathlib.Core.Path.{sym, ap}
+-- The words read are those of the variables: blanks stop, integers are compared, and of objects nothing is claimed.
+use mathlib.Core.Path.{sym}
 use lib.Dec.{ltb}
 use borrow.Author.Tests.{lt-ltb, le-ltb}
-use borrow.Author.Needs.{needs}
 use Rattle.model.specs.Machine.{plan, flag}
 use Rattle.words.specs.Answers.{given, halted}
-use Rattle.plans.proofs.Laws.{seen-blank, seen-filled, seen-word, seen-object, first-blank, second-blank, first-object, second-object, computed}
+use Rattle.plans.proofs.Laws.{due, settle, blank-there, filled-there, first-blank, second-blank, computed}
+use borrow.Author.Needs.{needs}
 use Rattle.plans.proofs.less_of.Statement.{statement}
 use Rattle.plans.proofs.less_of.Tie as tie
 
@@ -15,14 +15,8 @@ read-requires c κs = search needs
 cell-of-requires : tie.Need-cell-of-requires
 cell-of-requires c κs = search needs
 
-read-requires-2 : tie.Need-read-requires-2
-read-requires-2 c κs = search needs
-
-cell-of-requires-2 : tie.Need-cell-of-requires-2
-cell-of-requires-2 c κs = search needs
-
-enum-known-left : tie.Need-enum-known-left
-enum-known-left c = search needs
+enum-known-x : tie.Need-enum-known-x
+enum-known-x c = search needs
 
 enum-told : tie.Need-enum-told
 enum-told c = search needs
@@ -30,15 +24,19 @@ enum-told c = search needs
 returns : tie.Need-returns
 unfolding plan given halted
 returns c =
-    let args = c .before .before .before .before .before .before .before .args in
-    let read = c .before .before .before .before .before .read in
-    let cell-of = c .before .before .before .before .cell-of in
+    let read = c .before .before .before .read in
+    let cell-of = c .before .before .cell-of in
     let enum-told = c .enum-told in
-    λ g v a e. sym (first-blank g v _ _ _
-    (seen-blank v (args .f .now) _ _ e (read .ensures) (enum-told .given .1) (cell-of .ensures)))
+    λ q g v h a s. due (first-blank g v a _ _ (λ x y. flag (ltb x y)) (blank-there s (read .ensures) (cell-of .ensures) (enum-told .given .1))) sym
 
-enum-known-right : tie.Need-enum-known-right
-enum-known-right c = search needs
+read-requires-2 : tie.Need-read-requires-2
+read-requires-2 c κs = search needs
+
+cell-of-requires-2 : tie.Need-cell-of-requires-2
+cell-of-requires-2 c κs = search needs
+
+enum-known-y : tie.Need-enum-known-y
+enum-known-y c = search needs
 
 enum-told-2 : tie.Need-enum-told-2
 enum-told-2 c = search needs
@@ -46,93 +44,47 @@ enum-told-2 c = search needs
 returns-2 : tie.Need-returns-2
 unfolding plan given halted
 returns-2 c =
-    let args = c .before .before .before .before .before .before .before .before .before .before .args in
     let read = c .before .before .before .before .before .before .before .before .read in
     let cell-of = c .before .before .before .before .before .before .before .cell-of in
-    let read2 = c .before .before .before .before .before .before .read2 in
-    let cell-of2 = c .before .before .before .before .before .cell-of2 in
-    let left = c .before .before .before .left in
+    let x = c .before .before .before .before .before .x in
+    let read2 = c .before .before .before .read2 in
+    let cell-of2 = c .before .before .cell-of2 in
     let enum-told2 = c .enum-told2 in
-    λ g v a e. sym (second-blank g v _ _ _ _
-    (seen-filled v (args .f .now) _ _ e (read .ensures) (left .given .1) (cell-of .ensures))
-    (seen-blank v (args .f .now) _ _ e (read2 .ensures) (enum-told2 .given .1) (cell-of2 .ensures)))
+    λ q g v h a s. due (second-blank g v a _ _ (λ x y. flag (ltb x y)) (filled-there s (read .ensures) (cell-of .ensures) (x .given .1)) (blank-there s (read2 .ensures) (cell-of2 .ensures) (enum-told2 .given .1))) sym
 
-enum-known-x : tie.Need-enum-known-x
-enum-known-x c = search needs
+low-of-requires : tie.Need-low-of-requires
+low-of-requires c κs = search needs
 
-enum-told-3 : tie.Need-enum-told-3
-enum-told-3 c = search needs
+low-of-requires-2 : tie.Need-low-of-requires-2
+low-of-requires-2 c κs = search needs
 
 returns-3 : tie.Need-returns-3
-unfolding plan given halted
+unfolding plan given flag
 returns-3 c =
-    let args = c .before .before .before .before .before .before .before .before .before .before .before .before .before .args in
-    let read = c .before .before .before .before .before .before .before .before .before .before .before .read in
-    let cell-of = c .before .before .before .before .before .before .before .before .before .before .cell-of in
-    let read2 = c .before .before .before .before .before .before .before .before .before .read2 in
-    let cell-of2 = c .before .before .before .before .before .before .before .before .cell-of2 in
-    let left = c .before .before .before .before .before .before .left in
-    let right = c .before .before .before .right in
-    let enum-told3 = c .enum-told3 in
-    λ g v a e. sym (first-object g v _ _ _ _ _
-    (seen-object v (args .f .now) _ _ e (read .ensures) (left .given .1) (enum-told3 .given .1) (cell-of .ensures))
-    (seen-filled v (args .f .now) _ _ e (read2 .ensures) (right .given .1) (cell-of2 .ensures)))
-
-enum-known-y : tie.Need-enum-known-y
-enum-known-y c = search needs
-
-enum-told-4 : tie.Need-enum-told-4
-enum-told-4 c = search needs
+    let read = c .before .before .before .before .before .before .before .before .before .before .before .before .read in
+    let cell-of = c .before .before .before .before .before .before .before .before .before .before .before .cell-of in
+    let x = c .before .before .before .before .before .before .before .before .before .x in
+    let read2 = c .before .before .before .before .before .before .before .read2 in
+    let cell-of2 = c .before .before .before .before .before .before .cell-of2 in
+    let y = c .before .before .before .before .y in
+    let low-of = c .before .before .low-of in
+    let low-of2 = c .before .low-of2 in
+    let if1 = c .if1 in
+    λ q g v h a s. settle (computed g v a _ _ (λ x y. flag (ltb x y)) (filled-there s (read .ensures) (cell-of .ensures) (x .given .1)) (filled-there s (read2 .ensures) (cell-of2 .ensures) (y .given .1)) (rw (← low-of .ensures, ← low-of2 .ensures, lt-ltb _ _ (if1 .taken)))) sym
 
 returns-4 : tie.Need-returns-4
-unfolding plan given halted
+unfolding plan given flag
 returns-4 c =
-    let args = c .before .before .before .before .before .before .before .before .before .before .before .before .before .before .before .before .args in
-    let read = c .before .before .before .before .before .before .before .before .before .before .before .before .before .before .read in
-    let cell-of = c .before .before .before .before .before .before .before .before .before .before .before .before .before .cell-of in
-    let read2 = c .before .before .before .before .before .before .before .before .before .before .before .before .read2 in
-    let cell-of2 = c .before .before .before .before .before .before .before .before .before .before .before .cell-of2 in
-    let left = c .before .before .before .before .before .before .before .before .before .left in
-    let right = c .before .before .before .before .before .before .right in
-    let x = c .before .before .before .x in
-    let enum-told4 = c .enum-told4 in
-    λ g v a e. sym (second-object g v _ _ _ _ _
-    (seen-word v (args .f .now) _ _ e (read .ensures) (left .given .1) (x .given .1) (cell-of .ensures))
-    (seen-object v (args .f .now) _ _ e (read2 .ensures) (right .given .1) (enum-told4 .given .1) (cell-of2 .ensures)))
-
-returns-5 : tie.Need-returns-5
-unfolding plan given flag
-returns-5 c =
-    let args = c .before .before .before .before .before .before .before .before .before .before .before .before .before .before .before .before .before .before .args in
-    let read = c .before .before .before .before .before .before .before .before .before .before .before .before .before .before .before .before .read in
-    let cell-of = c .before .before .before .before .before .before .before .before .before .before .before .before .before .before .before .cell-of in
-    let read2 = c .before .before .before .before .before .before .before .before .before .before .before .before .before .before .read2 in
-    let cell-of2 = c .before .before .before .before .before .before .before .before .before .before .before .before .before .cell-of2 in
-    let left = c .before .before .before .before .before .before .before .before .before .before .before .left in
-    let right = c .before .before .before .before .before .before .before .before .right in
-    let x = c .before .before .before .before .before .x in
-    let y = c .before .before .y in
-    let test = c .if1 in
-    λ g v a e. sym (computed g v a _ _ (λ x y. flag (ltb x y)) _ _ _
-    (seen-word v (args .f .now) _ _ e (read .ensures) (left .given .1) (x .given .1) (cell-of .ensures))
-    (seen-word v (args .f .now) _ _ e (read2 .ensures) (right .given .1) (y .given .1) (cell-of2 .ensures)) (ap flag (sym (lt-ltb _ _ (test .taken)))))
-
-returns-6 : tie.Need-returns-6
-unfolding plan given flag
-returns-6 c =
-    let args = c .before .before .before .before .before .before .before .before .before .before .before .before .before .before .before .before .before .before .args in
-    let read = c .before .before .before .before .before .before .before .before .before .before .before .before .before .before .before .before .read in
-    let cell-of = c .before .before .before .before .before .before .before .before .before .before .before .before .before .before .before .cell-of in
-    let read2 = c .before .before .before .before .before .before .before .before .before .before .before .before .before .before .read2 in
-    let cell-of2 = c .before .before .before .before .before .before .before .before .before .before .before .before .before .cell-of2 in
-    let left = c .before .before .before .before .before .before .before .before .before .before .before .left in
-    let right = c .before .before .before .before .before .before .before .before .right in
-    let x = c .before .before .before .before .before .x in
-    let y = c .before .before .y in
-    let test = c .if1 in
-    λ g v a e. sym (computed g v a _ _ (λ x y. flag (ltb x y)) _ _ _
-    (seen-word v (args .f .now) _ _ e (read .ensures) (left .given .1) (x .given .1) (cell-of .ensures))
-    (seen-word v (args .f .now) _ _ e (read2 .ensures) (right .given .1) (y .given .1) (cell-of2 .ensures)) (ap flag (sym (le-ltb _ _ (test .left)))))
+    let read = c .before .before .before .before .before .before .before .before .before .before .before .before .read in
+    let cell-of = c .before .before .before .before .before .before .before .before .before .before .before .cell-of in
+    let x = c .before .before .before .before .before .before .before .before .before .x in
+    let read2 = c .before .before .before .before .before .before .before .read2 in
+    let cell-of2 = c .before .before .before .before .before .before .cell-of2 in
+    let y = c .before .before .before .before .y in
+    let low-of = c .before .before .low-of in
+    let low-of2 = c .before .low-of2 in
+    let if1 = c .if1 in
+    λ q g v h a s. settle (computed g v a _ _ (λ x y. flag (ltb x y)) (filled-there s (read .ensures) (cell-of .ensures) (x .given .1)) (filled-there s (read2 .ensures) (cell-of2 .ensures) (y .given .1)) (rw (← low-of .ensures, ← low-of2 .ensures, le-ltb _ _ (if1 .left)))) sym
 
 pub less-of-spec : {M : Type 1} → statement M
 less-of-spec =
@@ -140,19 +92,15 @@ less-of-spec =
     (tie.spec
     read-requires
     cell-of-requires
-    read-requires-2
-    cell-of-requires-2
-    enum-known-left
+    enum-known-x
     enum-told
     returns
-    enum-known-right
+    read-requires-2
+    cell-of-requires-2
+    enum-known-y
     enum-told-2
     returns-2
-    enum-known-x
-    enum-told-3
+    low-of-requires
+    low-of-requires-2
     returns-3
-    enum-known-y
-    enum-told-4
-    returns-4
-    returns-5
-    returns-6)
+    returns-4)

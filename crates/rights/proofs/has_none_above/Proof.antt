@@ -1,4 +1,4 @@
--- From 15 on, no bit of a 16-bit set is above n.
+-- From 31 on, no bit of a 32-bit set is above n.
 use Prim.Native.Nat.{_+_, _^_, _≤_, _<_}
 use mathlib.Core.Path.{refl, sym}
 use native.Mathlib.Nat.{lt-of-lt-of-le, div-eq-of-lt}
@@ -27,7 +27,7 @@ returns-2 : tie.Need-returns-2
 unfolding none-above
 returns-2 c =
     let a = c .before .args in
-    let h : 16 ≤ a .n + 1 = omega arith in
+    let h : 32 ≤ a .n + 1 = omega arith in
     let l : a .held < 2 ^ (a .n + 1) = lt-of-lt-of-le (c .before .fits .held .fits) (pow-mono h) in
     sym (eq-eqb _ 0 (div-eq-of-lt l))
 

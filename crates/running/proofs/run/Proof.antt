@@ -1,9 +1,8 @@
-use mathlib.Core.Path.{sym, _∙_, ap}
-use lib.ListN.{replicate}
-use Prim.Native.Nat.{ℕ}
-use borrow.Author.Tests.{lt-leb, le-leb}
-use Rattle.running.specs.Run.{reply, memory-after, output-after, fits, end}
-use Rattle.running.proofs.Laws.{replies, formed-sheet, never-stuck}
+-- What check refuses is refused; an accepted sheet is never stuck, by condition 3.
+use mathlib.Core.Path.{sym, _∙_}
+use denote.Ref.{now}
+use Rattle.running.specs.Run.{reply, memory-after, output-after, end}
+use Rattle.running.proofs.Laws.{formed-sheet, never-stuck}
 use borrow.Author.Needs.{needs}
 use Rattle.running.proofs.run.Statement.{statement}
 use Rattle.running.proofs.run.Tie as tie
@@ -20,30 +19,14 @@ refusal-requires c κs = search needs
 enum-told : tie.Need-enum-told
 enum-told c = search needs
 
-refusal-requires-2 : tie.Need-refusal-requires-2
-refusal-requires-2 c κs = search needs
+run-lent-requires : tie.Need-run-lent-requires
+unfolding end
+run-lent-requires c κs =
+    let a = sym (c .before .before .before .before .check .ensures) ∙ c .before .before .enum-told .given .1 in (formed-sheet _ a, λ h. never-stuck _ a _ h _ (now (c .before .before .before .before .before .before .before .before .before .args .output)) (λ k. c .before .before .before .before .before .before .before .shared-slice-known2 .given k .fits) _)
 
 returns : tie.Need-returns
-unfolding reply memory-after output-after fits
-returns c =
-    let e = sym (c .before .before .before .before .check .ensures) ∙ c .before .before .enum-told .given .1 in let f = lt-leb _ _ (c .before .if1 .taken) in (rw (e, f) (c .refusal2 .ensures), (rw (e, f), rw (e, f)))
-
-places-requires : tie.Need-places-requires
-places-requires c κs = search needs
-
-run-in-requires : tie.Need-run-in-requires
-run-in-requires c κs =
-    (record { formed = formed-sheet _ (sym (c .before .before .before .before .before .before .before .check .ensures) ∙ c .before .before .before .before .before .enum-told .given .1); places = c .before .before .before .places .ensures }, c .before .before .before .before .if1 .left)
-
-clear-requires : tie.Need-clear-requires
-clear-requires c κs = search needs
-
-stop-requires : tie.Need-stop-requires
-stop-requires c κs = search needs
-
-returns-2 : tie.Need-returns-2
 unfolding reply memory-after output-after
-returns-2 c =
+returns c =
     let e = sym (c .before .before .before .before .check .ensures) ∙ c .before .before .number .given .1 in (rw e (c .refusal .ensures), (rw e, rw e))
 
 same-length : tie.Need-same-length
@@ -52,10 +35,10 @@ same-length c = search needs
 same-length-2 : tie.Need-same-length-2
 same-length-2 c = search needs
 
-returns-3 : tie.Need-returns-3
-unfolding reply memory-after output-after fits end
-returns-3 c =
-    let a = sym (c .before .before .before .before .before .before .before .before .before .before .before .before .before .before .before .before .before .check .ensures) ∙ c .before .before .before .before .before .before .before .before .before .before .before .before .before .before .before .enum-told .given .1 in let f = le-leb _ _ (c .before .before .before .before .before .before .before .before .before .before .before .before .before .before .if1 .left) in let z = replies _ _ _ _ (c .before .before .before .before .before .before .before .before .before .run-in .ensures) (never-stuck _ a _ _ _ _) in (rw (a, f) (c .stop .ensures ∙ z .reply), (rw (a, f) (c .before .before .before .clear .ensures ∙ ap (λ (n : ℕ). replicate n 0) (c .before .before .before .before .before .before .before .before .before .run-in .kept .1 .1 .1 .1 .0)), rw (a, f) (z .written-is)))
+returns-2 : tie.Need-returns-2
+unfolding reply memory-after output-after
+returns-2 c =
+    let a = sym (c .before .before .before .before .before .before .before .before .before .check .ensures) ∙ c .before .before .before .before .before .before .before .enum-told .given .1 in (rw a (c .before .before .before .before .run-lent .ensures .0), (rw a (c .before .before .before .before .run-lent .ensures .1 .0), rw a (c .before .before .before .before .run-lent .ensures .1 .1)))
 
 pub run-spec : {M : Type 1} → statement M
 run-spec =
@@ -65,13 +48,8 @@ run-spec =
     enum-known-number
     refusal-requires
     enum-told
-    refusal-requires-2
+    run-lent-requires
     returns
-    places-requires
-    run-in-requires
-    clear-requires
-    stop-requires
-    returns-2
     same-length
     same-length-2
-    returns-3)
+    returns-2)

@@ -1,8 +1,7 @@
--- The product is the word packed from tag 3 and the size.
+-- The product is the word packed from tag 3, the element and the size.
 use Prim.Native.Nat.{_+_, _*_, _^_}
 use native.Mathlib.Omega.{arith}
 use mathlib.Core.Path.{_≡_}
-use Rattle.model.specs.Modes.{plain}
 use Rattle.words.specs.Word.{pack}
 use Rattle.words.proofs.Laws.{array-packed}
 use borrow.Author.Needs.{needs}
@@ -18,11 +17,17 @@ add-result c = search needs
 mul-result-2 : tie.Need-mul-result-2
 mul-result-2 c = search needs
 
+add-result-2 : tie.Need-add-result-2
+add-result-2 c = search needs
+
+mul-result-3 : tie.Need-mul-result-3
+mul-result-3 c = search needs
+
 returns : tie.Need-returns
 unfolding pack
-returns c q =
-    let packed : (c .args .n * 8 + 3) * 4294967296 ≡ pack 3 (0 * 2 ^ 17 + c .args .n) 0 = omega arith in
-    rw packed (array-packed plain q 0 _ (omega arith))
+returns c m q =
+    let packed : ((c .args .element * 131072 + c .args .n) * 8 + 3) * 4294967296 ≡ pack 3 (c .args .element * 2 ^ 17 + c .args .n) 0 = omega arith in
+    rw packed (array-packed m q _ _ (omega arith) (c .pre))
 
 pub array-word-spec : {M : Type 1} → statement M
-array-word-spec = tie.close (tie.spec mul-result add-result mul-result-2 returns)
+array-word-spec = tie.close (tie.spec mul-result add-result mul-result-2 add-result-2 mul-result-3 returns)

@@ -2,7 +2,6 @@
 use Prim.Native.Nat.{_+_}
 use native.Mathlib.Omega.{arith}
 use mathlib.Core.Path.{_≡_}
-use Rattle.model.specs.Modes.{plain}
 use Rattle.words.specs.Word.{pack}
 use Rattle.words.proofs.Laws.{integer-packed}
 use borrow.Author.Needs.{needs}
@@ -14,9 +13,9 @@ add-result c = search needs
 
 returns : tie.Need-returns
 unfolding pack
-returns c q =
+returns c m q =
     let packed : 4294967296 + c .args .n ≡ pack 1 0 (c .args .n) = omega arith in
-    rw packed (integer-packed plain q _ (omega arith))
+    rw packed (integer-packed m q _ (omega arith))
 
 pub integer-word-spec : {M : Type 1} → statement M
 integer-word-spec = tie.close (tie.spec add-result returns)

@@ -1,8 +1,7 @@
--- The product is the word packed from tag 2 and the name.
+-- The sum is the word packed from tag 2, the name and the rights.
 use Prim.Native.Nat.{_+_, _*_}
 use native.Mathlib.Omega.{arith}
 use mathlib.Core.Path.{_≡_}
-use Rattle.model.specs.Modes.{plain}
 use Rattle.words.specs.Word.{pack}
 use Rattle.words.proofs.Laws.{object-packed}
 use borrow.Author.Needs.{needs}
@@ -18,11 +17,14 @@ add-result c = search needs
 mul-result-2 : tie.Need-mul-result-2
 mul-result-2 c = search needs
 
+add-result-2 : tie.Need-add-result-2
+add-result-2 c = search needs
+
 returns : tie.Need-returns
 unfolding pack
-returns c q =
-    let packed : (c .args .a * 8 + 2) * 4294967296 ≡ pack 2 (c .args .a) 0 = omega arith in
-    rw packed (object-packed plain q _ 0 (omega arith))
+returns c m q =
+    let packed : (c .args .a * 8 + 2) * 4294967296 + c .args .rights ≡ pack 2 (c .args .a) (c .args .rights) = omega arith in
+    rw packed (object-packed m q _ _ (omega arith))
 
 pub object-word-spec : {M : Type 1} → statement M
-object-word-spec = tie.close (tie.spec mul-result add-result mul-result-2 returns)
+object-word-spec = tie.close (tie.spec mul-result add-result mul-result-2 add-result-2 returns)

@@ -2,7 +2,6 @@
 use Prim.Native.Nat.{_+_, _*_}
 use native.Mathlib.Omega.{arith}
 use mathlib.Core.Path.{_≡_}
-use Rattle.model.specs.Modes.{plain}
 use Rattle.words.specs.Word.{pack}
 use Rattle.words.proofs.Laws.{place-packed}
 use borrow.Author.Needs.{needs}
@@ -23,9 +22,9 @@ add-result-2 c = search needs
 
 returns : tie.Need-returns
 unfolding pack
-returns c q =
+returns c m q =
     let packed : (c .args .procedure * 8 + 5) * 4294967296 + c .args .next ≡ pack 5 (c .args .procedure) (c .args .next) = omega arith in
-    rw packed (place-packed plain q _ _ (omega arith))
+    rw packed (place-packed m q _ _ (omega arith))
 
 pub place-word-spec : {M : Type 1} → statement M
 place-word-spec = tie.close (tie.spec mul-result add-result mul-result-2 add-result-2 returns)

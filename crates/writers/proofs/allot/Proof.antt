@@ -3,7 +3,6 @@ use mathlib.Core.Path.{_≡_, ap, _∙_}
 use Prim.Native.Nat.{_+_, _≤_}
 use lib.ListN.{length, length-set}
 use denote.Ref.{now}
-use Rattle.model.specs.Qualified.{integer}
 use Rattle.writers.specs.Steps.{onward}
 use Rattle.writers.proofs.Effects.{length-laid, allots}
 use native.Mathlib.Omega.{arith}
@@ -38,33 +37,33 @@ part-clear-end c = simp length-set (omega arith)
 clear-requires : tie.Need-clear-requires
 clear-requires c κs = search needs
 
-cast-object-word : tie.Need-cast-object-word
-cast-object-word c = search needs
-
-object-word-requires : tie.Need-object-word-requires
-object-word-requires c κs = search needs
-
 put-variable-requires : tie.Need-put-variable-requires
 put-variable-requires c κs =
-    let s = c .before .before .before .before .before .before .before .args in
+    let s = c .before .before .before .before .before .before .args in
+    let clear = c .before .before .before .clear in
     let fits : s .r .used + 1 + s .n ≤ length (now (s .memory)) = omega arith in
-    rw (length-laid (now (s .memory)) _ (s .r .used) (s .head) (s .n) fits (c .before .before .before .before .clear .ensures)) (omega arith)
+    rw (length-laid (now (s .memory)) _ (s .r .used) (s .head) (s .n) fits (clear .ensures)) (omega arith)
 
-add-t13 : tie.Need-add-t13
-add-t13 c = search needs
+add-t14 : tie.Need-add-t14
+add-t14 c = search needs
 
 same-length : tie.Need-same-length
 same-length c =
-    let s = c .before .before .before .before .before .before .before .before .before .before .before .args in
+    let s = c .before .before .before .before .before .before .before .before .before .before .args in
+    let clear = c .before .before .before .before .before .before .before .clear in
+    let put-variable = c .before .before .before .put-variable in
     let fits : s .r .used + 1 + s .n ≤ length (now (s .memory)) = omega arith in
-    c .before .before .before .put-variable .kept .0 ∙ length-laid (now (s .memory)) _ (s .r .used) (s .head) (s .n) fits (c .before .before .before .before .before .before .before .before .clear .ensures)
+    put-variable .kept .0 ∙ length-laid (now (s .memory)) _ (s .r .used) (s .head) (s .n) fits (clear .ensures)
 
 returns : tie.Need-returns
 returns c =
-    let s = c .before .before .before .before .before .before .before .before .before .before .before .args in
+    let s = c .before .before .before .before .before .before .before .before .before .before .args in
+    let pre = c .before .before .before .before .before .before .before .before .before .before .pre in
+    let clear = c .before .before .before .before .before .before .before .clear in
+    let put-variable = c .before .before .before .put-variable in
     let k : s .r .used + 1 + s .n ≡ s .r .used + (s .n + 1) = omega arith in (
       ap (λ u. onward (s .r) (s .r .next + 1) u (s .r .taken) (s .r .put)) k,
-      allots (now (s .memory)) _ _ (s .r) (s .a) (s .head) (s .n) _ (c .before .before .before .before .before .before .before .before .before .before .before .pre .0) (c .before .before .before .before .before .before .before .before .before .before .before .pre .1 .1) (c .before .before .before .before .before .before .before .before .clear .ensures) (c .before .before .before .before .object-word .ensures (λ j. integer)) (c .before .before .before .put-variable .ensures),
+      λ m q. allots m q (now (s .memory)) _ _ (s .r) (s .a) (s .head) (s .n) (s .name) (pre .0) (pre .1 .1) (clear .ensures) (put-variable .ensures),
     )
 
 pub allot-spec : {M : Type 1} → statement M
@@ -80,9 +79,7 @@ allot-spec =
     part-clear-start
     part-clear-end
     clear-requires
-    cast-object-word
-    object-word-requires
     put-variable-requires
-    add-t13
+    add-t14
     same-length
     returns)

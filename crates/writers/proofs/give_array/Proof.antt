@@ -1,13 +1,19 @@
 -- The test is that of the definition: an array of x cells takes x + 1 units.
 use Prim.Native.Nat.{_+_, _≤_}
 use Rattle.model.specs.Outcome.{memory-full}
-use Rattle.model.specs.Qualified.{integer}
+use Rattle.model.specs.Modes.{plain}
+use Rattle.sheet.specs.Meaning.{qualOf}
 use Rattle.writers.proofs.Effects.{does-array, does-stop, does-halt}
 use Rattle.writers.proofs.Planned.{array-there, array-full, array-halt}
 use native.Mathlib.Omega.{arith}
 use borrow.Author.Needs.{needs}
 use Rattle.writers.proofs.give_array.Statement.{statement}
 use Rattle.writers.proofs.give_array.Tie as tie
+use Rattle.writers.proofs.give_array.Reads as reads
+use Rattle.writers.proofs.give_array.Lts as lts
+use Rattle.words.proofs.array_word.Reads as array-word-reads
+use Rattle.words.proofs.object_word.Reads as object-word-reads
+use Rattle.writers.proofs.allot.Reads as allot-reads
 
 enum-known-n : tie.Need-enum-known-n
 enum-known-n c = search needs
@@ -17,6 +23,12 @@ cast-if1 c = search needs
 
 sub-if1 : tie.Need-sub-if1
 sub-if1 c = search needs
+
+cast-object-word : tie.Need-cast-object-word
+cast-object-word c = search needs
+
+object-word-requires : tie.Need-object-word-requires
+object-word-requires c κs = search needs
 
 array-word-requires : tie.Need-array-word-requires
 array-word-requires c κs = search needs
@@ -29,22 +41,18 @@ same-length c = search needs
 
 returns : tie.Need-returns
 returns c =
-    let s = c .before .before .before .before .before .before .before .before .before .before .before .args in
-    λ out. let room : s .r .used + (c .before .before .before .before .before .before .before .before .n .given .0 .0 + 1) ≤ s .r .base = omega arith in
-    rw (c .before .before .allot .ensures .0, c .before .before .before .before .before .before .before .before .n .given .1, array-there _ _ _ (c .before .before .before .before .before .if1 .taken))
-    (does-array _ _ out (s .r) (s .a) _ _ room (c .before .before .before .array-word .ensures (λ j. integer)) (c .before .before .allot .ensures .1))
+    let s = c .before .before .before .before .before .before .before .before .before .before .before .before .before .args in λ g out. let room : s .r .used + (c .before .before .before .before .before .before .before .before .before .before .n .given .0 .0 + 1) ≤ s .r .base = omega arith in rw (c .before .before .allot .ensures .0, c .before .before .before .before .before .before .before .before .before .before .n .given .1, array-there plain _ _ _ tt tt (c .before .before .before .before .before .before .before .if1 .taken)) (does-array plain g _ _ out (s .r) (s .a) _ _ _ tt room (c .before .before .before .before .before .object-word .ensures plain (qualOf (g .sheet))) (c .before .before .allot .ensures .1 plain (qualOf (g .sheet))) tt (c .before .before .before .array-word .ensures plain (qualOf (g .sheet))))
 
 enum-known-n-2 : tie.Need-enum-known-n-2
 enum-known-n-2 c = search needs
 
 returns-2 : tie.Need-returns-2
 returns-2 c =
-    λ out. rw (c .before .before .before .n .given .1, array-full _ _ _ (c .if1 .left))
-    (does-stop _ _ out (c .before .before .before .before .before .before .args .r) memory-full)
+    λ g out. rw (c .before .before .before .n .given .1, array-full plain _ _ _ tt tt (c .if1 .left)) (does-stop plain g _ _ out (c .before .before .before .before .before .before .args .r) memory-full)
 
 returns-3 : tie.Need-returns-3
 returns-3 c =
-    λ out. rw (c .before .n2 .given .1, array-halt) (does-halt _ _ out (c .before .before .before .before .args .r) _)
+    λ g out. rw (c .before .n2 .given .1, array-halt) (does-halt plain g _ _ out (c .before .before .before .before .args .r) _)
 
 pub give-array-spec : {M : Type 1} → statement M
 give-array-spec =
@@ -53,6 +61,8 @@ give-array-spec =
     enum-known-n
     cast-if1
     sub-if1
+    cast-object-word
+    object-word-requires
     array-word-requires
     allot-requires
     same-length

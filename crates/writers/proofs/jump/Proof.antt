@@ -13,8 +13,8 @@ at-next-requires c κs = search needs
 
 returns : tie.Need-returns
 returns c =
-    λ words out. rw (c .at-next .ensures, c .before .before .before .n .given .1, jumped-zero _ _ (c .before .if1 .taken))
-    (does-jump words out (c .before .before .before .before .before .args .r) (c .before .before .before .before .before .args .k))
+    λ m g words out. rw (c .at-next .ensures, c .before .before .before .n .given .1, jumped-zero m _ _ (c .before .if1 .taken))
+    (does-jump m g words out (c .before .before .before .before .before .args .r) (c .before .before .before .before .before .args .k))
 
 add-at-next : tie.Need-add-at-next
 add-at-next c = search needs
@@ -27,12 +27,12 @@ enum-known-n-2 c = search needs
 
 returns-2 : tie.Need-returns-2
 returns-2 c =
-    λ words out. rw (c .at-next2 .ensures, c .before .before .before .before .n .given .1, jumped-other _ _ (c .before .before .if1 .left))
-    (does-skip words out (c .before .before .before .before .before .before .args .r))
+    λ m g words out. rw (c .at-next2 .ensures, c .before .before .before .before .n .given .1, jumped-other m _ _ (c .before .before .if1 .left))
+    (does-skip m g words out (c .before .before .before .before .before .before .args .r))
 
 returns-3 : tie.Need-returns-3
 returns-3 c =
-    λ words out. rw (c .before .n2 .given .1, jumped-halt) (does-halt words words out (c .before .before .before .args .r) _)
+    λ m g words out. rw (c .before .n2 .given .1, jumped-halt) (does-halt m g words words out (c .before .before .before .args .r) _)
 
 pub jump-spec : {M : Type 1} → statement M
 jump-spec =

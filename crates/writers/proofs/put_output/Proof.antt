@@ -26,20 +26,20 @@ same-length c = search needs
 
 returns : tie.Need-returns
 returns c =
-    λ words. rw (c .before .before .before .n .given .1, put-there _ _ _ (c .before .if1 .taken))
-    (does-put words _ (c .before .before .before .before .before .args .r) _ (c .before .if1 .taken))
+    λ m g words. rw (c .before .before .before .n .given .1, put-there m _ _ _ (c .before .if1 .taken))
+    (does-put m g words _ (c .before .before .before .before .before .args .r) _ (c .before .if1 .taken))
 
 enum-known-n-2 : tie.Need-enum-known-n-2
 enum-known-n-2 c = search needs
 
 returns-2 : tie.Need-returns-2
 returns-2 c =
-    λ words. rw (c .before .before .n .given .1, put-full _ _ _ (c .if1 .left))
-    (does-stop words words _ (c .before .before .before .before .args .r) output-full)
+    λ m g words. rw (c .before .before .n .given .1, put-full m _ _ _ (c .if1 .left))
+    (does-stop m g words words _ (c .before .before .before .before .args .r) output-full)
 
 returns-3 : tie.Need-returns-3
 returns-3 c =
-    λ words. rw (c .before .n2 .given .1, put-halt) (does-halt words words _ (c .before .before .before .args .r) _)
+    λ m g words. rw (c .before .n2 .given .1, put-halt) (does-halt m g words words _ (c .before .before .before .args .r) _)
 
 pub put-output-spec : {M : Type 1} → statement M
 put-output-spec =

@@ -5,6 +5,7 @@ use Prim.Native.Nat.{_≤_}
 use lib.ListN.{length, drop}
 use lib.Seq.{length-take-le}
 use denote.Ref.{now}
+use Rattle.sheet.specs.Meaning.{qualOf}
 use Rattle.words.specs.Answers.{stored}
 use Rattle.writers.proofs.Effects.{does-store, does-halt}
 use native.Mathlib.Omega.{arith}
@@ -54,14 +55,15 @@ returns : tie.Need-returns
 unfolding stored
 returns c =
     let s = c .before .before .before .before .before .before .before .before .before .before .args in
-    let fine = rw (c .before .before .before .before .before .before .before .m .given .1) at (c .before .before .before .before .before .before .before .before .before .before .pre .1 .0) in
-    λ out. rw (c .at-next .ensures, c .before .before .before .before .before .before .before .m .given .1)
-    (does-store _ _ out (s .r) _ _ _ _ (fine .0) (fine .1) (ap (λ l. l ++ drop (s .r .used) (now (s .memory))) (c .before .before .before .before .write .ensures)))
+    λ m g out ok.
+    let fine = rw (c .before .before .before .before .before .before .before .m .given .1) at ok in
+    rw (c .at-next .ensures, c .before .before .before .before .before .before .before .m .given .1)
+    (does-store m g _ _ out (s .r) _ _ _ _ (fine .0 m (qualOf (g .sheet))) (fine .1) (ap (λ l. l ++ drop (s .r .used) (now (s .memory))) (c .before .before .before .before .write .ensures)))
 
 returns-2 : tie.Need-returns-2
 unfolding stored
 returns-2 c =
-    λ out. rw (c .before .m2 .given .1) (does-halt _ _ out (c .before .before .before .before .args .r) _)
+    λ m g out ok. rw (c .before .m2 .given .1) (does-halt m g _ _ out (c .before .before .before .before .args .r) _)
 
 pub store-cell-spec : {M : Type 1} → statement M
 store-cell-spec =

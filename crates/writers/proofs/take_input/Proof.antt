@@ -1,7 +1,9 @@
 -- The word taken is the first of those left; where none is left the machine stops.
 use Rattle.model.specs.Outcome.{input-ended}
 use Rattle.model.specs.Machine.{word, filled}
-use Rattle.model.specs.Qualified.{integer}
+use Rattle.model.specs.Modes.{mark}
+use Rattle.sheet.specs.Meaning.{qualOf}
+use Rattle.words.specs.Word.{slot-in}
 use Rattle.writers.proofs.Effects.{puts, does-take, does-stop}
 use Rattle.writers.proofs.Planned.{take-there, take-ended}
 use borrow.Author.Needs.{needs}
@@ -32,13 +34,13 @@ same-length c = search needs
 returns : tie.Need-returns
 returns c =
     let s = c .before .before .before .before .before .before .before .before .before .before .args in
-    λ out. rw (take-there _ _ _ (c .before .before .before .before .before .before .before .if1 .taken))
-    (does-take _ _ out (s .r) (s .a) (filled (word _) tt)
-    (puts _ _ (s .r) (s .a) _ _ (c .before .before .before .before .before .before .before .before .before .before .pre .0) (c .before .before .before .before .integer-word .ensures (λ j. integer)) (c .before .before .before .put-variable .ensures)))
+    λ m g out. rw (take-there m _ _ _ (c .before .before .before .before .before .before .before .if1 .taken))
+    (does-take m g _ _ out (s .r) (s .a) (filled (word _) (mark m 0))
+    (puts (slot-in m (qualOf (g .sheet))) _ _ (s .r) (s .a) _ _ (c .before .before .before .before .before .before .before .before .before .before .pre .0) (c .before .before .before .before .integer-word .ensures m (qualOf (g .sheet))) (c .before .before .before .put-variable .ensures)))
 
 returns-2 : tie.Need-returns-2
 returns-2 c =
-    λ out. rw (take-ended _ _ _ (c .if1 .left)) (does-stop _ _ out (c .before .before .before .args .r) input-ended)
+    λ m g out. rw (take-ended m _ _ _ (c .if1 .left)) (does-stop m g _ _ out (c .before .before .before .args .r) input-ended)
 
 pub take-input-spec : {M : Type 1} → statement M
 take-input-spec =

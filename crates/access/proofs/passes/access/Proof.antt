@@ -2,7 +2,7 @@
 use borrow.Author.Needs.{needs}
 use Rattle.model.specs.Rules.{access-rules}
 use Rattle.sheet.specs.Layout.{typesOf, qualsOf, proceduresOf}
-use Rattle.access.proofs.Verdicts.{stop-here, go-on}
+use Rattle.model.proofs.Verdicts.{stop-here, go-on}
 use Rattle.access.proofs.passes.access.Statement.{statement}
 use Rattle.access.proofs.passes.access.Tie as tie
 

@@ -1,7 +1,7 @@
 -- The first of the three passes that refuses is the verdict, else the last one is.
 use borrow.Author.Needs.{needs}
 use Rattle.model.specs.Rules.{procedure-rules}
-use Rattle.access.proofs.Verdicts.{stop-here, go-on}
+use Rattle.model.proofs.Verdicts.{stop-here, go-on}
 use Rattle.access.proofs.passes.procedure_access.Statement.{statement}
 use Rattle.access.proofs.passes.procedure_access.Tie as tie
 

@@ -1,6 +1,6 @@
 -- 0 refuses nothing; another number is a refusal.
 use Rattle.model.specs.Refusal.{refuse}
-use Rattle.access.proofs.Verdicts.{refuse-some}
+use Rattle.model.proofs.Verdicts.{refuse-some}
 use Rattle.access.proofs.passes.refused.Statement.{statement}
 use Rattle.access.proofs.passes.refused.Tie as tie
 

@@ -1,7 +1,7 @@
 -- TY number i is that of type 2 + i, so it stands at 6 + 12 * i; the rest is what the calls ensure.
 use borrow.Author.Needs.{needs}
 use Rattle.model.specs.Refusal.{verdict}
-use Rattle.access.proofs.Verdicts.{type-rules-here}
+use Rattle.access.proofs.Places.{type-rules-here}
 use Rattle.access.proofs.passes.type_access.Statement.{statement}
 use Rattle.access.proofs.passes.type_access.Tie as tie
 

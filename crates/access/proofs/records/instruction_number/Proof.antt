@@ -1,7 +1,7 @@
 -- Each arm is the definition's line of its operation, with the procedure's place for its number. The procedure called is one of the sheet's, so that the table has room for it and holds its place.
 use borrow.Author.Needs.{needs}
 use Rattle.model.specs.Rules.{rule, callee}
-use Rattle.access.proofs.Verdicts.{has-room, placed}
+use Rattle.access.proofs.Places.{has-room, placed}
 use Rattle.access.proofs.records.instruction_number.Statement.{statement}
 use Rattle.access.proofs.records.instruction_number.Tie as tie
 

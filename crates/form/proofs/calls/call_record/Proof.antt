@@ -1,6 +1,6 @@
 -- The record is accepted where its number is 0.
 use borrow.Author.Needs.{needs}
-use Rattle.form.proofs.Laws.{tests-pass, tests-stop}
+use Rattle.model.proofs.Verdicts.{tests-pass, tests-stop}
 use Rattle.form.proofs.calls.call_record.Statement.{statement}
 use Rattle.form.proofs.calls.call_record.Tie as tie
 

@@ -2,9 +2,10 @@
 use mathlib.Core.Path.{sym, _∙_}
 use mathlib.Core.List.{append-assoc}
 use borrow.Author.Needs.{needs}
+use Rattle.model.proofs.Verdicts.{stop-here, go-on}
 use Rattle.sheet.specs.Layout.{proceduresOf}
 use Rattle.form.specs.WellFormed.{form-tests}
-use Rattle.form.proofs.Laws.{stop-here, go-on, layout-small}
+use Rattle.form.proofs.Laws.{layout-small}
 use Rattle.form.proofs.calls.well_formed.Statement.{statement}
 use Rattle.form.proofs.calls.well_formed.Tie as tie
 

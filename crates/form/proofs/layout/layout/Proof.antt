@@ -1,10 +1,13 @@
--- The first pass that refuses is the verdict, else the last one is. An accepted header has at most 64 procedures, which the table has room for.
-use mathlib.Core.Path.{sym, _∙_}
+-- The first pass that refuses is the verdict, else the last one is. An accepted header has at most 64 procedures, which the table has room for;
+-- accepted procedures end with an IN, after which `leftover` asks what is left.
+use mathlib.Core.Path.{sym, ap, _∙_}
 use native.Mathlib.Omega.{arith}
 use borrow.Author.Needs.{needs}
-use Rattle.sheet.specs.Layout.{typesOf, qualsOf, proceduresOf}
+use Rattle.model.proofs.Verdicts.{stop-here, go-on}
+use Rattle.sheet.specs.Layout.{typesOf, qualsOf, proceduresOf, procedureAt}
 use Rattle.form.specs.WellFormed.{layout-tests}
-use Rattle.form.proofs.Laws.{stop-here, go-on, placed, header-small}
+use Rattle.form.proofs.Laws.{placed, header-small}
+use Rattle.form.proofs.Procedures.{last-record}
 use Rattle.form.proofs.layout.layout.Statement.{statement}
 use Rattle.form.proofs.layout.layout.Tie as tie
 
@@ -126,7 +129,18 @@ element-copy-out-leftover c =
     omega (arith, small .3, c .before .before .before .byte3 .ensures)
 
 leftover-requires : tie.Need-leftover-requires
-leftover-requires c κs = search needs
+unfolding proceduresOf
+leftover-requires c κs =
+    let n = c .before in
+    let h = n .before .before .before .before .before .before .before .before .before .before .before .before in
+    let a = h .before .before .before .before .before .before .before in
+    let s = a .args .s .now in
+    let k = n .before .before .before .byte3 .result in
+    let small = header-small s (sym (h .before .before .header .ensures) ∙ h .enum-told3 .given .1) in
+    let e = n .before .before .before .byte3 .ensures in
+    let procedures = rw e at (n .before .before .procedures-pass .ensures) in
+    let end = placed s (a .args .table .now) (a .pre) k (omega (arith, e)) (omega (arith, e, small .3)) in
+    last-record s (sym procedures ∙ n .enum-told9 .given .1) (small .2) _ (end ∙ ap (procedureAt s) e)
 
 returns-6 : tie.Need-returns-6
 unfolding layout-tests typesOf qualsOf proceduresOf

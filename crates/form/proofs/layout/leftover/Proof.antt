@@ -1,17 +1,29 @@
--- One test.
+-- What is left after the last record is nothing exactly where that ends with the sheet.
+use borrow.Author.Needs.{needs}
 use borrow.Author.Tests.{eq-eqb, ne-eqb}
 use Rattle.model.specs.Refusal.{verdict, failure, refuse}
 use Rattle.form.specs.WellFormed.{leftover-tests}
+use Rattle.form.proofs.Laws.{none-left, some-left}
 use Rattle.form.proofs.layout.leftover.Statement.{statement}
 use Rattle.form.proofs.layout.leftover.Tie as tie
 
+sub-left-after : tie.Need-sub-left-after
+sub-left-after c = search needs
+
+left-after-requires : tie.Need-left-after-requires
+left-after-requires c κs = search needs
+
 returns : tie.Need-returns
 unfolding leftover-tests verdict failure refuse
-returns c = rw (eq-eqb _ _ (c .if1 .taken))
+returns c =
+    let a = c .before .before .before in
+    rw (eq-eqb _ _ (none-left (a .args .s .now) (a .args .end) _ (a .pre .0) (a .pre .1) (c .before .left-after .ensures) (c .if1 .taken)))
 
 returns-2 : tie.Need-returns-2
 unfolding leftover-tests verdict failure refuse
-returns-2 c = rw (ne-eqb _ _ (c .if1 .left))
+returns-2 c =
+    let a = c .before .before .before in
+    rw (ne-eqb _ _ (some-left (a .args .s .now) (a .args .end) _ (a .pre .0) (a .pre .1) (c .before .left-after .ensures) (c .if1 .left)))
 
 pub leftover-spec : {M : Type 1} → statement M
-leftover-spec = tie.close (tie.spec returns returns-2)
+leftover-spec = tie.close (tie.spec sub-left-after left-after-requires returns returns-2)

@@ -1,7 +1,7 @@
 -- The first of the three passes that refuses is the verdict, else the last one is.
 use borrow.Author.Needs.{needs}
 use Rattle.form.specs.WellFormed.{procedure-tests-at}
-use Rattle.form.proofs.Laws.{stop-here, go-on}
+use Rattle.model.proofs.Verdicts.{stop-here, go-on}
 use Rattle.form.proofs.layout.procedure_pass.Statement.{statement}
 use Rattle.form.proofs.layout.procedure_pass.Tie as tie
 

@@ -23,6 +23,9 @@ byte-requires-3 c κs = search needs
 word-requires : tie.Need-word-requires
 word-requires c κs = search needs
 
+cast-qual-scale : tie.Need-cast-qual-scale
+cast-qual-scale c = search needs
+
 byte-requires-4 : tie.Need-byte-requires-4
 byte-requires-4 c κs = search needs
 
@@ -57,6 +60,7 @@ qual-record-spec =
     byte-requires-2
     byte-requires-3
     word-requires
+    cast-qual-scale
     byte-requires-4
     qual-scale-requires
     record-requires

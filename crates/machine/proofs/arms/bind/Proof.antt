@@ -1,7 +1,10 @@
 -- The part of the memory that is read is the frame's, which the view sees; the writer does what is planned.
 use borrow.Author.Needs.{needs}
 use denote.Ref.{now}
-use Rattle.machine.proofs.Laws.{performs-frame}
+use Rattle.model.specs.Modes.{plain}
+use Rattle.sheet.specs.Meaning.{qualOf, programOf}
+use Rattle.words.specs.Answers.{MovedOk, moved-to}
+use Rattle.frames.proofs.Performs.{performs-if-frame}
 use Rattle.machine.proofs.arms.bind.Statement.{statement}
 use Rattle.machine.proofs.arms.bind.Tie as tie
 
@@ -34,7 +37,7 @@ returns c =
     let args = c .before .before .before .before .before .before .before .before .before .args in
     let moved-at = c .before .before .before .before .moved-at in
     let give-moved = c .before .before .give-moved in
-    λ s input out. performs-frame s input (now (args .memory)) (give-moved .last .0) out out (args .r) (give-moved .result) _ _ (give-moved .ensures out) (λ g v. moved-at .ensures .0 g v (args .a))
+    λ s input out. performs-if-frame plain s input (now (args .memory)) (give-moved .last .0) out out (args .r) (give-moved .result) _ (λ q. moved-to plain q (args .a) (moved-at .result)) (MovedOk (moved-at .result)) (λ d. give-moved .ensures plain d out) (λ v R S. moved-at .ensures (qualOf s) (programOf s) v _ (args .a) S)
 
 pub bind-spec : {M : Type 1} → statement M
 bind-spec =

@@ -4,7 +4,8 @@ use mathlib.Core.Path.{sym}
 use borrow.Author.Needs.{needs}
 use denote.Ref.{now}
 use lib.Seq.{length-take-le}
-use Rattle.machine.proofs.Laws.{sees-parts}
+use Rattle.model.specs.Modes.{plain}
+use Rattle.frames.proofs.Performs.{sees-cut}
 use Rattle.machine.proofs.arms.get_in.Statement.{statement}
 use Rattle.machine.proofs.arms.get_in.Tie as tie
 
@@ -33,7 +34,7 @@ returns : tie.Need-returns
 returns c =
     let args = c .before .before .before .before .before .args in
     let get-of = c .get-of in
-    (λ g v a S. get-of .ensures .0 g v a (sees-parts v (now (args .memory)) (args .r) S), get-of .ensures .1)
+    λ q g v a S. get-of .ensures q g v a (sees-cut plain q v (now (args .memory)) _ (args .r) S)
 
 pub get-in-spec : {M : Type 1} → statement M
 get-in-spec =

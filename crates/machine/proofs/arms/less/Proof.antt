@@ -1,7 +1,10 @@
 -- The part of the memory that is read is the frame's, which the view sees; the writer does what is planned.
 use borrow.Author.Needs.{needs}
 use denote.Ref.{now}
-use Rattle.machine.proofs.Laws.{performs-frame}
+use Rattle.model.specs.Modes.{plain}
+use Rattle.sheet.specs.Meaning.{qualOf, programOf}
+use Rattle.words.specs.Answers.{given}
+use Rattle.frames.proofs.Performs.{performs-frame}
 use Rattle.machine.proofs.arms.less.Statement.{statement}
 use Rattle.machine.proofs.arms.less.Tie as tie
 
@@ -34,7 +37,7 @@ returns c =
     let args = c .before .before .before .before .before .before .before .before .before .args in
     let less-of = c .before .before .before .before .less-of in
     let give-number = c .before .before .give-number in
-    λ s input out. performs-frame s input (now (args .memory)) (give-number .last .0) out out (args .r) (give-number .result) _ _ (give-number .ensures out) (λ g v. less-of .ensures g v (args .a))
+    λ s input out. performs-frame plain s input (now (args .memory)) (give-number .last .0) out out (args .r) (give-number .result) _ (λ q. given plain (args .a) (less-of .result)) (λ d. give-number .ensures plain d out) (λ v R S. less-of .ensures (qualOf s) (programOf s) v _ (args .a) S)
 
 pub less-spec : {M : Type 1} → statement M
 less-spec =

@@ -26,7 +26,7 @@ returns c =
     let pre = c .before .before .before .before .before .before .before .before .pre in
     let slots-at = c .before .before .before .slots-at in
     let give-record = c .before .before .give-record in
-    λ input out. performs-record (now (args .s)) input (now (args .memory)) (give-record .last .0) out out (args .r) (give-record .result) (args .a) (now (args .table)) _ (pre .0) (pre .1 .0 .procedure) (slots-at .ensures) (give-record .ensures out)
+    λ input out. performs-record (now (args .s)) input (now (args .memory)) (give-record .last .0) out out (args .r) (give-record .result) (args .a) (now (args .table)) _ (pre .0) (pre .1 .0 .procedure) (slots-at .ensures) (λ d. give-record .ensures d out)
 
 pub new-record-spec : {M : Type 1} → statement M
 new-record-spec =

@@ -1,7 +1,9 @@
 -- The integer is that of the variable, and the free output words are those of the view.
 use borrow.Author.Needs.{needs}
 use denote.Ref.{now}
-use Rattle.machine.proofs.Laws.{performs-put}
+use Rattle.model.specs.Modes.{plain}
+use Rattle.sheet.specs.Meaning.{qualOf, programOf}
+use Rattle.frames.proofs.Performs.{performs-put}
 use Rattle.machine.proofs.arms.put.Statement.{statement}
 use Rattle.machine.proofs.arms.put.Tie as tie
 
@@ -34,7 +36,7 @@ returns c =
     let args = c .before .before .before .before .before .before .before .before .before .args in
     let integer-at = c .before .before .before .before .integer-at in
     let put-output = c .before .before .put-output in
-    λ s input. performs-put s input (now (args .memory)) (now (args .memory)) (now (args .output)) (put-output .last .0) (args .r) (put-output .result) (args .a) _ (put-output .ensures (now (args .memory))) (integer-at .ensures)
+    λ s input. performs-put plain s input (now (args .memory)) (now (args .memory)) (now (args .output)) (put-output .last .0) (args .r) (put-output .result) (args .a) (integer-at .result) (λ d. put-output .ensures plain d (now (args .memory))) (λ v S. integer-at .ensures (qualOf s) (programOf s) v _ S)
 
 pub put-spec : {M : Type 1} → statement M
 put-spec =

@@ -1,7 +1,12 @@
 -- The number is the instruction's own.
 use borrow.Author.Needs.{needs}
 use denote.Ref.{now}
-use Rattle.machine.proofs.Laws.{performs-frame, sets}
+use Rattle.model.specs.Modes.{plain}
+use Rattle.sheet.specs.Meaning.{programOf}
+use Rattle.words.specs.Answers.{given}
+use Rattle.words.specs.declared.Number.the-variants.{Is}
+use Rattle.frames.proofs.Performs.{performs-frame}
+use Rattle.machine.proofs.Laws.{sets, exactly}
 use Rattle.machine.proofs.arms.set.Statement.{statement}
 use Rattle.machine.proofs.arms.set.Tie as tie
 
@@ -15,7 +20,7 @@ returns : tie.Need-returns
 returns c =
     let args = c .before .before .before .before .before .args in
     let give-number = c .before .before .give-number in
-    λ s input out. performs-frame s input (now (args .memory)) (give-number .last .0) out out (args .r) (give-number .result) _ _ (give-number .ensures out) (λ g v e. sets g v _ _)
+    λ s input out. performs-frame plain s input (now (args .memory)) (give-number .last .0) out out (args .r) (give-number .result) _ (λ q. given plain (args .a) (Is (args .k))) (λ d. give-number .ensures plain d out) (λ v R S. exactly (sets (programOf s) v (args .a) (args .k)))
 
 pub set-spec : {M : Type 1} → statement M
 set-spec = tie.close (tie.spec give-number-requires same-length returns)

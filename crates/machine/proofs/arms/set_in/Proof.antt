@@ -1,10 +1,8 @@
 -- The parts of the memory, as the code cuts them, are those that the view sees.
-use native.Mathlib.Omega.{arith}
-use mathlib.Core.Path.{sym}
 use borrow.Author.Needs.{needs}
 use denote.Ref.{now}
-use lib.Seq.{length-take-le}
-use Rattle.machine.proofs.Laws.{sees-parts}
+use Rattle.model.specs.Modes.{plain}
+use Rattle.frames.proofs.Performs.{sees-cut}
 use Rattle.machine.proofs.arms.set_in.Statement.{statement}
 use Rattle.machine.proofs.arms.set_in.Tie as tie
 
@@ -23,17 +21,14 @@ part-set-at-start c = search needs
 part-set-at-end : tie.Need-part-set-at-end
 part-set-at-end c = search needs
 
-slice-aggregate-set-at : tie.Need-slice-aggregate-set-at
-slice-aggregate-set-at c = sym (length-take-le _ _ (omega arith))
-
 set-at-requires : tie.Need-set-at-requires
 set-at-requires c κs = search needs
 
 returns : tie.Need-returns
 returns c =
-    let args = c .before .before .before .before .before .args in
+    let args = c .before .before .before .before .args in
     let set-at = c .set-at in
-    (λ g v S. set-at .ensures .0 g v (sees-parts v (now (args .memory)) (args .r) S), set-at .ensures .1)
+    λ q g v S. set-at .ensures q g v _ (sees-cut plain q v (now (args .memory)) _ (args .r) S)
 
 pub set-in-spec : {M : Type 1} → statement M
 set-in-spec =
@@ -44,6 +39,5 @@ set-in-spec =
     sub-set-at
     part-set-at-start
     part-set-at-end
-    slice-aggregate-set-at
     set-at-requires
     returns)

@@ -4,7 +4,8 @@ use mathlib.Core.Path.{sym}
 use borrow.Author.Needs.{needs}
 use denote.Ref.{now}
 use lib.Seq.{length-take-le}
-use Rattle.machine.proofs.Laws.{sees-parts}
+use Rattle.model.specs.Modes.{plain}
+use Rattle.frames.proofs.Performs.{sees-cut}
 use Rattle.machine.proofs.arms.store_in.Statement.{statement}
 use Rattle.machine.proofs.arms.store_in.Tie as tie
 
@@ -33,7 +34,7 @@ returns : tie.Need-returns
 returns c =
     let args = c .before .before .before .before .before .args in
     let store-at = c .store-at in
-    (λ g v S. store-at .ensures .0 g v (sees-parts v (now (args .memory)) (args .r) S), store-at .ensures .1)
+    λ q g v S. store-at .ensures q g v (sees-cut plain q v (now (args .memory)) _ (args .r) S)
 
 pub store-in-spec : {M : Type 1} → statement M
 store-in-spec =

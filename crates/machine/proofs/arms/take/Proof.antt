@@ -1,7 +1,10 @@
 -- The next input word is that which the state has left.
 use borrow.Author.Needs.{needs}
 use denote.Ref.{now}
-use Rattle.machine.proofs.Laws.{performs-take}
+use Rattle.model.specs.Modes.{plain}
+use Rattle.sheet.specs.Meaning.{programOf}
+use Rattle.frames.proofs.Performs.{performs-take}
+use Rattle.machine.proofs.Laws.{takes, exactly}
 use Rattle.machine.proofs.arms.take.Statement.{statement}
 use Rattle.machine.proofs.arms.take.Tie as tie
 
@@ -15,7 +18,7 @@ returns : tie.Need-returns
 returns c =
     let args = c .before .before .before .before .before .before .args in
     let take-input = c .before .before .take-input in
-    λ s out. performs-take s (now (args .input)) (now (args .memory)) (take-input .last .1 .0) out out (args .r) (take-input .result) (args .a) (take-input .ensures out)
+    λ s out. performs-take plain s (now (args .input)) (now (args .memory)) (take-input .last .1 .0) out out (args .r) (take-input .result) (args .a) (λ d. take-input .ensures plain d out) (λ v R e. exactly (takes (programOf s) v (args .a) _ e))
 
 pub take-spec : {M : Type 1} → statement M
 take-spec = tie.close (tie.spec take-input-requires same-length returns)

@@ -3,6 +3,8 @@ use mathlib.Core.Path.{sym, _∙_}
 use borrow.Author.Needs.{needs}
 use denote.Ref.{now}
 use Rattle.model.specs.Rules.{callee}
+use Rattle.form.proofs.WellFormed.{form-small}
+use Rattle.frames.specs.Frames.{Callable}
 use Rattle.machine.proofs.step.step.Statement.{statement}
 use Rattle.machine.proofs.step.step.Tie as tie
 
@@ -114,13 +116,23 @@ call-requires c κs =
     let pre = c .before .before .before .before .before .before .before .before .before .before .before .pre in
     let operation-whole = c .before .before .before .before .operation-whole in
     let operation16 = c .before .before .operation16 in
-    (pre .0, (pre .1 .0, (pre .1 .1 .next, rw (sym (operation-whole .ensures) ∙ operation16 .given .1) at (pre .1 .1 .callee-there))))
+    let e = sym (operation-whole .ensures) ∙ operation16 .given .1 in
+    let callable : Callable _ _ _ _ =
+    record {
+      next = pre .1 .1 .next;
+      first = pre .1 .1 .first;
+      procedure = rw e at (pre .1 .1 .callee-there);
+      actuals = pre .1 .1 .actuals _ _ _ e;
+    } in
+    (pre .0, (pre .1 .0, callable))
 
 enum-known-operation-17 : tie.Need-enum-known-operation-17
 enum-known-operation-17 c = search needs
 
 give-back-requires : tie.Need-give-back-requires
-give-back-requires c κs = search needs
+give-back-requires c κs =
+    let pre = c .before .before .before .before .before .before .before .before .before .before .before .pre in
+    (form-small _ (pre .0 .formed) .3, pre .1 .0)
 
 same-length : tie.Need-same-length
 same-length c = search needs

@@ -1,0 +1,34 @@
+-- A word of 0 is a blank cell, any other a filled one, of which `bind_filled` ensures it.
+use borrow.Author.Needs.{needs}
+use Rattle.words.proofs.Laws.{told-blank, told-filled}
+use Rattle.binding.proofs.Laws.{bind-blank, bind-value}
+use Rattle.binding.proofs.bind_word.Statement.{statement}
+use Rattle.binding.proofs.bind_word.Tie as tie
+
+cell-of-requires : tie.Need-cell-of-requires
+cell-of-requires c κs = search needs
+
+enum-known-x : tie.Need-enum-known-x
+enum-known-x c = search needs
+
+enum-told : tie.Need-enum-told
+enum-told c = search needs
+
+returns : tie.Need-returns
+returns c =
+    (tt, λ g v d heads e. bind-blank _ g v _ (told-blank (c .before .before .cell-of .ensures) (c .enum-told .given .1)) e)
+
+bind-filled-requires : tie.Need-bind-filled-requires
+bind-filled-requires c κs = search needs
+
+returns-2 : tie.Need-returns-2
+returns-2 c =
+    let bind-filled = c .bind-filled in
+    let cell-of = c .before .before .before .before .cell-of in
+    let x = c .before .before .x in
+    (bind-filled .ensures .0, λ g v d heads e. bind-value _ g v _ _ (told-filled (cell-of .ensures) (x .given .1)) e (λ y m. bind-filled .ensures .1 g v y m heads))
+
+pub bind-word-spec : {M : Type 1} → statement M
+bind-word-spec =
+    tie.close
+    (tie.spec cell-of-requires enum-known-x enum-told returns bind-filled-requires returns-2)

@@ -1,0 +1,71 @@
+-- What the pass over the procedures leaves known: what each procedure has, and that the last record is an IN.
+use Prim.Native.Nat.{ℕ, _+_, _-_, _<_, _≤_}
+use mathlib.Core.Path.{_≡_, refl, sym, _∙_}
+use mathlib.Core.List.{List, _++_}
+use mathlib.Core.Bool.{true}
+use native.Mathlib.Omega.{arith}
+use lib.ListN.{length}
+use borrow.Author.Tests.{leb-true}
+use Rattle.model.specs.Refusal.{verdict, each}
+use Rattle.model.specs.declared.Verdict.the-variants.{Accepted}
+use Rattle.model.proofs.Verdicts.{left-accepted, right-accepted, each-accepted, all-held}
+use Rattle.sheet.specs.Layout.{typesOf, qualsOf, proceduresOf, ownerAt, formalsAt, variablesAt, resultAt, instructionsAt, instructionAt, procedureAt}
+use Rattle.sheet.specs.Reader.{recordAt, pastAt}
+use Rattle.sheet.proofs.Laws.{in-sized, record-sized, procedure-next}
+use Rattle.form.specs.Scale.{procedure-scale}
+use Rattle.form.specs.WellFormed.{head-tests, variable-tests, instruction-tests-at, instruction-tests, procedure-tests-at, procedure-tests}
+use Rattle.form.proofs.Laws.{record-formed, record-marked}
+
+after-last : (s : List ℕ) (pr n : ℕ) → 1 ≤ n → instructionAt s pr n ≡ instructionAt s pr (n - 1) + 8
+unfolding instructionAt
+after-last s pr n h = omega arith
+
+module _ (s : List ℕ) (h : verdict (each (proceduresOf s) (procedure-tests s)) ≡ Accepted) where
+  module _ (p : ℕ) (l : p < proceduresOf s) where
+    formed : verdict (procedure-tests-at s p (procedureAt s p)) ≡ Accepted
+    unfolding procedure-tests
+    formed = each-accepted (procedure-tests s) (proceduresOf s) h p l
+
+    after-head : verdict (each (variablesAt s (procedureAt s p)) (variable-tests s (procedureAt s p)) ++ each (instructionsAt s (procedureAt s p)) (instruction-tests s (procedureAt s p))) ≡ Accepted
+    unfolding procedure-tests-at
+    after-head = right-accepted (head-tests s p (procedureAt s p)) _ formed
+
+    pub variables-accepted : verdict (each (variablesAt s (procedureAt s p)) (variable-tests s (procedureAt s p))) ≡ Accepted
+    variables-accepted = left-accepted (each (variablesAt s (procedureAt s p)) (variable-tests s (procedureAt s p))) _ after-head
+
+    pub instructions-accepted : verdict (each (instructionsAt s (procedureAt s p)) (instruction-tests s (procedureAt s p))) ≡ Accepted
+    instructions-accepted = right-accepted (each (variablesAt s (procedureAt s p)) (variable-tests s (procedureAt s p))) _ after-head
+
+    head-formed :
+        (procedureAt s p + 8 ≤ length s)
+        × (procedure-scale (typesOf s) (qualsOf s) p (ownerAt s (procedureAt s p)) (formalsAt s (procedureAt s p)) (variablesAt s (procedureAt s p)) (resultAt s (procedureAt s p)) (instructionsAt s (procedureAt s p)) ≡ true)
+    unfolding procedure-tests-at head-tests
+    head-formed =
+        let pr = procedureAt s p in
+        record-formed s pr 8 80 82 _ (left-accepted (head-tests s p pr) _ formed)
+
+    pub head-whole : procedureAt s p + 8 ≤ length s
+    head-whole = head-formed .0
+
+    pub head-true : procedure-scale (typesOf s) (qualsOf s) p (ownerAt s (procedureAt s p)) (formalsAt s (procedureAt s p)) (variablesAt s (procedureAt s p)) (resultAt s (procedureAt s p)) (instructionsAt s (procedureAt s p)) ≡ true
+    head-true = head-formed .1
+
+    pub some-instruction : 1 ≤ instructionsAt s (procedureAt s p)
+    unfolding procedure-scale
+    some-instruction = leb-true 1 (instructionsAt s (procedureAt s p)) (all-held true _ head-true .1 .1 .1 .1 .1 .1 .0)
+
+    -- its last IN stands whole under its mark, and ends where the next procedure starts
+    last-in : (end : ℕ) → end ≡ procedureAt s (p + 1) → (8 ≤ end) × (pastAt s (end - 8) ≡ end)
+    unfolding pastAt instruction-tests instruction-tests-at
+    last-in end q =
+        let pr = procedureAt s p in
+        let n = instructionsAt s pr in
+        let at = instructionAt s pr (n - 1) in
+        let r = record-marked s at 8 73 78 _ (each-accepted (instruction-tests s pr) n instructions-accepted (n - 1) (omega (arith, some-instruction))) in
+        let z : length (recordAt s at) ≡ 8 = record-sized s at 8 (in-sized s at (r .1)) (r .0) in
+        let e : end ≡ at + 8 = q ∙ sym (procedure-next s p pr refl) ∙ after-last s pr n some-instruction in
+        let f : end - 8 ≡ at = omega (arith, e) in
+        (omega (arith, e), rw (f, z) (sym e))
+
+  pub last-record : 1 ≤ proceduresOf s → (end : ℕ) → end ≡ procedureAt s (proceduresOf s) → (8 ≤ end) × (pastAt s (end - 8) ≡ end)
+  last-record b end e = let q : proceduresOf s - 1 + 1 ≡ proceduresOf s = omega arith in last-in (proceduresOf s - 1) (omega arith) end (rw q e)

@@ -1,0 +1,193 @@
+-- What the definition's call comes to in the plain machine, and what the code makes of it.
+use Prim.Native.Nat.{ℕ, zero, suc, _+_, _-_, _≤_, _<_}
+use native.Mathlib.Omega.{arith}
+use mathlib.Core.Path.{_≡_, refl, sym, ap, _∙_}
+use mathlib.Core.Bool.{Bool, true, false}
+use mathlib.Core.List.{List, [], _∷_, map}
+use mathlib.Core.Logic.{_⊎_, inl, inr, ⊎-elim}
+use borrow.Author.Tests.{le-leb, lt-leb, eqb-true, eqb-false}
+use lib.Dec.{eqb}
+use lib.ListN.{length, getD, take, drop}
+use lib.Seq.{drop-cons, getD-take, getD-drop}
+use Rattle.model.specs.Outcome.{Stop, number, blank, memory-full, Res, ok, stop, test, _>>=_, _>>_}
+use Rattle.model.specs.Program.{Program}
+use Rattle.model.specs.Modes.{plain, bind, raise, demand}
+use Rattle.model.specs.Machine as M
+use Rattle.model.specs.Machine.{Value, Cell, empty, filled, Object, Frame, frame, State, state, Effect, View, view, apply, held, moved, actual, actuals, plan, plan-call}
+use Rattle.model.specs.declared.Operation.the-variants.{Call}
+use Rattle.sheet.specs.Layout.{proceduresOf, formalsAt, variablesAt, instructionAt, procedureAt}
+use Rattle.sheet.specs.Meaning.{programOf, qualOf}
+use Rattle.words.specs.Word.{low, payload, cell, slot-in}
+use Rattle.words.proofs.Laws.{blank-word, filled-word}
+use Rattle.writers.specs.declared.Registers.{Registers}
+use Rattle.writers.specs.declared.Stepped.the-variants.{Enter, Halt}
+use Rattle.writers.specs.Memory.{Given, slots, Stands}
+use Rattle.writers.specs.Steps.{After}
+use Rattle.writers.proofs.View.{room-is, variable-is}
+use Rattle.frames.specs.Performs.{performed, Performs}
+use Rattle.frames.specs.Frames.{Copies, Opened}
+use Rattle.frames.proofs.Copied.{copied-before, copied-after, copied-there}
+use Rattle.frames.proofs.Opening.{gap-kept, actual-slots}
+
+-- ---- what the definition asks for
+
+-- the n variables from number j on of those from b on
+cells-from : (ℕ → Cell plain) → (b j n : ℕ) → List (Cell plain)
+cells-from v b j zero = []
+cells-from v b j (suc n) = v (b + j) ∷ cells-from v b (suc j) n
+
+cells-there : (vs : List (Cell plain)) (b j n : ℕ) → b + (j + n) ≤ length vs → cells-from (λ x. getD vs x empty) b j n ≡ take n (drop (b + j) vs)
+unfolding cells-from
+cells-there vs b j zero h = refl
+cells-there vs b j (suc n) h =
+    let e : suc (b + j) ≡ b + suc j = omega arith in
+    rw (drop-cons vs (b + j) empty (omega arith), e) (ap (λ (l : List (Cell plain)). getD vs (b + j) empty ∷ l) (cells-there vs b (suc j) n (omega arith)))
+
+-- a cell that holds a value
+abbrev Holds : Cell plain → Type 0
+Holds c = (x : Value) × (c ≡ filled x tt)
+
+module _ (g : Program) (v : View plain) (k b : ℕ) where
+  actual-is : (j : ℕ) (x : Value) → v .variable (b + j) ≡ filled x tt → actual plain g v k b j ≡ ok (v .variable (b + j))
+  unfolding actual moved held bind raise _>>=_
+  actual-is j x e = rw e
+
+  actual-blank : (j : ℕ) → v .variable (b + j) ≡ empty → actual plain g v k b j ≡ stop blank
+  unfolding actual moved held bind raise _>>=_
+  actual-blank j e = rw e
+
+  actuals-filled : (j n : ℕ) → ((i : ℕ) → j ≤ i → i < j + n → Holds (v .variable (b + i))) → actuals plain g v k b j n ≡ ok (cells-from (v .variable) b j n)
+  unfolding actuals cells-from _>>=_
+  actuals-filled j zero h = refl
+  actuals-filled j (suc n) h =
+      let x = h j (omega arith) (omega arith) in
+      rw (actual-is j (x .0) (x .1), actuals-filled (suc j) n (λ i l m. h i (omega arith) (omega arith)))
+
+  actuals-blank : (j n i : ℕ) → j ≤ i → i < j + n → v .variable (b + i) ≡ empty → actuals plain g v k b j n ≡ stop blank
+  unfolding actuals _>>=_
+  actuals-blank j zero i l m e = absurd (omega arith)
+  actuals-blank j (suc n) i l m e = go (v .variable (b + j)) refl (eqb i j) refl (λ d. actuals-blank (suc j) n i (omega arith) (omega arith) e)
+    where
+      go : (c : Cell plain) → v .variable (b + j) ≡ c → (t : Bool) → eqb i j ≡ t
+          → ((i ≡ j → ⊥) → actuals plain g v k b (suc j) n ≡ stop blank)
+          → actuals plain g v k b j (suc n) ≡ stop blank
+      go empty q t h ih = rw (actual-blank j q)
+      go (filled x r) q true h ih =
+          let z : empty ≡ filled x r = sym (rw (eqb-true i j h) at e) ∙ q in
+          absurd (let y : _≡_ {A = ℕ} 0 1 = cc in omega arith)
+      go (filled x r) q false h ih = rw (actual-is j x q, ih (eqb-false i j h))
+
+  module _ (a : ℕ) where
+    call-full : v .room < g .variables k + 2 → plan plain g v (Call a b k) ≡ stop memory-full
+    unfolding plan plan-call demand test _>>=_ _>>_
+    call-full h = rw (lt-leb (g .variables k + 2) (v .room) h)
+
+    module _ (room : g .variables k + 2 ≤ v .room) where
+      call-blank : (i : ℕ) → i < g .formals k → v .variable (b + i) ≡ empty → plan plain g v (Call a b k) ≡ stop blank
+      unfolding plan plan-call demand test _>>=_ _>>_
+      call-blank i h e = rw (le-leb (g .variables k + 2) (v .room) room, actuals-blank 0 (g .formals k) i (omega arith) (omega arith) e)
+
+      call-opens : ((i : ℕ) → i < g .formals k → Holds (v .variable (b + i)))
+          → plan plain g v (Call a b k) ≡ ok (M.call k (cells-from (v .variable) b 0 (g .formals k)))
+      unfolding plan plan-call demand test _>>=_ _>>_
+      call-opens h =
+          rw (le-leb (g .variables k + 2) (v .room) room, actuals-filled 0 (g .formals k) (λ i l m. h i (omega arith)))
+
+-- ---- what the code makes of it
+
+-- a stop that was planned
+stopped : (c : Given) (words out s : List ℕ) (r : Registers) (t : State plain) (x : Stop) (e : Res (Effect plain)) → e ≡ stop x
+    → After plain c words out out r (Halt (number x)) (performed s t e)
+unfolding _>>=_
+stopped c words out s r t x e is = rw is (refl, refl)
+
+-- the first variable that is copied, where there are formals
+abbrev pub Picked : (b f from : ℕ) → Type 0
+Picked b f from = ((f ≡ 0) × (from ≡ 0)) ⊎ ((f ≡ 0 → ⊥) × (from ≡ b))
+
+pub picked-fits : (b f from n : ℕ) → Picked b f from → ((j : ℕ) → j < f → b + j < n) → from + f ≤ n
+picked-fits b f from n (inl w) h = let x = w .0 in let y = w .1 in omega arith
+picked-fits b f from n (inr w) h =
+    let x = w .0 in
+    let y = w .1 in
+    let l : 0 < f = omega arith in
+    let m = h (f - 1) (omega arith) in
+    omega arith
+
+module _ (s words : List ℕ) (r : Registers) (b k v f : ℕ) (many : v ≡ variablesAt s (procedureAt s k)) (formals : f ≡ formalsAt s (procedureAt s k)) where
+  pub call-without-room : r .base - r .used < v + 2
+      → (a : ℕ) (input out : List ℕ) → Performs plain s input words words out out r (Halt 17) (Call a b k)
+  call-without-room h a input out c t same from S =
+      stopped c words out s r t memory-full _ (call-full (programOf s) (view (length words) (length out) t) k b a (omega (arith, room-is plain c words out r t S)))
+
+  module _ (room : v + 2 ≤ r .base - r .used) (from : ℕ) (picked : Picked b f from) (fits : from + f ≤ r .variables) where
+    picked-from : (j : ℕ) → j < f → from ≡ b
+    picked-from j h = ⊎-elim (λ w. let x = w .0 in absurd (omega arith)) (λ w. w .1) picked
+
+    picked-cells : (vs : List (Cell plain)) → r .variables ≡ length vs → cells-from (λ x. getD vs x empty) b 0 f ≡ take f (drop from vs)
+    unfolding cells-from
+    picked-cells vs l = go picked
+      where
+        go : Picked b f from → cells-from (λ x. getD vs x empty) b 0 f ≡ take f (drop from vs)
+        go (inl w) = rw (w .0)
+        go (inr w) =
+            let y = w .1 in
+            let n : b + 0 ≡ from = omega arith in
+            cells-there vs b 0 f (omega arith) ∙ rw n
+
+    -- the variables that are looked at, in the words that are copied
+    looked-at : {c : Given} {out : List ℕ} {p i : ℕ} {vs : List (Cell plain)} {fs : List (Frame plain)} {os : List (Object plain)} {input put : List ℕ}
+        → Stands plain c words out r p i vs fs os input put
+        → (j : ℕ) → j < f → slot-in plain (qualOf (c .sheet)) (getD words (r .base + from + j) 0) ≡ cell (getD vs (b + j) empty)
+    looked-at {c} S j h =
+        let e = picked-from j h in
+        let n : r .base + from + j ≡ r .base + (b + j) = omega arith in
+        let word : getD words (r .base + from + j) 0 ≡ getD (take (r .variables) (drop (r .base) words)) (b + j) 0 =
+        ap (λ (x : ℕ). getD words x 0) n
+        ∙ sym (getD-take (r .variables) (drop (r .base) words) (b + j) 0 (omega arith) ∙ getD-drop (r .base) words (b + j) 0) in
+        ap (slot-in plain (qualOf (c .sheet))) word ∙ variable-is S (b + j)
+
+    pub call-of-blank : (words′ : List ℕ) → Copies words words′ (r .base + from) (r .base - (v + 2)) f false
+        → (a : ℕ) (input out : List ℕ) → Performs plain s input words words′ out out r (Halt 13) (Call a b k)
+    call-of-blank words′ C a input out c (state (frame p i vs) fs os left put) same from′ S =
+        let t = state (frame p i vs) fs os left put in
+        let j = C .0 in
+        stopped c words′ out s r t blank _
+        (call-blank (programOf s) (view (length words) (length out) t) k b a (omega (arith, room-is plain c words out r t S)) j (rw formals at (C .1))
+        (blank-word plain (qualOf (c .sheet)) (getD words (r .base + from + j) 0) (looked-at S j (C .1)) (C .3)))
+
+    module _ (words′ : List ℕ) (C : Copies words words′ (r .base + from) (r .base - (v + 2)) f true) where
+      holds : {c : Given} {out : List ℕ} {p i : ℕ} {vs : List (Cell plain)} {fs : List (Frame plain)} {os : List (Object plain)} {input put : List ℕ}
+          → Stands plain c words out r p i vs fs os input put → (j : ℕ) → j < f → Holds (getD vs (b + j) empty)
+      holds {c} S j h =
+          let w = getD words (r .base + from + j) 0 in
+          ⊎-elim (λ e. (M.word (low w), e)) (λ e. (M.object (payload w), e)) (filled-word plain (qualOf (c .sheet)) w (looked-at S j h) (C .1 j h))
+
+      pub call-goes : (words″ : List ℕ) (q : Registers) (first : ℕ) → f ≤ v → length words′ ≡ length words
+          → Opened plain words′ words″ r q k first v f
+          → k < proceduresOf s → k < 64 → first ≡ instructionAt s (procedureAt s k) 0
+          → (a : ℕ) (input out : List ℕ) → Performs plain s input words words″ out out r (Enter q) (Call a b k)
+      unfolding _>>=_ apply
+      call-goes words″ q first few long P known small starts a input out c (state (frame p i vs) fs os left put) same from′ S =
+          let t = state (frame p i vs) fs os left put in
+          let at = r .base - (v + 2) in
+          let src = r .base + from in
+          let copy = C .0 in
+          let frame-fits = S .sane .frame in
+          let below : at + f ≤ src = omega arith in
+          let inside : src + f ≤ length words = omega arith in
+          let S′ : Stands plain c words′ out r p i vs fs os left put =
+          gap-kept S words′ long (ap (take (r .used)) copy ∙ copied-before words src at f below inside (r .used) (omega arith))
+          (ap (drop (r .base)) copy ∙ copied-after words src at f below inside (r .base) (omega arith)) in
+          let there : slots plain c (take f (drop at words′)) ≡ map cell (take f (drop from vs)) =
+          ap (λ (l : List ℕ). slots plain c (take f (drop at l))) copy
+          ∙ ap (slots plain c) (copied-there words src at f below inside)
+          ∙ actual-slots S from f fits in
+          rw (
+            call-opens (programOf s) (view (length words) (length out) t) k b a (omega (arith, room-is plain c words out r t S))
+                (λ j h. holds S j (rw (← formals) at h)),
+            ← formals,
+            ← many,
+            picked-cells vs (S .variables),
+          )
+          (P c p i vs (take f (drop from vs)) fs os left put out S′ (rw same known) small (rw same starts) (rw same many) there)

@@ -1,0 +1,213 @@
+-- What an instruction asks for, and its writer, together are an operation, of either machine. What is asked for may be known only where the definition
+-- is not stuck.
+use Prim.Native.Nat.{ℕ, zero, suc, _+_, _-_, _<_}
+use native.Mathlib.Omega.{arith}
+use mathlib.Core.Path.{_≡_, refl, sym, ap, subst, _∙_}
+use mathlib.Core.List.{List}
+use lib.Dec.{ltb}
+use lib.ListN.{length, getD, take, drop}
+use Rattle.model.specs.Outcome.{output-full, Res, ok, stop, stuck, test, _>>=_, _>>_}
+use Rattle.model.specs.Modes.{Mode}
+use Rattle.model.specs.Qualified.{Qual}
+use Rattle.model.specs.Program.{Program}
+use Rattle.model.specs.Machine as M
+use Rattle.model.specs.Machine.{frame, State, state, Next, View, Effect, view, plan, apply, one-integer, branch, first-of}
+use Rattle.model.specs.declared.Operation.{Operation}
+use Rattle.model.specs.declared.Operation.the-variants as Op
+use Rattle.sheet.specs.Layout.{proceduresOf, procedureAt}
+use Rattle.sheet.specs.Meaning.{programOf, qualOf}
+use Rattle.sheet.specs.Places.{Places}
+use Rattle.words.specs.Sees.{Sees}
+use Rattle.words.specs.Answers.{Unless-stuck, number-as}
+use Rattle.words.specs.declared.Number.{Number}
+use Rattle.writers.specs.declared.Registers.{Registers}
+use Rattle.writers.specs.declared.Stepped.{Stepped}
+use Rattle.writers.specs.declared.Stepped.the-variants.{Go, Enter, Halt, Done}
+use Rattle.writers.specs.Memory.{Given, StandsFor}
+use Rattle.writers.specs.Steps.{After, Does, branched, jumped, put-effect, take-effect}
+use Rattle.writers.proofs.View.{view-sees, free-is, next-input-is}
+use Rattle.frames.specs.Performs.{Loaded, Performs}
+
+-- ---- what is known unless the definition is stuck
+
+pub always : {A : Type 0} (p : Res A) (P : Type 0) → P → Unless-stuck p P
+always (ok a) P h = h
+always (stop x) P h = h
+always stuck P h = tt
+
+-- of a part of a plan, and so of the plan
+pub unless-then : {A B : Type 0} (p : Res A) (f : A → Res B) (P Q : Type 0) → Unless-stuck p P → (P → Q) → Unless-stuck (p >>= f) Q
+unfolding _>>=_
+unless-then (ok a) f P Q h k = always (f a) Q (k h)
+unless-then (stop x) f P Q h k = k h
+unless-then stuck f P Q h k = tt
+
+pub unless-map : {A : Type 0} (p : Res A) (P Q : Type 0) → Unless-stuck p P → (P → Q) → Unless-stuck p Q
+unless-map (ok a) P Q h k = k h
+unless-map (stop x) P Q h k = k h
+unless-map stuck P Q h k = tt
+
+module _ (m : Mode) (c : Given) (words before out : List ℕ) (r : Registers) where
+  after-stuck : (o : Stepped) → After m c words before out r o stuck
+  after-stuck (Go q) = tt
+  after-stuck (Enter q) = tt
+  after-stuck (Halt k) = tt
+  after-stuck Done = tt
+
+  after-plan : (o : Stepped) (f : Effect m → Res (Next m)) (p : Res (Effect m)) (P : Type 0) → Unless-stuck p P
+      → (P → After m c words before out r o (p >>= f)) → After m c words before out r o (p >>= f)
+  unfolding _>>=_
+  after-plan o f (ok x) P h k = k h
+  after-plan o f (stop x) P h k = k h
+  after-plan o f stuck P h k = after-stuck o
+
+-- ---- an operation
+
+-- the part of a list from b to b + n, as the code cuts it
+pub part-is : (b n : ℕ) (l : List ℕ) → take (b + n - b) (drop b l) ≡ take n (drop b l)
+part-is b n l =
+    let e : b + n - b ≡ n = omega arith in
+    rw e
+
+-- the same for what is seen in the running frame's part
+pub sees-cut : (m : Mode) (q : ℕ → Qual) (v : View m) (words h : List ℕ) (r : Registers)
+    → Sees m q v (take (r .variables) (drop (r .base) words)) h → Sees m q v (take (r .base + r .variables - r .base) (drop (r .base) words)) h
+sees-cut m q v words h r S = subst (λ (f : List ℕ). Sees m q v f h) (sym (part-is (r .base) (r .variables) words)) S
+
+-- the running procedure is the registers', and one of the sheet's
+pub record Running {m : Mode} (s : List ℕ) (r : Registers) (v : View m) : Type 0 where
+  pub procedure : v .procedure ≡ r .procedure
+  pub known : v .procedure < proceduresOf s
+
+-- its place is in the table
+pub running-at : {m : Mode} (s table : List ℕ) (r : Registers) (v : View m) → Loaded s table → r .procedure < 64 → Running s r v
+    → getD table (r .procedure) 0 ≡ procedureAt s (v .procedure)
+unfolding Places
+running-at s table r v L h R =
+    let e = R .procedure in
+    let k = R .known in
+    ap (λ (p : ℕ). getD table p 0) (sym e) ∙ L .places (v .procedure) (omega arith) (omega arith)
+
+pub runs : (m : Mode) (c : Given) (s words before : List ℕ) (r : Registers) (t : State m) → c .sheet ≡ s → StandsFor m c words before r t
+    → Running s r (view (length words) (length before) t)
+runs m c s words before r (state (frame p i vs) fs os input put) q S =
+    record { procedure = sym (S .procedure); known = rw q at (S .running .procedure) }
+
+-- what is seen, by the sheet's map of element numbers
+pub sees : (m : Mode) (c : Given) (s words before : List ℕ) (r : Registers) (t : State m) → c .sheet ≡ s → StandsFor m c words before r t
+    → Sees m (qualOf s) (view (length words) (length before) t) (take (r .variables) (drop (r .base) words)) (take (r .used) words)
+sees m c s words before r t q S =
+    subst (λ (z : List ℕ). Sees m (qualOf z) (view (length words) (length before) t) (take (r .variables) (drop (r .base) words)) (take (r .used) words)) q
+    (view-sees m c words before r t S)
+
+module _ (m : Mode) (s input words words′ before out : List ℕ) (r : Registers) (o : Stepped) (op : Operation) (e : (ℕ → Qual) → Res (Effect m)) where
+  -- a writer that does what it is told where its answer is fine, as one that moves a word does where that is a cell's
+  module _ (Fine : Type 0) (does : (c : Given) → Fine → Does m c words words′ before out r o (e (qualOf (c .sheet)))) where
+    pub performs-if :
+        ((c : Given) (t : State m) → c .sheet ≡ s → c .input ≡ input → StandsFor m c words before r t
+        → Unless-stuck (plan m (programOf s) (view (length words) (length before) t) op)
+        (Fine × (e (qualOf s) ≡ plan m (programOf s) (view (length words) (length before) t) op)))
+        → Performs m s input words words′ before out r o op
+    performs-if planned c t q i S =
+        let p = plan m (programOf s) (view (length words) (length before) t) op in
+        after-plan m c words′ before out r o (λ x. ok (apply (programOf s) t x)) p (Fine × (e (qualOf s) ≡ p)) (planned c t q i S)
+        (λ w.
+        subst (λ (f : Res (Effect m)). After m c words′ before out r o (f >>= λ x. ok (apply (programOf s) t x))) (w .1)
+        (subst (λ (z : List ℕ). After m c words′ before out r o (e (qualOf z) >>= λ x. ok (apply (programOf z) t x))) q (does c (w .0) t S)))
+
+    -- a plan that leans on the running procedure, the variables and the objects alone
+    pub performs-if-seeing :
+        ((v : View m) → Running s r v → Sees m (qualOf s) v (take (r .variables) (drop (r .base) words)) (take (r .used) words)
+        → Unless-stuck (plan m (programOf s) v op) (Fine × (e (qualOf s) ≡ plan m (programOf s) v op)))
+        → Performs m s input words words′ before out r o op
+    performs-if-seeing planned =
+        performs-if (λ c t q i S. planned (view (length words) (length before) t) (runs m c s words before r t q S) (sees m c s words before r t q S))
+
+    -- the same, with the variables' part as the code cuts it
+    pub performs-if-frame :
+        ((v : View m) → Running s r v
+        → Sees m (qualOf s) v (take (r .base + r .variables - r .base) (drop (r .base) words)) (take (r .used) words)
+        → Unless-stuck (plan m (programOf s) v op) (Fine × (e (qualOf s) ≡ plan m (programOf s) v op)))
+        → Performs m s input words words′ before out r o op
+    performs-if-frame planned = performs-if-seeing (λ v R S. planned v R (sees-cut m (qualOf s) v words (take (r .used) words) r S))
+
+  -- the three for a writer that always does what it is told
+  module _ (does : (c : Given) → Does m c words words′ before out r o (e (qualOf (c .sheet)))) where
+    pub performs :
+        ((c : Given) (t : State m) → c .sheet ≡ s → c .input ≡ input → StandsFor m c words before r t
+        → Unless-stuck (plan m (programOf s) (view (length words) (length before) t) op)
+        (e (qualOf s) ≡ plan m (programOf s) (view (length words) (length before) t) op))
+        → Performs m s input words words′ before out r o op
+    performs planned =
+        performs-if (Unit {0}) (λ c u. does c)
+        (λ c t q i S.
+        let p = plan m (programOf s) (view (length words) (length before) t) op in
+        unless-map p (e (qualOf s) ≡ p) (Unit {0} × (e (qualOf s) ≡ p)) (planned c t q i S) (λ w. (tt, w)))
+
+    pub performs-seeing :
+        ((v : View m) → Running s r v → Sees m (qualOf s) v (take (r .variables) (drop (r .base) words)) (take (r .used) words)
+        → Unless-stuck (plan m (programOf s) v op) (e (qualOf s) ≡ plan m (programOf s) v op))
+        → Performs m s input words words′ before out r o op
+    performs-seeing planned =
+        performs (λ c t q i S. planned (view (length words) (length before) t) (runs m c s words before r t q S) (sees m c s words before r t q S))
+
+    pub performs-frame :
+        ((v : View m) → Running s r v
+        → Sees m (qualOf s) v (take (r .base + r .variables - r .base) (drop (r .base) words)) (take (r .used) words)
+        → Unless-stuck (plan m (programOf s) v op) (e (qualOf s) ≡ plan m (programOf s) v op))
+        → Performs m s input words words′ before out r o op
+    performs-frame planned = performs-seeing (λ v R S. planned v R (sees-cut m (qualOf s) v words (take (r .used) words) r S))
+
+-- ---- the writers that take an integer, an input word or an output word
+
+-- the number n is that of variable x, in the part of the memory that the code cuts
+abbrev pub Reads : (m : Mode) → (s words : List ℕ) → Registers → Number → ℕ → Type 0
+Reads m s words r n x =
+    (v : View m) → Sees m (qualOf s) v (take (r .base + r .variables - r .base) (drop (r .base) words)) (take (r .used) words)
+    → Unless-stuck (one-integer m (programOf s) v x) (number-as m n ≡ one-integer m (programOf s) v x)
+
+module _ (m : Mode) (g : Program) (v : View m) (a : ℕ) (n : Number)
+    (reads : Unless-stuck (one-integer m g v a) (number-as m n ≡ one-integer m g v a)) where
+  jumps : (k : ℕ) → Unless-stuck (plan m g v (Op.JumpZero a k)) (jumped m k n ≡ plan m g v (Op.JumpZero a k))
+  unfolding plan jumped branched branch _>>=_
+  jumps k =
+      unless-then (one-integer m g v a) (λ j. ok (branch m g v j k)) (number-as m n ≡ one-integer m g v a) (jumped m k n ≡ plan m g v (Op.JumpZero a k)) reads
+      (λ e. rw e (then (one-integer m g v a)))
+    where
+      then : (x : Res ℕ) → (x >>= λ j. ok (branched j k)) ≡ (x >>= λ j. ok (branch m g v j k))
+      then (ok zero) = refl
+      then (ok (suc j)) = refl
+      then (stop t) = refl
+      then stuck = refl
+
+  puts : (free : ℕ) → free ≡ v .free → Unless-stuck (plan m g v (Op.Put a)) (put-effect m free n ≡ plan m g v (Op.Put a))
+  unfolding plan put-effect
+  puts free f =
+      unless-then (one-integer m g v a) (λ x. (test output-full (ltb 0 (v .free)) >> ok (M.put x))) (number-as m n ≡ one-integer m g v a)
+      (put-effect m free n ≡ plan m g v (Op.Put a)) reads
+      (λ e. rw (f, e))
+
+module _ (m : Mode) (s input words words′ before out : List ℕ) (r : Registers) (o : Stepped) (a : ℕ) where
+  pub performs-jump : (n : Number) (k : ℕ) → ((c : Given) → Does m c words words′ before out r o (jumped m k n)) → Reads m s words r n a
+      → Performs m s input words words′ before out r o (Op.JumpZero a k)
+  performs-jump n k does reads =
+      performs-frame m s input words words′ before out r o (Op.JumpZero a k) (λ q. jumped m k n) does (λ v R S. jumps m (programOf s) v a n (reads v S) k)
+
+  pub performs-put : (n : Number) → ((c : Given) → Does m c words words′ before out r o (put-effect m (length before - r .put) n)) → Reads m s words r n a
+      → Performs m s input words words′ before out r o (Op.Put a)
+  performs-put n does reads =
+      performs m s input words words′ before out r o (Op.Put a) (λ q. put-effect m (length before - r .put) n) does
+      (λ c t q i S.
+      let v = view (length words) (length before) t in
+      puts m (programOf s) v a n (reads v (sees-cut m (qualOf s) v words (take (r .used) words) r (sees m c s words before r t q S))) (length before - r .put)
+      (free-is m c words before r t S))
+
+  pub performs-take : ((c : Given) → Does m c words words′ before out r o (take-effect m a (first-of (drop (r .taken) input))))
+      → ((v : View m) → Running s r v → first-of (drop (r .taken) input) ≡ v .next-input
+      → Unless-stuck (plan m (programOf s) v (Op.Take a)) (take-effect m a (first-of (drop (r .taken) input)) ≡ plan m (programOf s) v (Op.Take a)))
+      → Performs m s input words words′ before out r o (Op.Take a)
+  performs-take does planned =
+      performs m s input words words′ before out r o (Op.Take a) (λ q. take-effect m a (first-of (drop (r .taken) input))) does
+      (λ c t q i S.
+      planned (view (length words) (length before) t) (runs m c s words before r t q S)
+      (ap (λ (l : List ℕ). first-of (drop (r .taken) l)) (sym i) ∙ next-input-is m c words before r t S))

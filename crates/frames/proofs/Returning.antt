@@ -1,0 +1,299 @@
+-- A frame that is given back: the one that waits runs on, in either machine; and what the plain machine hands over to it.
+use Prim.Native.Nat.{ℕ, pred, _+_, _-_, _*_, _%_, _≤_, _<_}
+use native.Mathlib.Omega.{arith}
+use mathlib.Core.Path.{_≡_, refl, sym, ap, _∙_}
+use mathlib.Core.Bool.{Bool, true, false, not, _&&_}
+use mathlib.Core.List.{List, [], _∷_}
+use mathlib.Core.Logic.{⊎-elim}
+use mathlib.Core.Option.{Option, none, some}
+use borrow.Author.Tests.{eqb-true, eqb-false, eq-eqb}
+use lib.Dec.{eqb}
+use lib.ListN.{length, getD, set, take, drop, length-set}
+use Rattle.model.specs.Outcome.{blank, Res, ok, stop, stuck, _>>=_, _>>_}
+use Rattle.model.specs.Qualified.{Qual}
+use Rattle.model.specs.Program.{Program}
+use Rattle.model.specs.Rules.{optional}
+use Rattle.model.specs.Modes.{Mode, plain, amiss, bind, bind-result, demand}
+use Rattle.model.specs.Machine as M
+use Rattle.model.specs.Machine.{Value, Cell, empty, filled, Object, Frame, frame, State, state, Effect, View, view, apply, kept, held, moved, plan, plan-return, handed, to-caller, into-caller, frame-units}
+use Rattle.model.specs.declared.Operation.the-variants.{Return}
+use Rattle.sheet.specs.Layout.{proceduresOf, instructionAt, procedureAt}
+use Rattle.sheet.specs.Meaning.{programOf, qualOf}
+use Rattle.sheet.specs.Decode.{operationAt}
+use Rattle.form.proofs.Laws.{instruction-from}
+use Rattle.words.specs.Word.{low, payload, cell, slot-in}
+use Rattle.words.proofs.Laws.{blank-word, filled-word, place-word}
+use Rattle.writers.specs.declared.Registers.{Registers}
+use Rattle.writers.specs.declared.Stepped.{Stepped}
+use Rattle.writers.specs.declared.Stepped.the-variants.{Enter, Halt, Done}
+use Rattle.writers.specs.Memory.{Given, Sound, AllSound, Stands, StandsFor, flat-frames}
+use Rattle.writers.specs.Steps.{After}
+use Rattle.writers.proofs.Effects.{goes-on}
+use Rattle.writers.proofs.View.{frames-are, view-sees, alone, waiting-place, waiting-more, waiting-frame}
+use Rattle.writers.proofs.Change.{put-word, length-put-word, put-word-before, put-word-frame, set-variable}
+use Rattle.frames.specs.Performs.{performed, Performs, Returns}
+use Rattle.frames.specs.Frames.{Waits, Keeps}
+use Rattle.frames.proofs.Kept.{optional-none, optional-some}
+
+-- ---- the registers of the frame that waits
+
+abbrev pub back : Registers → (procedure next first variables : ℕ) → Registers
+back r p i first v =
+    record {
+      procedure = p;
+      next = i;
+      first = first;
+      variables = v;
+      base = r .base + (r .variables + 2);
+      used = r .used;
+      taken = r .taken;
+      put = r .put;
+    }
+
+module _ {m : Mode} {c : Given} {words out : List ℕ} {r : Registers} {p i q k : ℕ} {vs us : List (Cell m)} {gs : List (Frame m)} {os : List (Object m)}
+    {input put : List ℕ} (S : Stands m c words out r p i vs (frame q k us ∷ gs) os input put) where
+  back-fits : r .base + (r .variables + 2) + (length us + 2) ≤ length words
+  unfolding frame-units
+  back-fits =
+      let l : length words - r .base ≡ (length vs + 2) + ((length us + 2) + frame-units gs) = frames-are S in
+      let v = S .variables in
+      let f = S .sane .frame in
+      omega arith
+
+  back-sound : Sound (c .sheet) q us × AllSound (c .sheet) gs
+  unfolding AllSound
+  back-sound = S .waiting
+
+  stands-back : (procedure next first v : ℕ) → procedure ≡ q → next ≡ k → q < 64
+      → first ≡ instructionAt (c .sheet) (procedureAt (c .sheet) q) 0 → v ≡ length us
+      → Stands m c words out (back r procedure next first v) q k us gs os input put
+  stands-back procedure next first v at-q at-k small starts many =
+      let room = S .sane .room in
+      let fits = back-fits in
+      record {
+        procedure = at-q;
+        next = at-k;
+        first = starts;
+        variables = many;
+        sane = record { room = omega arith; frame = omega arith; small = S .sane .small; procedure = rw at-q small };
+        running = back-sound .0;
+        waiting = back-sound .1;
+        objects = S .objects;
+        frames = waiting-frame S;
+        input-left = S .input-left;
+        put-words = S .put-words;
+        output-is = S .output-is;
+        put-fits = S .put-fits;
+      }
+
+-- what the code reads of it
+pub waits : (words : List ℕ) (r : Registers) (place more procedure next first v : ℕ)
+    → place ≡ getD words (r .base + r .variables) 0 → more ≡ getD words (r .base + (r .variables + 1)) 0
+    → procedure ≡ payload place % 64 → next ≡ low place → first ≡ low more → v ≡ payload more
+    → (m : Mode) (s : List ℕ) → proceduresOf s ≤ 64 → Waits m s words r (back r procedure next first v)
+waits words r place more procedure next first v place-is more-is procedure-is next-is starts many m s few c p i q k vs us fs os input put out same S =
+    let slot = slot-in m (qualOf (c .sheet)) in
+    let at = place-word m (qualOf (c .sheet)) place (ap slot place-is ∙ waiting-place S) in
+    let of = place-word m (qualOf (c .sheet)) more (ap slot more-is ∙ waiting-more S) in
+    let known : q < proceduresOf s = rw same at (back-sound S .0 .procedure) in
+    let e = at .0 in
+    stands-back S procedure next first v (omega arith) (next-is ∙ sym (at .1)) (omega arith) (starts ∙ sym (of .1)) (many ∙ sym (of .0))
+
+-- a variable of it that is written
+kept-put : (m : Mode) (words : List ℕ) (b : Registers) (a w : ℕ) → Keeps m words (put-word words (b .base) (b .variables) a w) b a w
+kept-put m words b a w c p i vs fs os input put out d is S =
+    let slot = slot-in m (qualOf (c .sheet)) in
+    goes-on S (put-word words (b .base) (b .variables) a w) (b .next) i (b .used) (set vs a d) os (S .next)
+    (length-put-word words (b .base) (b .variables) a w) (S .sane .room) (length-set vs a d)
+    (put-word-before slot words (b .base) (b .variables) a w (b .used) (S .sane .room) ∙ S .objects)
+    (put-word-frame slot words (b .base) (b .variables) a w ∙ rw (S .frames, is) (set-variable (b .variables) vs (flat-frames (c .sheet) fs) a d (S .variables)))
+
+pub keeps : (m : Mode) (words words′ : List ℕ) (b : Registers) (a w : ℕ) → words′ ≡ put-word words (b .base) (b .variables) a w → Keeps m words words′ b a w
+keeps m words words′ b a w e = rw e (kept-put m words b a w)
+
+-- the variable that its call keeps
+pub kept-is : {m : Mode} {c : Given} {words out : List ℕ} {b : Registers} {q k : ℕ} {us : List (Cell m)} {gs : List (Frame m)} {os : List (Object m)}
+    {input put : List ℕ} (s : List ℕ) (a : ℕ) → c .sheet ≡ s → optional a ≡ kept (operationAt s (b .first + 8 * pred (b .next)))
+    → Stands m c words out b q k us gs os input put → kept (programOf s .operation q (pred k)) ≡ optional a
+kept-is {b = b} {q} {k} s a same names B =
+    let first : b .first ≡ instructionAt s (procedureAt s q) 0 = rw same at (B .first) in
+    let at : b .first + 8 * pred (b .next) ≡ instructionAt s (procedureAt s q) (pred k) =
+    ap (λ (n : ℕ). b .first + 8 * pred n) (B .next) ∙ instruction-from s (procedureAt s q) (b .first) (pred k) first in
+    sym (names ∙ ap (λ (n : ℕ). kept (operationAt s n)) at)
+
+-- ---- the return itself, in either machine
+
+-- an effect that was planned, by another way to write it
+planned : {m : Mode} (c : Given) (words out s : List ℕ) (r : Registers) (t : State m) (o : Stepped) (e d : Res (Effect m)) → e ≡ d
+    → After m c words out out r o (performed s t d) → After m c words out out r o (performed s t e)
+planned c words out s r t o e d is h = rw is h
+
+-- main has no frame that waits
+pub returns-over : (m : Mode) (s words : List ℕ) (r : Registers) (value : Option (Cell m)) → length words ≤ r .base + (r .variables + 2)
+    → (out : List ℕ) → Returns m s words words out r Done value
+unfolding to-caller _>>=_ apply
+returns-over m s words r value h out c (state (frame p i vs) [] os input put) same S = refl
+returns-over m s words r value h out c (state (frame p i vs) (frame q k us ∷ gs) os input put) same S =
+    let fits = back-fits S in
+    absurd (omega arith)
+
+module _ (m : Mode) (s words : List ℕ) (r b : Registers) (a : ℕ) (above : r .base + (r .variables + 2) < length words)
+    (W : Waits m s words r b) (names : optional a ≡ kept (operationAt s (b .first + 8 * pred (b .next)))) where
+  no-main : {c : Given} {out : List ℕ} {p i : ℕ} {vs : List (Cell m)} {os : List (Object m)} {input put : List ℕ}
+      → Stands m c words out r p i vs [] os input put → ⊥
+  no-main S = let l = alone S in omega arith
+
+  -- the call that waits keeps nothing
+  pub returns-dropped : a ≡ 255 → (value : Option (Cell m)) (out : List ℕ) → Returns m s words words out r (Enter b) value
+  unfolding to-caller into-caller _>>=_ apply
+  returns-dropped e value out c (state (frame p i vs) [] os input put) same S = absurd (no-main S)
+  returns-dropped e value out c (state (frame p i vs) (frame q k us ∷ gs) os input put) same S =
+      let t = state (frame p i vs) (frame q k us ∷ gs) os input put in
+      let seen = view (length words) (length out) t in
+      let B = W c p i q k vs us gs os input put out same S in
+      planned c words out s r t (Enter b) (to-caller m (programOf s) seen (some (q, k)) value) (ok (M.resume none))
+      (ap (λ (x : Option ℕ). into-caller m (programOf s) seen q x value) (kept-is s a same names B ∙ optional-none a e)) B
+
+  module _ (n : a ≡ 255 → ⊥) where
+    -- it keeps a value: that is bound to its variable a, and kept there
+    pub caller-binds : (value : Cell m) (out : List ℕ) (c : Given) (t : State m) → c .sheet ≡ s → StandsFor m c words out r t
+        → to-caller m (programOf s) (view (length words) (length out) t) (view (length words) (length out) t .caller) (some value)
+        ≡ (moved m (programOf s) (view (length words) (length out) t) (programOf s .inner (b .procedure) a) value >>= λ d. ok (M.resume (some (a, d))))
+    unfolding to-caller into-caller
+    caller-binds value out c (state (frame p i vs) [] os input put) same S = absurd (no-main S)
+    caller-binds value out c (state (frame p i vs) (frame q k us ∷ gs) os input put) same S =
+        let t = state (frame p i vs) (frame q k us ∷ gs) os input put in
+        let seen = view (length words) (length out) t in
+        let B = W c p i q k vs us gs os input put out same S in
+        ap (λ (x : Option ℕ). into-caller m (programOf s) seen q x (some value)) (kept-is s a same names B ∙ optional-some a n)
+        ∙ ap (λ (j : ℕ). moved m (programOf s) seen (programOf s .inner j a) value >>= λ d. ok (M.resume (some (a, d)))) (sym (B .procedure))
+
+    -- it keeps one that is not there
+    pub caller-lacks : (out : List ℕ) (c : Given) (t : State m) → c .sheet ≡ s → StandsFor m c words out r t
+        → to-caller m (programOf s) (view (length words) (length out) t) (view (length words) (length out) t .caller) none ≡ amiss m
+    unfolding to-caller into-caller
+    caller-lacks out c (state (frame p i vs) [] os input put) same S = absurd (no-main S)
+    caller-lacks out c (state (frame p i vs) (frame q k us ∷ gs) os input put) same S =
+        let seen = view (length words) (length out) (state (frame p i vs) (frame q k us ∷ gs) os input put) in
+        let B = W c p i q k vs us gs os input put out same S in
+        ap (λ (x : Option ℕ). into-caller m (programOf s) seen q x none) (kept-is s a same names B ∙ optional-some a n)
+
+    pub resumed : (w : ℕ) (words′ : List ℕ) → Keeps m words words′ b a w
+        → (d : Cell m) (out : List ℕ) (c : Given) (t : State m) → c .sheet ≡ s → StandsFor m c words out r t → slot-in m (qualOf (c .sheet)) w ≡ cell d
+        → After m c words′ out out r (Enter b) (performed s t (ok (M.resume (some (a, d)))))
+    unfolding _>>=_ apply
+    resumed w words′ K d out c (state (frame p i vs) [] os input put) same S is = absurd (no-main S)
+    resumed w words′ K d out c (state (frame p i vs) (frame q k us ∷ gs) os input put) same S is =
+        K c q k us gs os input put out d is (W c p i q k vs us gs os input put out same S)
+
+-- ---- what a return hands over in the plain machine
+
+-- a value that is the filled cell of a word; or none
+abbrev Value-of : (ℕ → Qual) → ℕ → Option (Cell plain) → Type 0
+Value-of qual w none = Unit {0}
+Value-of qual w (some d) = (x : Value) × ((d ≡ filled x tt) × (slot-in plain qual w ≡ cell d))
+
+-- the plain machine binds no rights; where it keeps what is not there it is stuck
+returns-kept : (s words : List ℕ) (r b : Registers) (a : ℕ) → r .base + (r .variables + 2) < length words
+    → Waits plain s words r b → optional a ≡ kept (operationAt s (b .first + 8 * pred (b .next))) → (a ≡ 255 → ⊥)
+    → (w : ℕ) (words′ : List ℕ) → Keeps plain words words′ b a w
+    → (value : Option (Cell plain)) (out : List ℕ) (c : Given) (t : State plain) → c .sheet ≡ s → StandsFor plain c words out r t
+    → Value-of (qualOf (c .sheet)) w value
+    → After plain c words′ out out r (Enter b)
+    (performed s t (to-caller plain (programOf s) (view (length words) (length out) t) (view (length words) (length out) t .caller) value))
+unfolding moved held bind amiss _>>=_
+returns-kept s words r b a above W names n w words′ K none out c t same S is =
+    planned c words′ out s r t (Enter b) _ stuck (caller-lacks plain s words r b a above W names n out c t same S) tt
+returns-kept s words r b a above W names n w words′ K (some d) out c t same S is =
+    planned c words′ out s r t (Enter b) _ (ok (M.resume (some (a, d))))
+    (caller-binds plain s words r b a above W names n d out c t same S ∙ rw (is .1 .0))
+    (resumed plain s words r b a above W names n w words′ K d out c t same S (is .1 .1))
+
+module _ (g : Program) (v : View plain) (a : ℕ) where
+  return-none : a ≡ 255 → plan plain g v (Return a) ≡ to-caller plain g v (v .caller) none
+  unfolding plan plan-return demand handed _>>=_ _>>_
+  return-none e = rw (optional-none a e)
+
+  module _ (n : a ≡ 255 → ⊥) where
+    return-filled : (y : Value) → v .variable a ≡ filled y tt → plan plain g v (Return a) ≡ to-caller plain g v (v .caller) (some (filled y tt))
+    unfolding plan plan-return demand handed held bind-result _>>=_ _>>_
+    return-filled y e = rw (optional-some a n, e)
+
+    return-blank : v .variable a ≡ empty → plan plain g v (Return a) ≡ stop blank
+    unfolding plan plan-return demand handed held bind-result _>>=_ _>>_
+    return-blank e = rw (optional-some a n, e)
+
+-- the test of a value that is returned
+pub blank-told : (w a : ℕ) → eqb w 0 && not (eqb a 255) ≡ true → (w ≡ 0) × (a ≡ 255 → ⊥)
+blank-told w a h = go (eqb w 0) (eqb a 255) refl refl h
+  where
+    go : (x y : Bool) → eqb w 0 ≡ x → eqb a 255 ≡ y → x && not y ≡ true → (w ≡ 0) × (a ≡ 255 → ⊥)
+    go true false p q h = (eqb-true w 0 p, eqb-false a 255 q)
+    go true true p q h = absurd (let z : _≡_ {A = ℕ} 0 1 = cc in omega arith)
+    go false y p q h = absurd (let z : _≡_ {A = ℕ} 0 1 = cc in omega arith)
+
+pub value-told : (w a : ℕ) → eqb w 0 && not (eqb a 255) ≡ false → w ≡ 0 → a ≡ 255
+value-told w a h z = go (eqb a 255) refl (rw (eq-eqb w 0 z) at h)
+  where
+    go : (y : Bool) → eqb a 255 ≡ y → not y ≡ false → a ≡ 255
+    go true q h = eqb-true a 255 q
+    go false q h = absurd (let z : _≡_ {A = ℕ} 0 1 = cc in omega arith)
+
+-- the word of variable a, in the variables' part as the code cuts it
+module _ (s words : List ℕ) (r : Registers) (a w : ℕ) (word-is : w ≡ getD (take (r .base + r .variables - r .base) (drop (r .base) words)) a 0) where
+  variable-there : (c : Given) (out : List ℕ) (t : State plain) → StandsFor plain c words out r t
+      → slot-in plain (qualOf (c .sheet)) w ≡ cell (view (length words) (length out) t .variable a)
+  variable-there c out t S =
+      let e : r .base + r .variables - r .base ≡ r .variables = omega arith in
+      ap (slot-in plain (qualOf (c .sheet))) (rw e at word-is) ∙ view-sees plain c words out r t S .variable a
+
+  -- it is blank
+  pub gives-blank : w ≡ 0 → (a ≡ 255 → ⊥) → (input out : List ℕ) → Performs plain s input words words out out r (Halt 13) (Return a)
+  unfolding _>>=_
+  gives-blank z n input out c t same from S =
+      planned c words out s r t (Halt 13) _ (stop blank)
+      (return-blank (programOf s) (view (length words) (length out) t) a n (blank-word plain (qualOf (c .sheet)) w (variable-there c out t S) z)) (refl, refl)
+
+  -- or there is a value to hand over, if any is asked for
+  module _ (there : w ≡ 0 → a ≡ 255) where
+    handed-over : (c : Given) (out : List ℕ) (t : State plain) → StandsFor plain c words out r t
+        → (value : Option (Cell plain))
+        × ((plan plain (programOf s) (view (length words) (length out) t) (Return a)
+        ≡ to-caller plain (programOf s) (view (length words) (length out) t) (view (length words) (length out) t .caller) value)
+        × Value-of (qualOf (c .sheet)) w value)
+    handed-over c out t S = go (eqb a 255) refl
+      where
+        seen : View plain
+        seen = view (length words) (length out) t
+
+        filled-as : (a ≡ 255 → ⊥) → (x : Value) → seen .variable a ≡ filled x tt
+            → (value : Option (Cell plain))
+            × ((plan plain (programOf s) seen (Return a) ≡ to-caller plain (programOf s) seen (seen .caller) value) × Value-of (qualOf (c .sheet)) w value)
+        filled-as n x e = (some (filled x tt), (return-filled (programOf s) seen a n x e, (x, (refl, variable-there c out t S ∙ ap cell e))))
+
+        go : (is255 : Bool) → eqb a 255 ≡ is255
+            → (value : Option (Cell plain))
+            × ((plan plain (programOf s) seen (Return a) ≡ to-caller plain (programOf s) seen (seen .caller) value) × Value-of (qualOf (c .sheet)) w value)
+        go true e = (none, (return-none (programOf s) seen a (eqb-true a 255 e), tt))
+        go false e =
+            let n = eqb-false a 255 e in
+            ⊎-elim (λ y. filled-as n _ y) (λ y. filled-as n _ y)
+            (filled-word plain (qualOf (c .sheet)) w (variable-there c out t S) (λ z. n (there z)))
+
+    pub gives-over : length words ≤ r .base + (r .variables + 2) → (input out : List ℕ) → Performs plain s input words words out out r Done (Return a)
+    gives-over h input out c t same from S =
+        let y = handed-over c out t S in
+        planned c words out s r t Done _ _ (y .1 .0) (returns-over plain s words r (y .0) h out c t same S)
+
+    module _ (b : Registers) (k : ℕ) (above : r .base + (r .variables + 2) < length words) (W : Waits plain s words r b)
+        (names : optional k ≡ kept (operationAt s (b .first + 8 * pred (b .next)))) where
+      pub gives-dropped : k ≡ 255 → (input out : List ℕ) → Performs plain s input words words out out r (Enter b) (Return a)
+      gives-dropped e input out c t same from S =
+          let y = handed-over c out t S in
+          planned c words out s r t (Enter b) _ _ (y .1 .0) (returns-dropped plain s words r b k above W names e (y .0) out c t same S)
+
+      pub gives-kept : (k ≡ 255 → ⊥) → (words′ : List ℕ) → Keeps plain words words′ b k w
+          → (input out : List ℕ) → Performs plain s input words words′ out out r (Enter b) (Return a)
+      gives-kept n words′ K input out c t same from S =
+          let y = handed-over c out t S in
+          planned c words′ out s r t (Enter b) _ _ (y .1 .0) (returns-kept s words r b k above W names n w words′ K (y .0) out c t same S (y .1 .1))

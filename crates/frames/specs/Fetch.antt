@@ -1,0 +1,22 @@
+-- Where the instruction that the registers name stands, and what is known of it in a well-formed sheet.
+use Prim.Native.Nat.{ℕ, _+_, _*_, _≤_, _<_}
+use mathlib.Core.Path.{_≡_}
+use mathlib.Core.List.{List}
+use lib.ListN.{length}
+use Rattle.model.specs.Rules.{callee}
+use Rattle.model.specs.declared.Operation.the-variants.{Call}
+use Rattle.sheet.specs.Layout.{proceduresOf, formalsAt, procedureAt}
+use Rattle.sheet.specs.Decode.{operationAt}
+use Rattle.writers.specs.declared.Registers.{Registers}
+
+abbrev pub place-in : Registers → ℕ
+place-in r = r .first + 8 * r .next
+
+-- the record stands whole, in a sheet that starts before it, and is not the last of many; the procedure that it calls is one of the sheet's, and the
+-- variables that it passes are the frame's
+pub record Fetchable (s : List ℕ) (r : Registers) : Type 0 where
+  pub whole : place-in r + 8 ≤ length s
+  pub first : r .first ≤ length s
+  pub next : r .next < 65536
+  pub callee-there : callee (operationAt s (place-in r)) < proceduresOf s
+  pub actuals : (a b k : ℕ) → operationAt s (place-in r) ≡ Call a b k → (j : ℕ) → j < formalsAt s (procedureAt s k) → b + j < r .variables

@@ -1,0 +1,27 @@
+// The watched machine for a host written in C, in a library of its own: there the flag that tells the machines apart is a constant.
+use replies::put_reply;
+ghost use mathlib.Core.Path.{_≡_};
+ghost use Rattle.model.specs.Modes.{watched};
+ghost use Rattle.running.specs.Run as def;
+ghost use Rattle.running.specs.Run.{memory-after, output-after};
+ghost use Rattle.replies.specs.Words.{reply-words};
+
+// Runs a sheet on the watched machine: the number; the reply has the rest.
+#[no_mangle]
+pub extern "C" fn wn_watch(
+    sheet: &[u8],
+    reads: &[u32],
+    fuel: u64,
+    bench: &mut [u64],
+    report: &mut [u32],
+    reply: &mut [u64],
+) -> u64
+    ensures { λ r. ⌜ r ≡ def.reply watched (now (sheet .entry)) (now (reads .entry)) fuel (now (bench .entry)) (now (report .entry)) .number ⌝ }
+    ensures { λ r. ⌜ now (bench .exit) ≡ memory-after watched (now (sheet .entry)) (now (reads .entry)) fuel (now (bench .entry)) (now (report .entry)) ⌝ }
+    ensures { λ r. ⌜ now (report .exit) ≡ output-after watched (now (sheet .entry)) (now (reads .entry)) fuel (now (bench .entry)) (now (report .entry)) ⌝ }
+    ensures { λ r. ⌜ now (reply .exit) ≡ reply-words (now (reply .entry)) (def.reply watched (now (sheet .entry)) (now (reads .entry)) fuel (now (bench .entry)) (now (report .entry))) ⌝ }
+{
+    let r = running::watch(sheet, reads, fuel, bench, report);
+    put_reply(reply, r);
+    r.number
+}

@@ -1,0 +1,16 @@
+-- The rest of the payload by 2^17 is the size.
+use native.Mathlib.Omega.{arith}
+use Rattle.words.specs.Word.{payload}
+use borrow.Author.Needs.{needs}
+use Rattle.words.proofs.size_of.Statement.{statement}
+use Rattle.words.proofs.size_of.Tie as tie
+
+cast-result : tie.Need-cast-result
+cast-result c = search needs
+
+returns : tie.Need-returns
+unfolding payload
+returns c = omega arith
+
+pub size-of-spec : {M : Type 1} → statement M
+size-of-spec = tie.close (tie.spec cast-result returns)
