@@ -1,23 +1,8 @@
 /* wn_check as a host calls it. The last line is 'N passed, M failed'. */
-#include <stdio.h>
 #include <string.h>
 
+#include "harness.h"
 #include "wennathig.h"
-
-static unsigned passed, failed;
-
-static void tally(int holds, const char *what)
-{
-    if (holds) {
-        passed++;
-    } else {
-        failed++;
-        printf("FAILED: %s\n", what);
-    }
-}
-
-/* What stands in a reply before a call; no place is as large. */
-#define BEFORE UINT64_C(0xA5A5A5A5A5A5A5A5)
 
 /* The answer is this number and place; the reply's other words, and the words around it, stay. */
 static void expect(const char *what, const uint8_t *sheet, size_t len, uint64_t number, uint64_t place)
@@ -36,13 +21,6 @@ static void expect(const char *what, const uint8_t *sheet, size_t len, uint64_t 
     tally(got == number && words[1] == place, what);
     tally(kept, what);
 }
-
-/* Constant data may lie in memory that cannot be written: a check that wrote to its sheet would not live to answer. */
-static const uint8_t smallest[22] = {
-    'H', 'D', 1, 0, 0, 1,           /*  0: edition 1, no types, no qualified types, one procedure */
-    'P', 'R', 0, 0, 0, 255, 1, 0,   /*  6: main: no owner, formals, variables or result; one instruction */
-    'I', 'N', 17, 255, 255, 255, 0, 0 /* 14: return */
-};
 
 /* Main and the module of a type. Each of its variants below differs from it in one byte. */
 static const uint8_t calls[] = {
@@ -172,6 +150,5 @@ int main(void)
     replies();
     form();
     access_rules();
-    printf("%u passed, %u failed\n", passed, failed);
-    return failed != 0;
+    return finish();
 }

@@ -22,7 +22,7 @@ zeros() { head -c "$1" /dev/zero; }
 $check </dev/null >"$wrote"
 expect "no input" "refused 2 0"
 
-scripts/unhex samples/smallest.hex >"$sheet"
+printf 'HD\1\0\0\1PR\0\0\0\377\1\0IN\21\377\377\377\0\0' >"$sheet"
 $check <"$sheet" >"$wrote"
 expect "the smallest sheet from a file" "accepted 0 0"
 perl -e '$| = 1; binmode STDIN; while (read STDIN, my $b, 1) { print $b; select undef, undef, undef, 0.005 }' <"$sheet" | $check >"$wrote"

@@ -1,5 +1,5 @@
 #!/usr/bin/env bash
-# The whole test: every proof from nothing, then the samples, the checking program, and the C and Rust tests over what
+# The whole test: every proof from nothing, then the samples, the commands of the documents, the checking program, and the C and Rust tests over what
 # was proved. The last line is 'N passed, M failed' over all of them; the exit status is 0 exactly if M is 0.
 set -euo pipefail
 cd "$(dirname "${BASH_SOURCE[0]}")/.."
@@ -48,6 +48,8 @@ if [ "$missing" -gt 0 ]; then
     exit 1
 fi
 
+rt version
+
 # rt proves what crates.txt lists; a crate that it does not list would go unproved.
 listed=$(sed -E 's/#.*//; /:/!d; s/[ \t]*:.*//; s/^[ \t]*//' crates.txt)
 for crate in crates/*; do
@@ -61,14 +63,19 @@ done
 rm -rf build
 mkdir -p build/log
 
+stage acceptance last_line scripts/check-acceptance || true
+stage layers last_line scripts/draw-layers check || true
 stage proofs last_line rt ci || true
-if stage build no_count make --no-print-directory lib checker; then
-    stage samples last_line scripts/demo.sh || true
+if stage build no_count make --no-print-directory lib checker command host; then
+    stage axioms last_line scripts/count-axioms || true
+    stage samples last_line make --no-print-directory demo || true
     stage program last_line scripts/test-checker.sh || true
     stage c last_line scripts/test-c.sh || true
+    stage install last_line scripts/test-install.sh || true
+    stage commands last_line scripts/check-commands || true
     stage rust cargo_lines env -C rust cargo test --release --offline --workspace --no-fail-fast || true
 else
-    echo "not run, for want of the library and the program: samples, program, c, rust"
+    echo "not run, for want of the library and the programs: axioms, samples, program, c, install, commands, rust"
 fi
 
 echo "== $SECONDS s in all"

@@ -1,5 +1,5 @@
-//! Links the proved library, which `make lib` writes to build/ at the root of
-//! the repository.
+//! Links the two proved libraries, which `make lib` writes to build/ at the
+//! root of the repository.
 
 use std::env;
 use std::path::PathBuf;
@@ -8,15 +8,17 @@ fn main() {
     println!("cargo:rerun-if-env-changed=WENNATHIG_LIB_DIR");
     let manifest = env::var_os("CARGO_MANIFEST_DIR").map(PathBuf::from);
     let beside = manifest.expect("cargo sets it").join("../../build");
-    // Another folder may be named, to try the tests on a changed library.
+    // Another folder may be named, to try the tests on changed libraries.
     let folder = env::var_os("WENNATHIG_LIB_DIR").map_or(beside, PathBuf::from);
-    let archive = folder.join("libwennathig.a");
-    println!("cargo:rerun-if-changed={}", archive.display());
-    assert!(
-        archive.exists(),
-        "{} is missing: run `make lib` in the repository first",
-        archive.display()
-    );
     println!("cargo:rustc-link-search=native={}", folder.display());
-    println!("cargo:rustc-link-lib=static=wennathig");
+    for library in ["wennathig", "wennathig_watch"] {
+        let archive = folder.join(format!("lib{library}.a"));
+        println!("cargo:rerun-if-changed={}", archive.display());
+        assert!(
+            archive.exists(),
+            "{} is missing: run `make lib` in the repository first",
+            archive.display()
+        );
+        println!("cargo:rustc-link-lib=static={library}");
+    }
 }

@@ -6,22 +6,39 @@ use std::hint::black_box;
 
 const LARGEST: usize = 32_768;
 
-pub fn report() {
+/// What the charts show.
+pub struct Checks {
+    /// The largest sheets: the proved check's time, as so many times the
+    /// second engine's.
+    pub largest: Vec<(&'static str, f64)>,
+    /// Bytes of a sheet, and the seconds of the proved check and the second
+    /// engine's.
+    pub growth: Vec<(usize, [f64; 2])>,
+}
+
+pub fn report() -> Checks {
     println!("Largest sheets, all accepted: time per check, bytes per second, and the ratio");
     heading();
-    row(
-        "mostly instructions",
-        &mostly_instructions(LARGEST).encode(),
-    );
-    row("one array 62 deep", &one_deep_array(LARGEST).encode());
-    row("two arrays 31 deep", &two_deep_arrays(LARGEST).encode());
-    row("64 procedures", &many_procedures(LARGEST).encode());
+    let sheets = [
+        ("mostly instructions", mostly_instructions(LARGEST)),
+        ("one array 62 deep", one_deep_array(LARGEST)),
+        ("two arrays 31 deep", two_deep_arrays(LARGEST)),
+        ("64 procedures", many_procedures(LARGEST)),
+    ];
+    let largest = sheets.map(|(name, sheet)| {
+        let [proved, second] = row(name, &sheet.encode());
+        (name, proved / second)
+    });
     println!();
     println!("Time against size, mostly instructions");
     heading();
-    for kilobytes in [1, 2, 4, 8, 16, 32] {
-        let name = format!("{kilobytes} KiB");
-        row(&name, &mostly_instructions(kilobytes * 1024).encode());
+    let growth = [1, 2, 4, 8, 16, 32].map(|kilobytes| {
+        let sheet = mostly_instructions(kilobytes * 1024).encode();
+        (sheet.len(), row(&format!("{kilobytes} KiB"), &sheet))
+    });
+    Checks {
+        largest: largest.to_vec(),
+        growth: growth.to_vec(),
     }
 }
 
@@ -33,8 +50,8 @@ fn heading() {
 }
 
 /// One line of a table; the ratio says how many times faster the proved check
-/// is.
-fn row(name: &str, sheet: &[u8]) {
+/// is. Gives the seconds of both.
+fn row(name: &str, sheet: &[u8]) -> [f64; 2] {
     assert_eq!(reference::check(sheet), reference::Verdict::Accepted);
     assert_eq!(wennathig::check(sheet), wennathig::Verdict::Accepted);
     let mut by_proved = || {
@@ -53,4 +70,5 @@ fn row(name: &str, sheet: &[u8]) {
         sheet.len() as f64 / second / 1e6,
         second / proved
     );
+    [proved, second]
 }

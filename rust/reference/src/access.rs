@@ -1,25 +1,35 @@
 //! The access rules: refusals 6 to 9, record by record in sheet order.
 
+use crate::fault::{Broken, Detail, Due, End, Fault, Form, Holder, Site};
 use crate::program::{Instruction, Kind, Operation, Procedure, Program, Rights, Variable};
 use crate::refusal::{Reason, Refusal};
 
 /// Applies the access rules to a well-formed program.
 pub fn check(program: &Program) -> Result<(), Refusal> {
+    examine(program).map_err(|fault| fault.refusal)
+}
+
+/// The same, and tells what the rule that does not hold looked at.
+pub fn examine(program: &Program) -> Result<(), Fault> {
     for declared in &program.types {
-        for &slot in &declared.slots {
-            closed(program, slot, declared.place)?;
+        for (number, &slot) in declared.slots.iter().enumerate() {
+            closed(program, slot, Holder::Slot(number), declared.place)?;
         }
     }
     for qualified in &program.qualified {
         if let Kind::Array { element } = qualified.kind {
-            closed(program, element, qualified.place)?;
+            closed(program, element, Holder::Element, qualified.place)?;
         }
     }
-    for procedure in &program.procedures {
+    for (number, procedure) in program.procedures.iter().enumerate() {
         if let Some(result) = procedure.result {
-            closed(program, result, procedure.place)?;
+            closed(program, result, Holder::Result, procedure.place)?;
         }
-        let rules = Rules { program, procedure };
+        let rules = Rules {
+            program,
+            number,
+            procedure,
+        };
         for variable in &procedure.variables {
             rules.variable(variable)?;
         }
@@ -31,9 +41,10 @@ pub fn check(program: &Program) -> Result<(), Refusal> {
 }
 
 /// Refuses the record at the place with 6 if the qualified type has open.
-fn closed(program: &Program, qualified: usize, place: usize) -> Result<(), Refusal> {
+fn closed(program: &Program, qualified: usize, holder: Holder, place: usize) -> Result<(), Fault> {
     if program.qualified[qualified].rights.contains(Rights::OPEN) {
-        return Err(Refusal::new(Reason::MisplacedOpen, place));
+        let detail = Detail::Open { holder, qualified };
+        return Err(Broken::new(Reason::MisplacedOpen, detail).at(place));
     }
     Ok(())
 }
@@ -41,37 +52,41 @@ fn closed(program: &Program, qualified: usize, place: usize) -> Result<(), Refus
 /// The rules for the variables and instructions of one procedure.
 struct Rules<'a> {
     program: &'a Program,
+    number: usize,
     procedure: &'a Procedure,
 }
 
 impl Rules<'_> {
-    fn variable(&self, variable: &Variable) -> Result<(), Refusal> {
+    fn variable(&self, variable: &Variable) -> Result<(), Fault> {
         let Variable { place, inner, need } = *variable;
         if let Some(need) = need {
-            closed(self.program, need, place)?;
+            closed(self.program, need, Holder::Need, place)?;
         }
-        let amplified = self.has_owner_type(inner);
-        if !amplified {
-            closed(self.program, inner, place)?;
+        let owned = self.has_owner_type(inner);
+        if !owned {
+            closed(self.program, inner, Holder::Inner, place)?;
         }
-        let agrees = match need {
-            None => true,
-            Some(need) if amplified => self.has_owner_type(need),
-            Some(need) => self.program.equal(need, inner),
+        let Some(need) = need else {
+            return Ok(());
+        };
+        let agrees = match owned {
+            true => self.has_owner_type(need),
+            false => self.program.equal(need, inner),
         };
         if !agrees {
-            return Err(Refusal::new(Reason::NeedMismatch, place));
+            let detail = Detail::Need { need, inner, owned };
+            return Err(Broken::new(Reason::NeedMismatch, detail).at(place));
         }
         Ok(())
     }
 
-    fn instruction(&self, instruction: &Instruction) -> Result<(), Refusal> {
+    fn instruction(&self, instruction: &Instruction) -> Result<(), Fault> {
         self.operation(&instruction.operation)
-            .map_err(|reason| Refusal::new(reason, instruction.place))
+            .map_err(|broken| broken.at(instruction.place))
     }
 
     /// Within an operation: return form, kinds, right, then movements.
-    fn operation(&self, operation: &Operation) -> Result<(), Reason> {
+    fn operation(&self, operation: &Operation) -> Result<(), Broken> {
         match *operation {
             Operation::Set { to, .. } | Operation::Take { to } => self.integer(to),
             Operation::Put { from } => self.integer(from),
@@ -83,7 +98,7 @@ impl Rules<'_> {
                 self.integer(left)?;
                 self.integer(right)
             }
-            Operation::Bind { to, from } => self.program.movement(self.inner(from), self.inner(to)),
+            Operation::Bind { to, from } => self.movement(self.site(from), self.site(to)),
             Operation::NewArray { .. }
             | Operation::Fetch { .. }
             | Operation::Store { .. }
@@ -100,7 +115,7 @@ impl Rules<'_> {
         }
     }
 
-    fn array_operation(&self, operation: &Operation) -> Result<(), Reason> {
+    fn array_operation(&self, operation: &Operation) -> Result<(), Broken> {
         match *operation {
             // A new array has all rights and the element of its variable.
             Operation::NewArray { to, size } => {
@@ -111,13 +126,13 @@ impl Rules<'_> {
                 let element = self.element(array)?;
                 self.integer(index)?;
                 self.right(array, Rights::FETCH)?;
-                self.program.movement(element, self.inner(to))
+                self.movement(element, self.site(to))
             }
             Operation::Store { array, index, from } => {
                 let element = self.element(array)?;
                 self.integer(index)?;
                 self.right(array, Rights::STORE)?;
-                self.program.movement(self.inner(from), element)
+                self.movement(self.site(from), element)
             }
             Operation::Size { to, array } => {
                 self.element(array)?;
@@ -128,19 +143,19 @@ impl Rules<'_> {
         }
     }
 
-    fn record_operation(&self, operation: &Operation) -> Result<(), Reason> {
+    fn record_operation(&self, operation: &Operation) -> Result<(), Broken> {
         match *operation {
             // A new record has all rights, so that only its type can differ.
             Operation::NewRecord { to } => self.owner_type(to),
             Operation::GetSlot { to, record, slot } => {
                 self.owner_type(record)?;
                 self.right(record, Rights::OPEN)?;
-                self.program.movement(self.slot(slot)?, self.inner(to))
+                self.movement(self.slot(record, slot)?, self.site(to))
             }
             Operation::SetSlot { record, slot, from } => {
                 self.owner_type(record)?;
                 self.right(record, Rights::OPEN)?;
-                self.program.movement(self.inner(from), self.slot(slot)?)
+                self.movement(self.site(from), self.slot(record, slot)?)
             }
             _ => Ok(()),
         }
@@ -152,27 +167,36 @@ impl Rules<'_> {
         kept: Option<usize>,
         procedure: usize,
         first_actual: Option<usize>,
-    ) -> Result<(), Reason> {
+    ) -> Result<(), Broken> {
         let callee = &self.program.procedures[procedure];
         if kept.is_some() && callee.result.is_none() {
-            return Err(Reason::WrongKind);
+            return Err(form(Form::NothingToKeep { procedure }));
         }
         let actuals = first_actual.into_iter().flat_map(|first| first..);
         let needs = callee.variables.iter().filter_map(|formal| formal.need);
-        for (actual, need) in actuals.zip(needs) {
-            self.program.movement(self.inner(actual), need)?;
+        for (formal, (actual, need)) in actuals.zip(needs).enumerate() {
+            let to = Site {
+                end: End::Need { procedure, formal },
+                qualified: need,
+            };
+            self.movement(self.site(actual), to)?;
         }
         match (callee.result, kept) {
-            (Some(result), Some(to)) => self.program.movement(result, self.inner(to)),
+            (Some(result), Some(to)) => {
+                self.movement(result_site(procedure, result), self.site(to))
+            }
             _ => Ok(()),
         }
     }
 
-    fn return_value(&self, value: Option<usize>) -> Result<(), Reason> {
+    fn return_value(&self, value: Option<usize>) -> Result<(), Broken> {
         match (value, self.procedure.result) {
             (None, None) => Ok(()),
-            (Some(value), Some(result)) => self.program.movement(self.inner(value), result),
-            _ => Err(Reason::WrongKind),
+            (Some(value), Some(result)) => {
+                self.movement(self.site(value), result_site(self.number, result))
+            }
+            (None, Some(_)) => Err(form(Form::NothingReturned)),
+            (Some(_), None) => Err(form(Form::TooMuchReturned)),
         }
     }
 
@@ -184,26 +208,41 @@ impl Rules<'_> {
         self.program.qualified[self.inner(variable)].kind
     }
 
-    fn integer(&self, variable: usize) -> Result<(), Reason> {
+    fn site(&self, variable: usize) -> Site {
+        Site {
+            end: End::Variable(variable),
+            qualified: self.inner(variable),
+        }
+    }
+
+    fn movement(&self, from: Site, to: Site) -> Result<(), Broken> {
+        let outcome = self.program.movement(from.qualified, to.qualified);
+        outcome.map_err(|reason| Broken::new(reason, Detail::Movement { from, to }))
+    }
+
+    fn integer(&self, variable: usize) -> Result<(), Broken> {
         match self.kind(variable) {
             Kind::Integer => Ok(()),
-            _ => Err(Reason::WrongKind),
+            _ => Err(wrong_kind(variable, Due::Integer)),
         }
     }
 
     /// The element of an array variable.
-    fn element(&self, variable: usize) -> Result<usize, Reason> {
+    fn element(&self, variable: usize) -> Result<Site, Broken> {
         match self.kind(variable) {
-            Kind::Array { element } => Ok(element),
-            _ => Err(Reason::WrongKind),
+            Kind::Array { element } => Ok(Site {
+                end: End::Element { array: variable },
+                qualified: element,
+            }),
+            _ => Err(wrong_kind(variable, Due::Array)),
         }
     }
 
-    fn owner_type(&self, variable: usize) -> Result<(), Reason> {
+    fn owner_type(&self, variable: usize) -> Result<(), Broken> {
         if self.has_owner_type(self.inner(variable)) {
             Ok(())
         } else {
-            Err(Reason::WrongKind)
+            Err(wrong_kind(variable, Due::Owner))
         }
     }
 
@@ -215,20 +254,38 @@ impl Rules<'_> {
         }
     }
 
-    fn right(&self, variable: usize, right: usize) -> Result<(), Reason> {
-        if self.program.qualified[self.inner(variable)]
-            .rights
-            .contains(right)
-        {
+    fn right(&self, variable: usize, right: usize) -> Result<(), Broken> {
+        let qualified = &self.program.qualified[self.inner(variable)];
+        if qualified.rights.contains(right) {
             Ok(())
         } else {
-            Err(Reason::MissingRight)
+            let detail = Detail::Right { variable, right };
+            Err(Broken::new(Reason::MissingRight, detail))
         }
     }
 
-    /// The qualified type of a slot of the owner's type.
-    fn slot(&self, slot: usize) -> Result<usize, Reason> {
-        let owner = self.procedure.owner.ok_or(Reason::WrongKind)?;
-        Ok(self.program.types[owner].slots[slot])
+    /// A slot of the owner's type, which the record has.
+    fn slot(&self, record: usize, slot: usize) -> Result<Site, Broken> {
+        let owner = self.procedure.owner;
+        let owner = owner.ok_or_else(|| wrong_kind(record, Due::Owner))?;
+        Ok(Site {
+            end: End::Slot { record, slot },
+            qualified: self.program.types[owner].slots[slot],
+        })
+    }
+}
+
+fn wrong_kind(variable: usize, due: Due) -> Broken {
+    Broken::new(Reason::WrongKind, Detail::Kind { variable, due })
+}
+
+fn form(form: Form) -> Broken {
+    Broken::new(Reason::WrongKind, Detail::Form(form))
+}
+
+fn result_site(procedure: usize, qualified: usize) -> Site {
+    Site {
+        end: End::Result { procedure },
+        qualified,
     }
 }

@@ -11,20 +11,20 @@ use crate::program::{
 };
 use crate::refusal::{Reason, Refusal};
 
-const MAX_TYPES: usize = 32;
-const MAX_QUALIFIED: usize = 64;
-const MAX_PROCEDURES: usize = 64;
-const MAX_NAMED_RIGHTS: usize = 15;
-const MAX_SLOTS: usize = 8;
-const MAX_FORMALS: usize = 8;
-const MAX_VARIABLES: usize = 32;
-const MAX_INSTRUCTIONS: usize = 1000;
+pub const MAX_TYPES: usize = 32;
+pub const MAX_QUALIFIED: usize = 64;
+pub const MAX_PROCEDURES: usize = 64;
+pub const MAX_NAMED_RIGHTS: usize = 15;
+pub const MAX_SLOTS: usize = 8;
+pub const MAX_FORMALS: usize = 8;
+pub const MAX_VARIABLES: usize = 32;
+pub const MAX_INSTRUCTIONS: usize = 1000;
 
 /// The byte that says that a field names nothing.
 pub const NONE: u8 = 255;
 
 /// Reads all records and sees that no byte is left over.
-pub fn read(sheet: &[u8]) -> Result<Program, Refusal> {
+pub(crate) fn read(sheet: &[u8]) -> Result<Program, Refusal> {
     let mut reader = Reader { sheet, place: 0 };
     let counts = read_header(&mut reader)?;
     let mut program = Program {

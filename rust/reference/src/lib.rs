@@ -10,7 +10,8 @@
 pub mod access;
 mod calls;
 mod decode;
-mod layout;
+pub mod fault;
+pub mod layout;
 pub mod machine;
 mod order;
 mod program;

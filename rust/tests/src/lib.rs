@@ -2,6 +2,8 @@
 //! in one form, and a record of what the compared sheets have covered.
 
 pub mod coverage;
+pub mod machines;
+mod memory;
 pub mod walk;
 pub mod workers;
 
@@ -34,12 +36,23 @@ pub fn agreed(sheet: &[u8]) -> Result<Verdict, String> {
     }
 }
 
-/// Gives the outcome of both engines, which also leave the same output, or
-/// says how they differ. What the proved run leaves in its memory, which is
-/// lent full of random words, is looked at by [`wennathig::run`].
+/// Gives the outcome of both engines' run, which also leave the same output,
+/// or says how they differ. What the proved one leaves in its memory is looked
+/// at by [`machines`].
 pub fn agreed_run(lent: &Run) -> Result<Outcome, String> {
-    let expected = lent.on(reference::run);
-    let found = lent.on(wennathig::run);
+    same(lent, lent.on(reference::run), lent.on(machines::run))
+}
+
+/// Like [`agreed_run`], watched.
+pub fn agreed_watch(lent: &Run) -> Result<Outcome, String> {
+    same(lent, lent.on(reference::watch), lent.on(machines::watch))
+}
+
+/// An outcome and the whole output after it.
+type Answer = (Outcome, Vec<u32>);
+
+/// Gives the outcome that is expected and found, or says how they differ.
+pub fn same(lent: &Run, expected: Answer, found: Answer) -> Result<Outcome, String> {
     if found == expected {
         Ok(found.0)
     } else {

@@ -1,6 +1,6 @@
 //! The hand-written sheets and runs on both engines.
 
-use comparison::{agreed, proved};
+use comparison::{agreed, machines, proved};
 use generator::handwritten::{cases, runs};
 use generator::showcase::showcase;
 use reference::Verdict;
@@ -28,15 +28,17 @@ fn both_engines_give_the_written_verdicts() {
 fn both_engines_give_the_written_outcomes() {
     let mut wrong = Vec::new();
     for case in runs::cases() {
-        let expected = case.expected_run();
-        for (engine, found) in [
-            ("reference", case.run.on(reference::run)),
-            ("proved", case.run.on(wennathig::run)),
+        let (run, name, sentence) = (&case.run, case.name, case.sentence);
+        let (by_run, by_watch) = (case.expected_run(), case.expected_watch());
+        for (machine, found, expected) in [
+            ("reference run", run.on(reference::run), &by_run),
+            ("proved run", run.on(machines::run), &by_run),
+            ("reference watch", run.on(reference::watch), &by_watch),
+            ("proved watch", run.on(machines::watch), &by_watch),
         ] {
-            if found != expected {
-                let (name, sentence) = (case.name, case.sentence);
+            if found != *expected {
                 wrong.push(format!(
-                    "{name} ({sentence}): {engine} {found:?}, expected {expected:?}"
+                    "{name} ({sentence}): {machine} {found:?}, expected {expected:?}"
                 ));
             }
         }

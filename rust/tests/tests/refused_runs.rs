@@ -1,8 +1,8 @@
-//! Runs that are refused: both engines say the same, the output and the memory
-//! stay as they were.
+//! Runs that run and watch refuse: both engines say the same, the output and
+//! the memory stay as they were.
 
-use comparison::agreed_run;
 use comparison::workers::on_all_processors;
+use comparison::{agreed_run, agreed_watch};
 use generator::breach::Flaw;
 use generator::damage::{damaged, random_bytes};
 use generator::runs::families::{MISDECLARED, TRIALS};
@@ -15,11 +15,41 @@ use std::collections::BTreeMap;
 
 const SEEDS: u64 = 8_000;
 
-/// How often each number was given, and how many runs were stopped.
+/// How often a machine gave each number of a refusal, and how many runs were
+/// stopped.
 #[derive(Default)]
-struct Seen {
+struct Answers {
     refused: BTreeMap<u8, usize>,
     stopped: usize,
+}
+
+impl Answers {
+    fn add(&mut self, outcome: Outcome) {
+        match outcome {
+            Outcome::Refused { number, .. } => *self.refused.entry(number).or_default() += 1,
+            Outcome::Stopped { .. } => self.stopped += 1,
+        }
+    }
+
+    fn merge(&mut self, other: Answers) {
+        self.stopped += other.stopped;
+        for (number, count) in other.refused {
+            *self.refused.entry(number).or_default() += count;
+        }
+    }
+
+    /// Just these refusals have come up, and stops besides.
+    fn assert_refused(&self, numbers: impl IntoIterator<Item = u8>) {
+        println!("refused {:?}, stopped {}", self.refused, self.stopped);
+        assert!(self.refused.keys().copied().eq(numbers));
+        assert!(self.stopped > 0);
+    }
+}
+
+#[derive(Default)]
+struct Seen {
+    run: Answers,
+    watch: Answers,
 }
 
 /// Sheets most of which are refused.
@@ -45,10 +75,8 @@ fn compare(random: &mut Random, sheet: Vec<u8>, seen: &mut Seen) -> Result<(), S
     if random.one_in(40) {
         lent.memory_words = MAX_MEMORY + random.below(3);
     }
-    match agreed_run(&lent)? {
-        Outcome::Refused { number, .. } => *seen.refused.entry(number).or_default() += 1,
-        Outcome::Stopped { .. } => seen.stopped += 1,
-    }
+    seen.run.add(agreed_run(&lent)?);
+    seen.watch.add(agreed_watch(&lent)?);
     Ok(())
 }
 
@@ -67,16 +95,9 @@ fn refused_runs_change_nothing() {
         seen
     });
     for part in parts {
-        whole.stopped += part.stopped;
-        for (number, count) in part.refused {
-            *whole.refused.entry(number).or_default() += count;
-        }
+        whole.run.merge(part.run);
+        whole.watch.merge(part.watch);
     }
-    println!("refused {:?}, stopped {}", whole.refused, whole.stopped);
-    assert!(
-        whole.refused.keys().copied().eq(1..=10),
-        "{:?}",
-        whole.refused
-    );
-    assert!(whole.stopped > 0);
+    whole.run.assert_refused(1..=10);
+    whole.watch.assert_refused((1..=5).chain([10]));
 }

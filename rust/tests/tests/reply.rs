@@ -1,10 +1,11 @@
-//! The words of the reply: of check the first gets the place, of run the first
-//! five get place, steps, words put, procedure and instruction; no other is
-//! touched.
+//! The words of the reply: of check the first gets the place, of run and watch
+//! the first five get place, steps, words put, procedure and instruction; no
+//! other is touched.
 
-use generator::handwritten::runs;
+use generator::handwritten::runs::{cases, RunCase};
 use generator::showcase::showcase;
-use wennathig::{check_into, run_into};
+use reference::Outcome;
+use wennathig::{check_into, run_into, watch_into, Machine};
 
 const UNTOUCHED: u64 = 0xDEAD_BEEF_0BAD_CAFE;
 
@@ -43,28 +44,34 @@ fn accepted_sheets() {
     expect(&showcase().encode(), 0, 0);
 }
 
-/// Every hand-written run, with replies of 0 to 7 words out of seven.
+/// A machine says the outcome in replies of 0 to 7 words out of seven.
+fn expect_outcome(machine: Machine, case: &RunCase, outcome: Outcome) {
+    let due = outcome.reply();
+    for words in 0..=7 {
+        let mut expected = [UNTOUCHED; 7];
+        let written = words.min(due.len());
+        expected[..written].copy_from_slice(&due[..written]);
+        let mut reply = [UNTOUCHED; 7];
+        let mut memory = vec![UNTOUCHED; case.run.memory_words];
+        let mut output = case.run.output.clone();
+        let number = machine(
+            &case.run.sheet,
+            &case.run.input,
+            case.run.fuel,
+            &mut memory,
+            &mut output,
+            &mut reply[..words],
+        );
+        assert_eq!(number, outcome.number(), "{}", case.name);
+        assert_eq!(reply, expected, "{}, {words} words", case.name);
+    }
+}
+
+/// Every hand-written run, on both machines.
 #[test]
 fn replies_of_runs() {
-    for case in runs::cases() {
-        let due = case.expected.run.reply();
-        for words in 0..=7 {
-            let mut expected = [UNTOUCHED; 7];
-            let written = words.min(due.len());
-            expected[..written].copy_from_slice(&due[..written]);
-            let mut reply = [UNTOUCHED; 7];
-            let mut memory = vec![UNTOUCHED; case.run.memory_words];
-            let mut output = case.run.output.clone();
-            let number = run_into(
-                &case.run.sheet,
-                &case.run.input,
-                case.run.fuel,
-                &mut memory,
-                &mut output,
-                &mut reply[..words],
-            );
-            assert_eq!(number, case.expected.run.number(), "{}", case.name);
-            assert_eq!(reply, expected, "{}, {words} words", case.name);
-        }
+    for case in cases() {
+        expect_outcome(run_into, &case, case.expected.run);
+        expect_outcome(watch_into, &case, case.expected.watch);
     }
 }

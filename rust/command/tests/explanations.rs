@@ -1,0 +1,301 @@
+//! Why sheets are refused: what is marked in the record, and what is said.
+
+mod common;
+
+use common::{status, stdout, wennathig};
+use generator::accepted::accepted;
+use generator::breach::Flaw;
+use generator::damage::{damaged, random_bytes};
+use generator::handwritten::cases;
+use generator::Random;
+use reference::Verdict;
+
+/// What `check` says of a refused sheet.
+struct Said {
+    first: String,
+    marked: String,
+    lines: Vec<String>,
+}
+
+/// Takes the output apart: the verdict, the number's word, the place, the
+/// record with its carets, and the lines after it.
+fn said(sheet: &[u8]) -> Said {
+    let output = wennathig(&["check", "-"], sheet);
+    let printed = stdout(&output);
+    assert_eq!(status(&output), 1, "{printed}");
+    let mut lines = printed.lines().map(String::from);
+    let first = lines.next().unwrap_or_default();
+    let mut rest: Vec<String> = lines.skip(1).collect();
+    let mut marked = String::new();
+    if rest.first().is_some_and(|line| !line.starts_with(' ')) {
+        rest.remove(0);
+        if rest.first().is_some_and(|line| line.starts_with("    ")) {
+            let (record, carets) = (rest.remove(0), rest.remove(0));
+            let under = record
+                .chars()
+                .zip(carets.chars().chain(std::iter::repeat(' ')));
+            marked = under
+                .map(|(shown, caret)| if caret == '^' { shown } else { ' ' })
+                .collect();
+        }
+    }
+    let words: Vec<&str> = marked.split_whitespace().collect();
+    Said {
+        first,
+        marked: words.join(" "),
+        lines: rest.iter().map(|line| String::from(line.trim())).collect(),
+    }
+}
+
+const TYPES: &str = "
+type call{read,amend} (length: integer, next: call{read}, list: tray[call{read}]{fetch})
+type horse{read,amend}
+";
+
+const VARIABLES: &str = "
+    variable n: integer
+    variable none: call{}
+    variable reads: call{read}
+    variable both: call{read,amend}
+    variable horse: horse{read}
+    variable calls: tray[call{read}]{fetch,store,size}
+    variable boths: tray[call{read,amend}]{fetch,store,size}
+    variable stored: tray[call{read}]{store}
+    variable fetched: tray[call{read}]{fetch}
+";
+
+const OTHERS: &str = "
+procedure nothing
+    return
+procedure needs_one
+    formal given: call{read}
+    return
+procedure needs_two
+    formal first: call{read,amend}
+    formal second: horse{read,amend}
+    return
+procedure gives_read gives call{read}
+    variable own: call{read}
+    return own
+procedure gives_calls gives tray[call{read}]{fetch,store}
+    variable own: tray[call{read}]{fetch,store}
+    return own
+";
+
+/// A line in a main that has the variables above.
+fn in_main(line: &str) -> String {
+    format!("{TYPES}procedure main\n{VARIABLES}\n    {line}\n    return\n{OTHERS}")
+}
+
+/// A line in a procedure of the type call, with two more variables.
+fn in_module(line: &str) -> String {
+    let own = "    variable open: call{open}\n    variable closed: call{read}";
+    format!("{TYPES}procedure main\n    return\n{OTHERS}\nprocedure inside of call\n{VARIABLES}\n{own}\n    {line}\n    return\n")
+}
+
+/// A procedure that returns the variable, or nothing.
+fn returning(result: &str, variable: &str) -> String {
+    format!("{TYPES}procedure main\n    return\n{OTHERS}\nprocedure back{result}\n{VARIABLES}\n    return {variable}\n")
+}
+
+/// The whole of a procedure after main.
+fn procedure(text: &str) -> String {
+    format!("{TYPES}procedure main\n    return\n{text}\n    return\n")
+}
+
+struct Case {
+    text: String,
+    number: u8,
+    marked: &'static str,
+    lines: &'static [&'static str],
+}
+
+fn case(text: String, number: u8, marked: &'static str, lines: &'static [&'static str]) -> Case {
+    Case {
+        text,
+        number,
+        marked,
+        lines,
+    }
+}
+
+#[rustfmt::skip]
+fn movements() -> Vec<Case> {
+    vec![
+        case(in_main("bind calls <- boths"), 8, "boths", &["needs tray[call{read}]{fetch,store,size}        (calls)", "has   tray[call{read,amend}]{fetch,store,size}  (boths)", "the elements of trays must be equal, not more and not less: needs call{read}, has call{read,amend}"]),
+        case(in_main("bind n <- calls"), 8, "calls", &["needs integer                             (n)", "has   tray[call{read}]{fetch,store,size}  (calls)", "needs integer, has tray"]),
+        case(in_main("bind both <- reads"), 9, "reads", &["needs call{read,amend}  (both)", "has   call{read}        (reads)", "needs amend, has read"]),
+        case(in_main("bind both <- none"), 9, "none", &["needs call{read,amend}  (both)", "has   call{}            (none)", "needs read,amend, has no right"]),
+        case(in_main("fetch horse <- calls[n]"), 8, "calls", &["needs horse{read}  (horse)", "has   call{read}   (an element of calls)", "needs horse, has call"]),
+        case(in_main("fetch both <- calls[n]"), 9, "calls", &["needs call{read,amend}  (both)", "has   call{read}        (an element of calls)", "needs amend, has read"]),
+        case(in_main("store calls[n] <- horse"), 8, "horse", &["needs call{read}   (an element of calls)", "has   horse{read}  (horse)", "needs call, has horse"]),
+        case(in_main("store boths[n] <- reads"), 9, "reads", &["needs call{read,amend}  (an element of boths)", "has   call{read}        (reads)", "needs amend, has read"]),
+        case(in_module("getslot n <- open.next"), 8, "next", &["needs integer     (n)", "has   call{read}  (open.next)", "needs integer, has call"]),
+        case(in_module("getslot both <- open.next"), 9, "next", &["needs call{read,amend}  (both)", "has   call{read}        (open.next)", "needs amend, has read"]),
+        case(in_module("setslot open.list <- boths"), 8, "boths", &["needs tray[call{read}]{fetch}                   (open.list)", "has   tray[call{read,amend}]{fetch,store,size}  (boths)", "the elements of trays must be equal, not more and not less: needs call{read}, has call{read,amend}"]),
+        case(in_module("setslot open.next <- none"), 9, "none", &["needs call{read}  (open.next)", "has   call{}      (none)", "needs read, has no right"]),
+        case(in_main("call needs_one(horse)"), 8, "horse", &["needs call{read}   (what needs_one needs as given)", "has   horse{read}  (horse)", "needs call, has horse"]),
+        case(in_main("call needs_two(both, horse)"), 9, "horse", &["needs horse{read,amend}  (what needs_two needs as second)", "has   horse{read}        (horse)", "needs amend, has read"]),
+        case(in_main("call horse <- gives_read()"), 8, "gives_read", &["needs horse{read}  (horse)", "has   call{read}   (the result of gives_read)", "needs horse, has call"]),
+        case(in_main("call calls <- gives_calls()"), 9, "gives_calls", &["needs tray[call{read}]{fetch,store,size}  (calls)", "has   tray[call{read}]{fetch,store}       (the result of gives_calls)", "needs size, has fetch,store"]),
+        case(returning(" gives call{read}", "horse"), 8, "horse", &["needs call{read}   (the result of back)", "has   horse{read}  (horse)", "needs call, has horse"]),
+        case(returning(" gives call{amend}", "reads"), 9, "reads", &["needs call{amend}  (the result of back)", "has   call{read}   (reads)", "needs amend, has read"]),
+    ]
+}
+
+#[rustfmt::skip]
+fn operands() -> Vec<Case> {
+    const CALLS: &str = "has   tray[call{read}]{fetch,store,size}  (calls)";
+    vec![
+        case(in_main("set calls := 1"), 8, "calls", &["needs integer", CALLS]),
+        case(in_main("add n := calls + n"), 8, "calls", &["needs integer", CALLS]),
+        case(in_main("less n := n < calls"), 8, "calls", &["needs integer", CALLS]),
+        case(in_main("put calls"), 8, "calls", &["needs integer", CALLS]),
+        case(in_main("newtray n[n]"), 8, "n", &["needs tray[..]{..}", "has   integer  (n)"]),
+        case(in_main("fetch reads <- both[n]"), 8, "both", &["needs tray[..]{..}", "has   call{read,amend}  (both)"]),
+        case(in_main("store calls[horse] <- reads"), 8, "horse", &["needs integer", "has   horse{read}  (horse)"]),
+        case(in_main("add calls := calls + n"), 8, "calls calls", &["needs integer", CALLS]),
+        case(in_main("size calls <- calls"), 8, "calls", &["needs integer", CALLS]),
+        case(in_module("newrecord horse"), 8, "horse", &["needs call{..}, the type that the procedure is of", "has   horse{read}  (horse)"]),
+        case(in_module("getslot n <- horse.length"), 8, "horse", &["needs call{..}, the type that the procedure is of", "has   horse{read}  (horse)"]),
+        case(in_main("fetch reads <- stored[n]"), 9, "stored", &["needs tray[call{read}]{fetch}", "has   tray[call{read}]{store}  (stored)", "needs fetch, has store"]),
+        case(in_main("store fetched[n] <- reads"), 9, "fetched", &["needs tray[call{read}]{store}", "has   tray[call{read}]{fetch}  (fetched)", "needs store, has fetch"]),
+        case(in_main("size n <- fetched"), 9, "fetched", &["needs tray[call{read}]{size}", "has   tray[call{read}]{fetch}  (fetched)", "needs size, has fetch"]),
+        case(in_module("getslot n <- closed.length"), 9, "closed", &["needs call{open}", "has   call{read}  (closed)", "needs open, has read"]),
+        case(in_module("setslot closed.length <- n"), 9, "closed", &["needs call{open}", "has   call{read}  (closed)", "needs open, has read"]),
+        case(in_main("call n <- nothing()"), 8, "n", &["`nothing` gives nothing: needs a call that keeps no result, keeps one"]),
+        case(returning(" gives call{read}", ""), 8, "return", &["`back` gives call{read}: needs a variable to return, has none"]),
+        case(returning("", "n"), 8, "n", &["`back` gives nothing: needs a return without a variable, has one"]),
+    ]
+}
+
+const OPEN_IN: &str = "only inside, in a variable of a procedure that is of the same type";
+
+#[rustfmt::skip]
+fn records() -> Vec<Case> {
+    vec![
+        case(String::from("type call{} (own: call{open})\nprocedure main\n return"), 6, "call{open}", &["has call{open}", "open may not stand in a slot"]),
+        case(String::from("type call{}\nqual q = tray[call{open}]{fetch}\nprocedure main\n return"), 6, "call{open}", &["has call{open}", "open may not stand in an element"]),
+        case(procedure("procedure p of call gives call{open}\n  variable own: call{open}\n return own"), 6, "call{open}", &["has call{open}", "open may not stand in a result"]),
+        case(procedure("procedure p of call\n  formal own: call{open}"), 6, "call{open}", &["has call{open}", "open may not stand in what a formal needs"]),
+        case(procedure("procedure p of horse\n  variable other: call{open,read}"), 6, "call{open,read}", &["has call{open,read}", "open may not stand in a variable outside the module of its type"]),
+        case(procedure("procedure p of horse\n  formal other: call{read} as call{amend}"), 7, "call{read} call{amend}", &["needs  call{read}", "inside call{amend}", "a formal may be more inside than it needs only if it is of the procedure's own type: the two must be equal"]),
+        case(procedure("procedure p of horse\n  formal other: call{read} as horse{open}"), 7, "call{read} horse{open}", &["needs  call{read}", "inside horse{open}", "a formal that is of the procedure's own type inside needs that type"]),
+    ]
+}
+
+/// A main of one variable that calls a procedure of two formals.
+fn two_formals(call: &str) -> String {
+    let main = format!("PR 0 0 1 255 2\nVR 0 255\n{call}\nIN 17 255 255 255 0");
+    let other = "PR 0 2 2 255 1\nVR 0 0\nVR 0 0\nIN 17 255 255 255 0";
+    format!("raw\nHD 1 0 1 2\nQT 0 0 255\n{main}\n{other}")
+}
+
+#[rustfmt::skip]
+fn layout() -> Vec<Case> {
+    let raw = |lines: &str| format!("raw\n{lines}");
+    const MAIN: &str = "PR 0 0 0 255 1\nIN 17 255 255 255 0";
+    vec![
+        case(raw(&format!("bytes{}", " 00".repeat(32_769))), 1, "", &["the sheet has 32769 bytes, at most 32768 are read"]),
+        case(raw("HD 1 0 0 1\nPR 0 0 0 255 1\nbytes 49 4E 11"), 2, "bytes 49 4E 11", &["IN, a record of 8 bytes, is due here, and 3 bytes are left"]),
+        case(raw("HD 1 0 0 1\nPR 0 0 0 255 1"), 2, "", &["IN, a record of 8 bytes, is due here, and 0 bytes are left"]),
+        case(raw(&format!("HD 1 0 0 1\n{MAIN}\nbytes 00")), 2, "bytes 00", &["1 byte is left over after the last record"]),
+        case(raw(&format!("HD 1 0 1 1\n{MAIN}")), 3, "PR 0 0 0 255 1", &["the mark QT is due here, found `PR`"]),
+        case(raw("bytes FF 00 00 00 00 00"), 3, "bytes FF 00 00 00 00 00", &["the mark HD is due here, found the bytes FF 00"]),
+        case(raw(&format!("HD 2 0 0 1\n{MAIN}")), 4, "2", &["the edition is 2, it must be 1"]),
+        case(raw("HD 1 33 0 1"), 5, "33", &["types: 33, it must be from 0 to 32"]),
+        case(raw("HD 1 0 0 0"), 5, "0", &["procedures: 0, it must be from 1 to 64"]),
+        case(raw(&format!("HD 1 1 0 1\nTY 16 0 255 255 255 255 255 255 255 255\n{MAIN}")), 5, "16", &["named rights: 16, it must be from 0 to 15"]),
+        case(raw(&format!("HD 1 1 0 1\nTY 0 1 0 255 255 255 255 255 255 255\n{MAIN}")), 5, "0", &["slot 0, a qualified type: 0, it must be below 0"]),
+        case(raw(&format!("HD 1 0 1 1\nQT 1 16 0\n{MAIN}")), 5, "16", &["rights: 0b0000000000010000, and a tray has the rights 1 fetch, 2 store, 3 size"]),
+        case(raw(&format!("HD 1 0 1 1\nQT 1 2 0\n{MAIN}")), 5, "0", &["element, a qualified type before this one: 0, it must be below 0"]),
+        case(raw("HD 1 0 0 1\nPR 2 0 0 255 1\nIN 17 255 255 255 0"), 5, "2", &["owner: 2, it must be 0 or a type from 2 to 1"]),
+        case(raw("HD 1 0 1 1\nQT 0 0 255\nPR 0 0 1 255 1\nVR 0 0\nIN 17 255 255 255 0"), 5, "0", &["need of a variable that is no formal: 0, it is not used here and must be 255"]),
+        case(raw("HD 1 0 0 1\nPR 0 0 0 255 2\nIN 18 255 255 255 0\nIN 17 255 255 255 0"), 5, "18", &["code: 18, it must be from 1 to 17"]),
+        case(raw("HD 1 0 0 1\nPR 0 0 0 255 2\nIN 7 3 255 255 0\nIN 17 255 255 255 0"), 5, "3", &["a, a variable: 3, it must be below 0"]),
+        case(raw("HD 1 0 0 1\nPR 0 0 0 255 2\nIN 16 255 255 255 9\nIN 17 255 255 255 0"), 5, "9", &["k, a procedure: 9, it must be below 1"]),
+        case(raw("HD 1 0 0 1\nPR 0 0 0 255 2\nIN 16 255 4 255 0\nIN 17 255 255 255 0"), 5, "4", &["b: 4, it must be 255, since procedure 0 has no formals"]),
+        case(two_formals("IN 16 255 0 255 1"), 5, "0", &["b: 0, so that the actuals are variables 0 to 1, and they must be below 1"]),
+        case(two_formals("IN 16 255 255 255 1"), 5, "255", &["b: 255, and procedure 1 has formals: 2"]),
+        case(String::from("procedure main\n  variable n: integer\n  set n := 1"), 5, "set", &["the last instruction is a return, found set"]),
+        case(String::from("procedure main\n  variable n: integer\n  newrecord n\n  return"), 5, "newrecord", &["newrecord needs a procedure that is of a type"]),
+    ]
+}
+
+#[test]
+fn explanations_mark_the_part_and_say_what_is_missing() {
+    let all = [movements(), operands(), records(), layout()];
+    for case in all.into_iter().flatten() {
+        let found = said(case.text.as_bytes());
+        let shown: String = case.text.chars().take(2_000).collect();
+        let number = format!("refused {} ", case.number);
+        assert!(
+            found.first.starts_with(&number),
+            "{}:\n{shown}",
+            found.first
+        );
+        assert_eq!(found.marked, case.marked, "{:?}:\n{shown}", found.lines);
+        let mut lines = found.lines;
+        if case.number == 6 {
+            let last = lines.pop().unwrap_or_default();
+            let (before, after) = last.split_once(": ").unwrap_or_default();
+            assert_eq!(after, OPEN_IN);
+            lines.push(String::from(before));
+        }
+        assert_eq!(lines, case.lines, "{shown}");
+    }
+}
+
+/// The first line that the verdict of the second engine would have.
+fn first_line(sheet: &[u8]) -> String {
+    match reference::check(sheet) {
+        Verdict::Accepted => String::from("accepted 0 0"),
+        Verdict::Refused { number, place } => format!("refused {number} {place}"),
+    }
+}
+
+#[test]
+fn every_flaw_is_explained_on_generated_sheets() {
+    for (number, flaw) in Flaw::all().into_iter().enumerate() {
+        for seed in 0..3 {
+            let breach = flaw.build(&mut Random::new(seed << 8 | number as u64));
+            let sheet = breach.broken.encode();
+            let found = said(&sheet);
+            assert_eq!(found.first, first_line(&sheet), "{flaw:?} {seed}");
+            assert!(!found.marked.is_empty(), "{flaw:?} {seed}");
+            let needs = found.lines.iter().any(|line| line.contains("needs "));
+            assert!(
+                needs || breach.number == 6,
+                "{flaw:?} {seed}: {:?}",
+                found.lines
+            );
+        }
+    }
+}
+
+#[test]
+fn every_refusal_of_hand_written_and_damaged_sheets_is_explained() {
+    let mut sheets: Vec<Vec<u8>> = cases().into_iter().map(|case| case.sheet).collect();
+    for seed in 0..500 {
+        let mut random = Random::new(seed);
+        let sound = accepted(&mut random);
+        sheets.push(damaged(&mut random, &sound));
+        sheets.push(random_bytes(&mut random));
+    }
+    let mut refused = 0;
+    for sheet in sheets {
+        let expected = first_line(&sheet);
+        if expected.starts_with("accepted") {
+            continue;
+        }
+        refused += 1;
+        let output = wennathig(&["check", "--bytes", "-"], &sheet);
+        let printed = stdout(&output);
+        assert_eq!(status(&output), 1, "{expected}: {output:?}");
+        assert!(printed.starts_with(&format!("{expected}\n")), "{printed}");
+        // After the word comes the place, and something is said of it.
+        let told = printed.lines().filter(|line| line.starts_with("  "));
+        assert!(told.count() > 0, "{printed}");
+    }
+    assert!(refused > 500, "only {refused} sheets were refused");
+}

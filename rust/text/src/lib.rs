@@ -1,0 +1,32 @@
+//! Worksheets as text: an assembler and a disassembler. docs/TEXT.md has the
+//! grammar.
+//!
+//! [`assemble`] makes the bytes of a text and a [`Listing`], which tells the
+//! line and the columns of every record. [`disassemble`] makes a text of any
+//! bytes, which assembles to the same bytes again.
+
+mod assemble;
+mod disassemble;
+pub mod field;
+mod grammar;
+mod lexer;
+mod listing;
+mod mnemonic;
+mod names;
+mod notation;
+mod outline;
+mod procedure;
+mod qualified;
+mod raw;
+mod record;
+mod span;
+mod syntax;
+
+pub use assemble::{assemble, Assembled};
+pub use disassemble::disassemble;
+pub use listing::{At, Entry, Listing};
+pub use mnemonic::{Mnemonic, Piece, MNEMONICS};
+pub use names::Names;
+pub use notation::Notation;
+pub use record::{Record, RecordKind};
+pub use span::{Error, Span};

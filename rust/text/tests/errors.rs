@@ -1,0 +1,110 @@
+//! What does not assemble: the line, the column and what was expected there.
+
+use text::assemble;
+
+/// A text, and the line, the column and a part of the message.
+const BAD: &[(&str, usize, usize, &str)] = &[
+    ("$", 1, 1, "expected a name, a number or a mark, found '$'"),
+    ("procedure main\nreturn\nbéf", 3, 2, "expected a name, a number or a mark, found 'é'"),
+    ("hello", 1, 1, "expected type, qual, procedure"),
+    ("{", 1, 1, "found `{`"),
+    ("12 set", 1, 1, "found `12`"),
+    ("return", 1, 1, "expected a `procedure` line before"),
+    ("loop: return", 1, 1, "expected a `procedure` line before"),
+    ("type", 1, 5, "expected the name of a type, found the end of the line"),
+    ("type 7", 1, 6, "expected the name of a type, found `7`"),
+    ("type integer", 1, 6, "`integer` has a meaning already"),
+    ("type call\ntype call", 2, 6, "`call` is declared in line 1"),
+    ("type call\nqual call = integer", 2, 6, "`call` is declared in line 1"),
+    ("type call{read", 1, 15, "expected `}`"),
+    ("type call{read,}", 1, 16, "expected a right, found `}`"),
+    ("type call{read,read}", 1, 16, "`read` is declared in line 1"),
+    ("type call{open}", 1, 11, "`open` is a right of every type"),
+    ("type t{a,b,c,d,e,f,g,h,i,j,k,l,m,n,o,p}", 1, 38, "expected at most 15 named rights"),
+    ("type call (time integer)", 1, 17, "expected `:`, found `integer`"),
+    ("type call (time: integer, time: integer)", 1, 27, "`time` is declared"),
+    ("type call (time: horse{})", 1, 18, "expected a declared type, found `horse`"),
+    ("type call (time: call)", 1, 18, "expected `{` and rights after the type `call`"),
+    ("type c (a: integer, b: integer, c: integer, d: integer, e: integer, f: integer, g: integer, h: integer, i: integer)", 1, 105, "expected at most 8 slots"),
+    ("type call{read}\nqual q = call{amend}", 2, 15, "expected a right of `call` (open, read), found `amend`"),
+    ("type call{read}\nqual q = call{read,read}", 2, 20, "expected another right, `read` stands here twice"),
+    ("qual q = tray[integer]{peek}", 1, 24, "expected a right of a tray (fetch, store, size), found `peek`"),
+    ("qual q = tray(integer)", 1, 14, "expected `[`, found `(`"),
+    ("qual q = tray[integer]", 1, 23, "expected `{`, found the end of the line"),
+    ("qual q = tray[r]{}\nqual r = integer", 1, 15, "expected a qualified type that is declared above, found `r`"),
+    ("qual q integer", 1, 8, "expected `=`, found `integer`"),
+    ("qual q = integer{}", 1, 17, "expected the end of the line, found `{`"),
+    ("procedure main\nprocedure main", 2, 11, "`main` is declared in line 1"),
+    ("procedure main of call", 1, 19, "expected a declared type, found `call`"),
+    ("procedure main gives", 1, 21, "expected a qualified type, found the end of the line"),
+    ("procedure main\n  variable i: integer\n  formal j: integer", 3, 3, "expected formals before all other variables"),
+    ("procedure main\n  return\n  variable i: integer", 3, 3, "expected variables before the instructions"),
+    ("procedure main\n  variable i, i: integer", 2, 15, "`i` is declared in line 2"),
+    ("procedure main\n  variable i integer", 2, 14, "expected `:`, found `integer`"),
+    ("procedure main\n  set i := 1", 2, 7, "expected a variable of `main`, found `i`"),
+    ("procedure main\n  variable i: integer\n  set i = 1", 3, 9, "expected `:=`, found `=`"),
+    ("procedure main\n  variable i: integer\n  set i := 65536", 3, 12, "expected a number from 0 to 65535, found `65536`"),
+    ("procedure main\n  variable i: integer\n  set i := 0x1g", 3, 12, "expected a number from 0 to 65535, found `0x1g`"),
+    ("procedure main\n  variable i: integer\n  add i := i - i", 3, 14, "expected `+`, found `-`"),
+    ("procedure main\n  variable i: integer\n  put i i", 3, 9, "expected the end of the line, found `i`"),
+    ("procedure main\n  variable i: integer\n  jumpzero i, on", 3, 15, "expected a label of `main`, found `on`"),
+    ("procedure main\n  variable i: integer\n  jumpzero i on", 3, 14, "expected `,`, found `on`"),
+    ("procedure main\non:\n  return\non: return", 4, 1, "`on` is declared in line 2"),
+    ("procedure main\n  return\non:  # the end", 3, 1, "expected an instruction after the label `on`"),
+    ("procedure main\n  call sum()", 2, 8, "expected a procedure, found `sum`"),
+    ("procedure main\n  call main(", 2, 13, "expected a variable, found the end of the line"),
+    ("procedure main\n  variable a, b: integer\n  call p(a)\nprocedure p\n  formal x, y: integer", 3, 8, "expected 2 actuals for `p`, found 1"),
+    ("procedure main\n  variable a, b: integer\n  call p(b, a)\nprocedure p\n  formal x, y: integer", 3, 13, "expected `no other`, the variable after the last actual, found `a`"),
+    ("procedure main\n  variable a, b, c: integer\n  call p(a, c)\nprocedure p\n  formal x, y: integer", 3, 13, "expected `b`, the variable after the last actual, found `c`"),
+    ("procedure main\n  variable a: integer\n  getslot a <- a.time", 3, 18, "`main` is of none"),
+    ("type t{} (s: integer)\nprocedure main of t\n  variable a: integer\n  setslot a.time <- a", 4, 13, "expected a slot of `t` (s), found `time`"),
+    ("raw\nXX 1 2", 2, 1, "expected HD, TY, QT, PR, VR, IN or `bytes`, found `XX`"),
+    ("raw\nHD 1 0 0", 2, 9, "expected a number from 0 to 255, found the end of the line"),
+    ("raw\nHD 1 0 0 256", 2, 10, "expected a number from 0 to 255, found `256`"),
+    ("raw\nVR 0 255 1", 2, 10, "expected the end of the line, found `1`"),
+    ("raw\nbytes 48 4", 2, 10, "expected a byte as two hexadecimal digits, found `4`"),
+    ("raw\nbytes GG", 2, 7, "expected a byte as two hexadecimal digits"),
+];
+
+#[test]
+fn errors_name_line_and_column_and_what_was_expected() {
+    for &(text, line, column, expected) in BAD {
+        let Err(error) = assemble(text) else {
+            panic!("assembles: {text:?}");
+        };
+        let found = (error.span.line, error.span.start);
+        assert_eq!(found, (line, column), "{text:?}: {error}");
+        let message = &error.message;
+        assert!(message.contains(expected), "{text:?}: {error}");
+        assert!(message.starts_with("expected "), "{text:?}: {error}");
+    }
+}
+
+#[test]
+fn trays_deeper_than_any_sheet_has_are_an_error() {
+    let deep = |depth: usize| {
+        let (before, after) = ("tray[".repeat(depth), "]{}".repeat(depth));
+        assemble(&format!("qual q = {before}integer{after}"))
+    };
+    assert!(deep(63).is_ok());
+    for depth in [64, 65, 10_000] {
+        let error = deep(depth).err().expect("too deep");
+        assert!(error.message.contains("64 trays"), "{error}");
+    }
+}
+
+/// The texts that are cut short or have a character changed are errors or
+/// sheets, and nothing else happens.
+#[test]
+fn no_text_makes_the_assembler_panic() {
+    let sheet = generator::showcase::showcase().encode();
+    let text = text::disassemble(&sheet);
+    for place in 0..text.len() {
+        let _ = assemble(&text[..place]);
+        for other in [
+            "", "{", "}", "[", ",", "\n", "0", "v0", ":", "é", "\u{0}", ".",
+        ] {
+            let _ = assemble(&format!("{}{other}{}", &text[..place], &text[place + 1..]));
+        }
+    }
+}
