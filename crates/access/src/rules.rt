@@ -15,7 +15,7 @@ use sheet::places::type_at;
 ghost use mathlib.Core.Path.{_≡_};
 ghost use mathlib.Core.Bool.{cond};
 ghost use Rattle.model.specs.Refusal.{failure};
-ghost use Rattle.model.specs.Rules.{moves, one-integer, three-integers, new-array-rule, new-record-rule, fetch-rule, store-rule, size-rule, get-slot-rule, set-slot-rule};
+ghost use Rattle.model.specs.Rules.{moves, integer-rule, integers-rule, new-array-rule, new-record-rule, fetch-rule, store-rule, size-rule, get-slot-rule, set-slot-rule};
 ghost use Rattle.sheet.specs.Layout.{ownerAt, namedOf};
 ghost use Rattle.sheet.specs.Meaning.{innerIn, slotIn};
 
@@ -27,13 +27,13 @@ pub fn require(holds: bool, number: u8, rest: u8) -> u8
 }
 
 pub fn integer_rule(s: &[u8], pr: u32, a: u8) -> u8
-    ensures { λ r. ⌜ r ≡ failure (one-integer (innerIn (now (s .entry)) pr a)) ⌝ }
+    ensures { λ r. ⌜ r ≡ failure (integer-rule (innerIn (now (s .entry)) pr a)) ⌝ }
 {
     require(is_integer(s, inner_of(s, pr, a)), 8, 0)
 }
 
 pub fn integers_rule(s: &[u8], pr: u32, a: u8, b: u8, c: u8) -> u8
-    ensures { λ r. ⌜ r ≡ failure (three-integers (innerIn (now (s .entry)) pr a) (innerIn (now (s .entry)) pr b) (innerIn (now (s .entry)) pr c)) ⌝ }
+    ensures { λ r. ⌜ r ≡ failure (integers-rule (innerIn (now (s .entry)) pr a) (innerIn (now (s .entry)) pr b) (innerIn (now (s .entry)) pr c)) ⌝ }
 {
     let x = is_integer(s, inner_of(s, pr, a));
     let y = is_integer(s, inner_of(s, pr, b));

@@ -9,7 +9,7 @@ use lib.Dec.{eqb}
 use borrow.Author.Tests.{ne-eqb}
 use Rattle.model.specs.Rights.{Rights, within}
 use Rattle.model.specs.Qualified.{Qual, integer, array, declared, base, rights, isInteger}
-use Rattle.model.specs.Outcome.{blank, past-end, input-ended, output-full, memory-full, wrong-kind, missing-right, Res, ok, stop, stuck, _>>=_, _>>_, test}
+use Rattle.model.specs.Outcome.{blank, past-end, input-ended, output-full, memory-full, wrong-kind, missing-right, Res, ok, stop, stuck, _>>=_, _>>_, ensure}
 use Rattle.model.specs.Program.{Program}
 use Rattle.model.specs.Modes.{watched, Kind, integer-kind, no-kind, amiss, fits, bind, is-record-of, raise-if, raise, bind-result}
 use Rattle.model.specs.Machine.{Value, word, object, Cell, empty, filled, Head, View, held, kind-at, kind-of-head, moved, actual, handed}
@@ -112,15 +112,15 @@ kind-seen s h v (object a) e = ap kind-of-head (e a)
 
 module _ (g : Program) (v : View watched) (q : Qual) (x : Value) (m : Rights) where
   pub bound-misfit : fits q (kind-at (v .head) x) ≡ false → moved watched g v q (filled x m) ≡ stop wrong-kind
-  unfolding moved held bind test _>>=_ _>>_
+  unfolding moved held bind ensure _>>=_ _>>_
   bound-misfit e = rw e
 
   pub bound-without : fits q (kind-at (v .head) x) ≡ true → within (rights q) m ≡ false → moved watched g v q (filled x m) ≡ stop missing-right
-  unfolding moved held bind test _>>=_ _>>_
+  unfolding moved held bind ensure _>>=_ _>>_
   bound-without e d = rw (e, d)
 
   pub bound : fits q (kind-at (v .head) x) ≡ true → within (rights q) m ≡ true → moved watched g v q (filled x m) ≡ ok (filled x (rights q))
-  unfolding moved held bind test _>>=_ _>>_
+  unfolding moved held bind ensure _>>=_ _>>_
   bound e d = rw (e, d)
 
 -- what the tests of the code say

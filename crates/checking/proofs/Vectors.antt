@@ -4,7 +4,7 @@ use mathlib.Core.List.{List, map}
 use Rattle.model.specs.Rights.{within, has, none-above}
 use Rattle.model.specs.Qualified.{base, rights, element, isInteger, isArray, same, alike, order}
 use Rattle.model.specs.Refusal.{failure, refuse, verdict, span, all-from}
-use Rattle.model.specs.Rules.{optional, moves, owned-by, one-integer, return-rule, closed, closed-result, agrees, formal-rule, local-rule, declaration-rule, optional-variable, closed-rule, rule, type-rules, qual-rules, variable-rule, variable-rules, instruction-rules, head-rules, procedure-rules, access-rules}
+use Rattle.model.specs.Rules.{optional, moves, owned-by, integer-rule, return-rule, closed, closed-result, agrees, formal-rule, local-rule, declaration-rule, optional-variable, closed-rule, rule, type-rules, qual-rules, variable-rule, variable-rules, instruction-rules, head-rules, procedure-rules, access-rules}
 use Rattle.sheet.specs.Bytes.{byteAt, wordAt, wholeAt, markedAt}
 use Rattle.sheet.specs.Layout.{editionOf, typesOf, qualsOf, proceduresOf, typeAt, namedOf, slotsOf, slotOf, qualAt, baseOf, rightsOf, elementOf, ownerAt, formalsAt, variablesAt, resultAt, instructionsAt, variableAt, innerAt, needAt, instructionAt, codeAt, kAt, procedureAt}
 use Rattle.sheet.specs.Decode.{decode, operationAt}
@@ -15,5 +15,5 @@ use Rattle.checking.specs.Check.{check-tests, check}
 use Rattle.checking.specs.Vectors.{Answer, answer, studbook, smallest, questions, answers}
 
 pub vectors : map answer questions ≡ answers
-unfolding within has none-above base rights element isInteger isArray same alike order failure refuse verdict span all-from optional moves owned-by one-integer return-rule closed closed-result agrees formal-rule local-rule declaration-rule optional-variable closed-rule rule type-rules qual-rules variable-rule variable-rules instruction-rules head-rules procedure-rules access-rules byteAt wordAt wholeAt markedAt editionOf typesOf qualsOf proceduresOf typeAt namedOf slotsOf slotOf qualAt baseOf rightsOf elementOf ownerAt formalsAt variablesAt resultAt instructionsAt variableAt innerAt needAt instructionAt codeAt kAt procedureAt decode operationAt shaped baseIn elementIn tree qualOf slotIn innerIn needIn resultIn below-or-none header-scale type-scale rights-scale qual-scale procedure-scale variable-scale uses-b uses-c a-scale b-scale c-scale k-scale instruction-scale actuals-scale length-tests record-tests header-tests type-tests qual-tests head-tests variable-tests instruction-tests-at instruction-tests procedure-tests-at procedure-tests leftover-tests layout-tests call-tests-at call-tests procedure-calls calls-tests form-tests check-tests check studbook smallest questions answers
+unfolding within has none-above base rights element isInteger isArray same alike order failure refuse verdict span all-from optional moves owned-by integer-rule return-rule closed closed-result agrees formal-rule local-rule declaration-rule optional-variable closed-rule rule type-rules qual-rules variable-rule variable-rules instruction-rules head-rules procedure-rules access-rules byteAt wordAt wholeAt markedAt editionOf typesOf qualsOf proceduresOf typeAt namedOf slotsOf slotOf qualAt baseOf rightsOf elementOf ownerAt formalsAt variablesAt resultAt instructionsAt variableAt innerAt needAt instructionAt codeAt kAt procedureAt decode operationAt shaped baseIn elementIn tree qualOf slotIn innerIn needIn resultIn below-or-none header-scale type-scale rights-scale qual-scale procedure-scale variable-scale uses-b uses-c a-scale b-scale c-scale k-scale instruction-scale actuals-scale length-tests record-tests header-tests type-tests qual-tests head-tests variable-tests instruction-tests-at instruction-tests procedure-tests-at procedure-tests leftover-tests layout-tests call-tests-at call-tests procedure-calls calls-tests form-tests check-tests check studbook smallest questions answers
 vectors = refl

@@ -3,7 +3,7 @@ use Prim.Native.Nat.{ℕ}
 use mathlib.Core.Bool.{Bool, true, false}
 use mathlib.Core.List.{List, [], _∷_}
 use Rattle.model.specs.Qualified.{order}
-use Rattle.model.specs.Refusal.{number-of, place-of}
+use Rattle.model.specs.Refusal.{verdict-number, verdict-place}
 use Rattle.sheet.specs.Meaning.{qualOf}
 use Rattle.checking.specs.Check.{check}
 
@@ -19,7 +19,7 @@ pub data Answer : Type 0 where
 
 abbrev pub answer : Question → Answer
 answer (above s i j) = holds (order (qualOf s i) (qualOf s j))
-answer (checked s) = says (number-of (check s)) (place-of (check s))
+answer (checked s) = says (verdict-number (check s)) (verdict-place (check s))
 
 -- types 2 call and 3 horse, each with rights 1 read and 2 amend; QT 0 call{read,amend}, 1 call{read}, 2 call{}, 3 horse{read},
 -- 4 tray[call{read}]{fetch,store}, 5 tray[call{read}]{fetch}, 6 tray[call{read,amend}]{fetch,store}, 7 tray[call{read,amend}]{fetch},

@@ -9,7 +9,7 @@ use borrow.Author.Tests.{le-leb, lt-leb, eqb-true, eqb-false}
 use lib.Dec.{eqb}
 use lib.ListN.{length, getD, take, drop}
 use lib.Seq.{drop-cons, getD-take, getD-drop}
-use Rattle.model.specs.Outcome.{Stop, number, blank, memory-full, Res, ok, stop, test, _>>=_, _>>_}
+use Rattle.model.specs.Outcome.{Stop, stop-number, blank, memory-full, Res, ok, stop, ensure, _>>=_, _>>_}
 use Rattle.model.specs.Program.{Program}
 use Rattle.model.specs.Modes.{plain, bind, raise, demand}
 use Rattle.model.specs.Machine as M
@@ -79,17 +79,17 @@ module _ (g : Program) (v : View plain) (k b : ℕ) where
 
   module _ (a : ℕ) where
     call-full : v .room < g .variables k + 2 → plan plain g v (Call a b k) ≡ stop memory-full
-    unfolding plan plan-call demand test _>>=_ _>>_
+    unfolding plan plan-call demand ensure _>>=_ _>>_
     call-full h = rw (lt-leb (g .variables k + 2) (v .room) h)
 
     module _ (room : g .variables k + 2 ≤ v .room) where
       call-blank : (i : ℕ) → i < g .formals k → v .variable (b + i) ≡ empty → plan plain g v (Call a b k) ≡ stop blank
-      unfolding plan plan-call demand test _>>=_ _>>_
+      unfolding plan plan-call demand ensure _>>=_ _>>_
       call-blank i h e = rw (le-leb (g .variables k + 2) (v .room) room, actuals-blank 0 (g .formals k) i (omega arith) (omega arith) e)
 
       call-opens : ((i : ℕ) → i < g .formals k → Holds (v .variable (b + i)))
           → plan plain g v (Call a b k) ≡ ok (M.call k (cells-from (v .variable) b 0 (g .formals k)))
-      unfolding plan plan-call demand test _>>=_ _>>_
+      unfolding plan plan-call demand ensure _>>=_ _>>_
       call-opens h =
           rw (le-leb (g .variables k + 2) (v .room) room, actuals-filled 0 (g .formals k) (λ i l m. h i (omega arith)))
 
@@ -97,7 +97,7 @@ module _ (g : Program) (v : View plain) (k b : ℕ) where
 
 -- a stop that was planned
 stopped : (c : Given) (words out s : List ℕ) (r : Registers) (t : State plain) (x : Stop) (e : Res (Effect plain)) → e ≡ stop x
-    → After plain c words out out r (Halt (number x)) (performed s t e)
+    → After plain c words out out r (Halt (stop-number x)) (performed s t e)
 unfolding _>>=_
 stopped c words out s r t x e is = rw is (refl, refl)
 

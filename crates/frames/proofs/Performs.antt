@@ -6,7 +6,7 @@ use mathlib.Core.Path.{_≡_, refl, sym, ap, subst, _∙_}
 use mathlib.Core.List.{List}
 use lib.Dec.{ltb}
 use lib.ListN.{length, getD, take, drop}
-use Rattle.model.specs.Outcome.{output-full, Res, ok, stop, stuck, test, _>>=_, _>>_}
+use Rattle.model.specs.Outcome.{output-full, Res, ok, stop, stuck, ensure, _>>=_, _>>_}
 use Rattle.model.specs.Modes.{Mode}
 use Rattle.model.specs.Qualified.{Qual}
 use Rattle.model.specs.Program.{Program}
@@ -183,7 +183,7 @@ module _ (m : Mode) (g : Program) (v : View m) (a : ℕ) (n : Number)
   puts : (free : ℕ) → free ≡ v .free → Unless-stuck (plan m g v (Op.Put a)) (put-effect m free n ≡ plan m g v (Op.Put a))
   unfolding plan put-effect
   puts free f =
-      unless-then (one-integer m g v a) (λ x. (test output-full (ltb 0 (v .free)) >> ok (M.put x))) (number-as m n ≡ one-integer m g v a)
+      unless-then (one-integer m g v a) (λ x. (ensure output-full (ltb 0 (v .free)) >> ok (M.put x))) (number-as m n ≡ one-integer m g v a)
       (put-effect m free n ≡ plan m g v (Op.Put a)) reads
       (λ e. rw (f, e))
 

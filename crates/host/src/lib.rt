@@ -5,17 +5,17 @@ use replies::put_reply;
 ghost use mathlib.Core.Path.{_≡_};
 ghost use lib.ListN.{set};
 ghost use Rattle.model.specs.Modes.{plain};
-ghost use Rattle.model.specs.Refusal.{number-of, place-of};
+ghost use Rattle.model.specs.Refusal.{verdict-number, verdict-place};
 ghost use Rattle.checking.specs.Check.{check};
-ghost use Rattle.running.specs.Run as def;
-ghost use Rattle.running.specs.Run.{memory-after, output-after};
+ghost use Rattle.run.specs.Run as def;
+ghost use Rattle.run.specs.Run.{memory-after, output-after};
 ghost use Rattle.replies.specs.Words.{reply-words};
 
 // The number of the refusal, 0 where the sheet is accepted; its place goes to the first word of the reply, where there is one.
 #[no_mangle]
 pub extern "C" fn wn_check(sheet: &[u8], reply: &mut [u64]) -> u64
-    ensures { λ r. ⌜ r ≡ number-of (check (now (sheet .entry))) ⌝ }
-    ensures { λ r. ⌜ now (reply .exit) ≡ set (now (reply .entry)) 0 (place-of (check (now (sheet .entry)))) ⌝ }
+    ensures { λ r. ⌜ r ≡ verdict-number (check (now (sheet .entry))) ⌝ }
+    ensures { λ r. ⌜ now (reply .exit) ≡ set (now (reply .entry)) 0 (verdict-place (check (now (sheet .entry)))) ⌝ }
 {
     match checking::check(sheet) {
         Verdict::Accepted => {
@@ -44,7 +44,7 @@ pub extern "C" fn wn_run(
     ensures { λ r. ⌜ now (report .exit) ≡ output-after plain (now (sheet .entry)) (now (reads .entry)) fuel (now (bench .entry)) (now (report .entry)) ⌝ }
     ensures { λ r. ⌜ now (reply .exit) ≡ reply-words (now (reply .entry)) (def.reply plain (now (sheet .entry)) (now (reads .entry)) fuel (now (bench .entry)) (now (report .entry))) ⌝ }
 {
-    let r = running::run(sheet, reads, fuel, bench, report);
+    let r = run::run(sheet, reads, fuel, bench, report);
     put_reply(reply, r);
     r.number
 }

@@ -2,8 +2,8 @@
 use replies::put_reply;
 ghost use mathlib.Core.Path.{_≡_};
 ghost use Rattle.model.specs.Modes.{watched};
-ghost use Rattle.running.specs.Run as def;
-ghost use Rattle.running.specs.Run.{memory-after, output-after};
+ghost use Rattle.run.specs.Run as def;
+ghost use Rattle.run.specs.Run.{memory-after, output-after};
 ghost use Rattle.replies.specs.Words.{reply-words};
 
 // Runs a sheet on the watched machine: the number; the reply has the rest.
@@ -21,7 +21,7 @@ pub extern "C" fn wn_watch(
     ensures { λ r. ⌜ now (report .exit) ≡ output-after watched (now (sheet .entry)) (now (reads .entry)) fuel (now (bench .entry)) (now (report .entry)) ⌝ }
     ensures { λ r. ⌜ now (reply .exit) ≡ reply-words (now (reply .entry)) (def.reply watched (now (sheet .entry)) (now (reads .entry)) fuel (now (bench .entry)) (now (report .entry))) ⌝ }
 {
-    let r = running::watch(sheet, reads, fuel, bench, report);
+    let r = run::watch(sheet, reads, fuel, bench, report);
     put_reply(reply, r);
     r.number
 }

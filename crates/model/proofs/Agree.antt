@@ -11,7 +11,7 @@ use Rattle.model.specs.Qualified.{Qual, base, rights, element, isInteger
 use Rattle.model.specs.Program.{Program}
 use Rattle.model.proofs.Rights.{within-refl}
 use Rattle.model.proofs.Order.{same-sound}
-use Rattle.model.specs.Outcome.{Stop, Res, ok, stop, _>>=_, _>>_, test, found}
+use Rattle.model.specs.Outcome.{Stop, Res, ok, stop, _>>=_, _>>_, ensure, found}
 use Rattle.model.specs.Modes.{plain, watched, Kind, demand, licence, is-of, fits, bind, bind-element, bind-result, is-record-of, raise-if, raise}
 use Rattle.model.specs.Machine.{Value, word, object, Cell, Head, array-head, record-head, kind-of-head, kind-at, View, held, as-integer, array-head-of, record-head-of, array-at, record-at, slot-there}
 use Rattle.model.specs.Claim.{Regular-stop}
@@ -34,7 +34,7 @@ fit-move {h} {s} {q} {v} (fit f) m = fit (fits-move s q (kind-at h v) f (m .kind
 pub bind-ok :
     (q : Qual) (k : Kind watched) (r : Rights) (k′ : Kind plain) → fits q k ≡ true → within (rights q) r ≡ true →
     Agree (Granted q) (bind watched q k r) (bind plain q k′ tt)
-unfolding bind test _>>_
+unfolding bind ensure _>>_
 bind-ok q k r k′ f w = rw (f, w) (both granted)
 
 -- into a cell of an array: the object's own element declares it
@@ -108,8 +108,8 @@ module _ {A B : Type 0} {Q : A → B → Type 0} where
   with-integer {h} {q} {v = object a} (fit w) i k = absurd (not-object q (h a) i w)
 
   -- a test that both machines make
-  pub with-test : (s : Stop) → Regular-stop s → (b : Bool) {r : Res A} {r′ : Res B} → (b ≡ true → Agree Q r r′) → Agree Q (test s b >> r) (test s b >> r′)
-  unfolding test _>>_
+  pub with-test : (s : Stop) → Regular-stop s → (b : Bool) {r : Res A} {r′ : Res B} → (b ≡ true → Agree Q r r′) → Agree Q (ensure s b >> r) (ensure s b >> r′)
+  unfolding ensure _>>_
   with-test s c true k = k refl
   with-test s c false k = halt c
 
@@ -122,11 +122,11 @@ module _ {A B : Type 0} {Q : A → B → Type 0} where
 
   -- a test that only the watched machine makes, and passes
   pub with-demand : {b : Bool} {r : Res A} {r′ : Res B} → b ≡ true → Agree Q r r′ → Agree Q (demand watched b >> r) (demand plain b >> r′)
-  unfolding test demand _>>_
+  unfolding ensure demand _>>_
   with-demand e k = rw e k
 
   pub with-licence : (i : ℕ) (r : Rights) {f : Res A} {f′ : Res B} → has i r ≡ true → Agree Q f f′ → Agree Q (licence watched i r >> f) (licence plain i tt >> f′)
-  unfolding test licence _>>_
+  unfolding ensure licence _>>_
   with-licence i r e k = rw e k
 
   module _ (g : Program) (v : View watched) (v′ : View plain) where
@@ -155,7 +155,7 @@ module _ {A B : Type 0} {Q : A → B → Type 0} where
         Fit (v .head) q x → Owned o q →
         ((a n : ℕ) → v .head a ≡ record-head o n → n ≡ g .slots o → ((i : ℕ) → CellRel (v .head) (g .slot o i) (v .cell a i) (v′ .cell a i)) → Agree Q (f (a, n)) (f′ (a, n))) →
         Agree Q (record-at watched g v o x >>= f) (record-at plain g v′ o x >>= f′)
-    unfolding record-at record-head-of is-of test _>>=_ _>>_
+    unfolding record-at record-head-of is-of ensure _>>=_ _>>_
     with-record {q} {x = word n} o f f′ s (fit w) t k = absurd (owned-not-integer o q t w)
     with-record {q} {x = object a} o f f′ s (fit w) t k = go (v .head a) (v′ .head a) refl w (s a)
       where

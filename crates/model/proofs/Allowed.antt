@@ -10,8 +10,8 @@ use borrow.Author.Tests.{lt-ltb, leb-true, eqb-true, not-true}
 use Rattle.model.specs.Rights.{within, has, none-above, record-rights, open-right, fetch-right, store-right, size-right, array-rights}
 use Rattle.model.specs.Qualified.{Qual, base, rights, element, isInteger, isArray, same, alike}
 use Rattle.model.specs.Program.{Program}
-use Rattle.model.specs.Refusal.{wrong-kind, missing-right, open-exposed, false-raise, Test, test, Tests, tests, failure, verdict, span}
-use Rattle.model.specs.Rules.{optional, moves, owned-by, one-integer, three-integers, new-array-rule, new-record-rule, fetch-rule, store-rule, size-rule, get-slot-rule, set-slot-rule, return-rule, keeps, kept-rule, closed, closed-result, agrees, formal-rule, local-rule, declaration-rule, optional-variable, call-rule, closed-rule, rule, type-rules, qual-rules, variable-rule, variable-rules, instruction-rules, head-rules, procedure-rules, access-rules}
+use Rattle.model.specs.Refusal.{type-mismatch, insufficient-rights, open-exposed, false-raise, Test, test, Tests, tests, failure, verdict, span}
+use Rattle.model.specs.Rules.{optional, moves, owned-by, integer-rule, integers-rule, new-array-rule, new-record-rule, fetch-rule, store-rule, size-rule, get-slot-rule, set-slot-rule, return-rule, keeps, kept-rule, closed, closed-result, agrees, formal-rule, local-rule, declaration-rule, optional-variable, call-rule, closed-rule, rule, type-rules, qual-rules, variable-rule, variable-rules, instruction-rules, head-rules, procedure-rules, access-rules}
 use Rattle.model.specs.declared.Verdict.the-variants.{Accepted}
 use Rattle.model.specs.declared.Operation.{Operation}
 use Rattle.model.specs.declared.Operation.the-variants.{Set, Add, Subtract, Less, JumpZero, Bind, Take, Put, NewArray, Fetch, Store, Size, NewRecord, GetSlot, SetSlot, Call, Return}
@@ -83,22 +83,22 @@ Allowed g p (Return a) = Returned (g .inner p) (optional a) (g .result p)
 moved : (s d : Qual) → failure (moves s d) ≡ 0 → Moves s d
 unfolding moves
 moved s d h =
-    let x = passed-test wrong-kind (alike s d) _ h in
-    let y = passed-test missing-right (within (rights d) (rights s)) _ (x .1) in
+    let x = passed-test type-mismatch (alike s d) _ h in
+    let y = passed-test insufficient-rights (within (rights d) (rights s)) _ (x .1) in
     record { kinds = x .0; licensed = y .0 }
 
 -- the tests of kind, then of a right, then the movements
-kind-right : (a b : Bool) (ts : List Test) → failure (test wrong-kind a ∷ test missing-right b ∷ ts) ≡ 0 → (a ≡ true) × (b ≡ true) × (failure ts ≡ 0)
-kind-right a b ts h = let x = passed-test wrong-kind a _ h in let y = passed-test missing-right b ts (x .1) in (x .0, y .0, y .1)
+kind-right : (a b : Bool) (ts : List Test) → failure (test type-mismatch a ∷ test insufficient-rights b ∷ ts) ≡ 0 → (a ≡ true) × (b ≡ true) × (failure ts ≡ 0)
+kind-right a b ts h = let x = passed-test type-mismatch a _ h in let y = passed-test insufficient-rights b ts (x .1) in (x .0, y .0, y .1)
 
-one-fact : (a : Qual) → failure (one-integer a) ≡ 0 → isInteger a ≡ true
-unfolding one-integer
-one-fact a h = passed-test wrong-kind (isInteger a) _ h .0
+one-fact : (a : Qual) → failure (integer-rule a) ≡ 0 → isInteger a ≡ true
+unfolding integer-rule
+one-fact a h = passed-test type-mismatch (isInteger a) _ h .0
 
-three-fact : (a b c : Qual) → failure (three-integers a b c) ≡ 0 → (isInteger a ≡ true) × (isInteger b ≡ true) × (isInteger c ≡ true)
-unfolding three-integers
+three-fact : (a b c : Qual) → failure (integers-rule a b c) ≡ 0 → (isInteger a ≡ true) × (isInteger b ≡ true) × (isInteger c ≡ true)
+unfolding integers-rule
 three-fact a b c h =
-    let x = both-true (isInteger a && isInteger b) (isInteger c) (passed-test wrong-kind _ _ h .0) in
+    let x = both-true (isInteger a && isInteger b) (isInteger c) (passed-test type-mismatch _ _ h .0) in
     let y = both-true (isInteger a) (isInteger b) (x .0) in
     (y .0, y .1, x .1)
 
@@ -164,8 +164,8 @@ return-fact : (inner : ℕ → Qual) (a : Option ℕ) (r : Option Qual) → fail
 unfolding return-rule optional-variable
 return-fact inner none none h = tt
 return-fact inner (some a) (some r) h = moved (inner a) r h
-return-fact inner none (some r) h = false≢true (passed-test wrong-kind false [] h .0)
-return-fact inner (some a) none h = false≢true (passed-test wrong-kind false [] h .0)
+return-fact inner none (some r) h = false≢true (passed-test type-mismatch false [] h .0)
+return-fact inner (some a) none h = false≢true (passed-test type-mismatch false [] h .0)
 
 call-fact :
     (inner need : ℕ → Qual) (formals : ℕ) (r : Option Qual) (a b : ℕ) → failure (call-rule inner need formals r a b) ≡ 0 →
@@ -174,7 +174,7 @@ unfolding call-rule
 call-fact inner need formals r a b h =
     let actuals : ℕ → List Test = λ j. moves (inner (b + j)) (need j) in
     let kept = kept-rule (optional-variable inner (optional a)) r in
-    let x = passed-test wrong-kind (keeps (optional-variable inner (optional a)) r) _ h in
+    let x = passed-test type-mismatch (keeps (optional-variable inner (optional a)) r) _ h in
     let y = sym (failure-append (span actuals 0 formals) kept) ∙ x .1 in (
       λ j l. moved (inner (b + j)) (need j) (rw zero-add at (passed-span actuals formals 0 (first-left _ (failure kept) y) j l)),
       kept-fact inner (optional a) r (x .0) (first-right (failure (span actuals 0 formals)) _ y),

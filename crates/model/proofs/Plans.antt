@@ -12,8 +12,8 @@ use Rattle.model.specs.Program.{Program}
 use Rattle.model.specs.Rules.{optional}
 use Rattle.model.specs.declared.Operation.{Operation}
 use Rattle.model.specs.declared.Operation.the-variants.{Set, Add, Subtract, Less, JumpZero, Bind, Take, Put, NewArray, Fetch, Store, Size, NewRecord, GetSlot, SetSlot, Call, Return}
-use Rattle.model.specs.Outcome.{Stop, done, fuel-spent, blank, past-end, input-ended, output-full, memory-full, wrong-kind, missing-right, Res, ok, stop, stuck, _>>=_, _>>_, test, found}
-use Rattle.model.specs.Modes.{Mode, plain, watched, Mark, ElementMark, TypeMark, Kind, amiss, demand, licence, is-of, fits, bind, is-record-of, raise-if, raise, bind-element, bind-result}
+use Rattle.model.specs.Outcome.{Stop, done, fuel-spent, blank, past-end, input-ended, output-full, memory-full, wrong-kind, missing-right, Res, ok, stop, stuck, _>>=_, _>>_, ensure, found}
+use Rattle.model.specs.Modes.{Mode, plain, watched, Carried, ElementInfo, TypeInfo, Kind, amiss, demand, licence, is-of, fits, bind, is-record-of, raise-if, raise, bind-element, bind-result}
 use Rattle.model.specs.Machine.{Value, word, object, Cell, empty, filled, Head, array-head, record-head, no-head, View, Effect, write, take, put, jump, skip, new-array, new-record, store, call, resume, over, held, as-integer, array-head-of, record-head-of, array-at, record-at, moved, give, integers, one-integer, plan-array, plan-record, plan-fetch, plan-store, plan-size, slot-there, plan-get, plan-set, actual, actuals, plan-call, handed, into-caller, to-caller, plan-return, gives, branch, plan}
 
 -- ---- What a result may be
@@ -63,15 +63,15 @@ module _ {m : Mode} {A : Type 0} {P : A → Type 0} where
   and-do (stops c) k = stops c
   and-do (sticks u) k = sticks u
 
-  and-test : (s : Stop) → Stops m ⊥ s → (b : Bool) {r : Res A} → (b ≡ true → Comes m P r) → Comes m P (test s b >> r)
-  unfolding test _>>_
+  and-test : (s : Stop) → Stops m ⊥ s → (b : Bool) {r : Res A} → (b ≡ true → Comes m P r) → Comes m P (ensure s b >> r)
+  unfolding ensure _>>_
   and-test s c true k = k refl
   and-test s c false k = stops c
 
 -- ---- The tests of Modes.antt
 
-test-comes : {m : Mode} (s : Stop) → Stops m ⊥ s → (b : Bool) → Comes m Any (test s b)
-unfolding test
+test-comes : {m : Mode} (s : Stop) → Stops m ⊥ s → (b : Bool) → Comes m Any (ensure s b)
+unfolding ensure
 test-comes s c true = goes tt
 test-comes s c false = stops c
 
@@ -90,17 +90,17 @@ unfolding demand
 demand-comes plain b = goes tt
 demand-comes watched b = test-comes wrong-kind tt b
 
-licence-comes : (m : Mode) (i : ℕ) (r : Mark m) → Comes m Any (licence m i r)
+licence-comes : (m : Mode) (i : ℕ) (r : Carried m) → Comes m Any (licence m i r)
 unfolding licence
 licence-comes plain i r = goes tt
 licence-comes watched i r = test-comes missing-right tt (has i r)
 
-is-of-comes : (m : Mode) (t : ℕ) (u : TypeMark m) → Comes m Any (is-of m t u)
+is-of-comes : (m : Mode) (t : ℕ) (u : TypeInfo m) → Comes m Any (is-of m t u)
 unfolding is-of
 is-of-comes plain t u = goes tt
 is-of-comes watched t u = test-comes wrong-kind tt (eqb u t)
 
-bind-comes : (m : Mode) (q : Qual) (k : Kind m) (r : Mark m) → Comes m Any (bind m q k r)
+bind-comes : (m : Mode) (q : Qual) (k : Kind m) (r : Carried m) → Comes m Any (bind m q k r)
 unfolding bind
 bind-comes plain q k r = goes tt
 bind-comes watched q k r =
@@ -108,7 +108,7 @@ bind-comes watched q k r =
     (and-do (test-comes missing-right tt (within (rights q) r))
     (goes tt))
 
-raise-comes : (m : Mode) (o : ℕ) (inner : Qual) (k : Kind m) (r : Mark m) → Comes m Any (raise m o inner k r)
+raise-comes : (m : Mode) (o : ℕ) (inner : Qual) (k : Kind m) (r : Carried m) → Comes m Any (raise m o inner k r)
 unfolding raise raise-if
 raise-comes plain o inner k r = goes tt
 raise-comes watched o inner k r = either (is-record-of o k && eqb (base inner) o)
@@ -117,12 +117,12 @@ raise-comes watched o inner k r = either (is-record-of o k && eqb (base inner) o
     either true = goes tt
     either false = bind-comes watched inner k r
 
-element-comes : (m : Mode) (e : ElementMark m) (k : Kind m) (r : Mark m) → Comes m Any (bind-element m e k r)
+element-comes : (m : Mode) (e : ElementInfo m) (k : Kind m) (r : Carried m) → Comes m Any (bind-element m e k r)
 unfolding bind-element
 element-comes plain e k r = goes tt
 element-comes watched e k r = bind-comes watched e k r
 
-result-comes : (m : Mode) (q : Option Qual) (k : Kind m) (r : Mark m) → Comes m Any (bind-result m q k r)
+result-comes : (m : Mode) (q : Option Qual) (k : Kind m) (r : Carried m) → Comes m Any (bind-result m q k r)
 unfolding bind-result
 result-comes plain q k r = goes tt
 result-comes watched none k r = stops tt

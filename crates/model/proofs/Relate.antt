@@ -10,7 +10,7 @@ use Rattle.model.specs.Qualified.{Qual, rights, element}
 use Rattle.model.specs.Program.{Program}
 use Rattle.model.specs.declared.Operation.the-variants.{NewArray, NewRecord, Call}
 use Rattle.model.specs.Modes.{plain, watched, fits}
-use Rattle.model.specs.Machine.{Value, Cell, empty, filled, Object, array-of, record-of, Frame, frame, State, state, Head, cells-of, kind-at, object-units, frame-units, place-of, Next, go, finished}
+use Rattle.model.specs.Machine.{Value, Cell, empty, filled, Object, array-of, record-of, Frame, frame, State, state, Head, cells-of, kind-at, object-units, frame-units, caller-place, Next, go, finished}
 use Rattle.model.specs.Claim.{heads}
 
 -- ---- Relations
@@ -174,6 +174,6 @@ module _ {g : Program} {h : ℕ → Head watched} where
   stack-units bottom = refl
   stack-units (waits i e l s) = ap₂ (λ (x y : ℕ). (x + 2) + y) (row-length (l .row)) (stack-units s)
 
-  pub stack-place : {p : ℕ} {fs : List (Frame watched)} {fs′ : List (Frame plain)} → Stack g h p fs fs′ → place-of fs ≡ place-of fs′
+  pub stack-place : {p : ℕ} {fs : List (Frame watched)} {fs′ : List (Frame plain)} → Stack g h p fs fs′ → caller-place fs ≡ caller-place fs′
   stack-place bottom = refl
   stack-place (waits i e l s) = refl

@@ -8,13 +8,13 @@ use Rattle.model.specs.Rights.{within, has, none-above, record-rights}
 use Rattle.model.specs.Qualified.{Qual, integer, declared, base, rights, element, isInteger, isArray, same, alike}
 use Rattle.model.specs.Program.{Program}
 use Rattle.model.specs.Refusal.{failure, refuse, verdict, span}
-use Rattle.model.specs.Rules.{optional, moves, owned-by, one-integer, three-integers, new-array-rule, new-record-rule, fetch-rule, store-rule, size-rule, get-slot-rule, set-slot-rule, return-rule, keeps, kept-rule, closed, closed-result, agrees, formal-rule, local-rule, declaration-rule, optional-variable, call-rule, closed-rule, rule, type-rules, qual-rules, variable-rule, variable-rules, instruction-rules, head-rules, procedure-rules, access-rules}
+use Rattle.model.specs.Rules.{optional, moves, owned-by, integer-rule, integers-rule, new-array-rule, new-record-rule, fetch-rule, store-rule, size-rule, get-slot-rule, set-slot-rule, return-rule, keeps, kept-rule, closed, closed-result, agrees, formal-rule, local-rule, declaration-rule, optional-variable, call-rule, closed-rule, rule, type-rules, qual-rules, variable-rule, variable-rules, instruction-rules, head-rules, procedure-rules, access-rules}
 use Rattle.model.specs.declared.Verdict.the-variants.{Accepted}
 use Rattle.model.specs.declared.Operation.{Operation}
 use Rattle.model.specs.declared.Operation.the-variants.{Set, Subtract, Less, JumpZero, Bind, Take, Put, NewRecord, GetSlot, SetSlot, Call, Return}
-use Rattle.model.specs.Outcome.{done, fuel-spent, memory-full, _>>=_, _>>_, test, found}
+use Rattle.model.specs.Outcome.{done, fuel-spent, memory-full, _>>=_, _>>_, ensure, found}
 use Rattle.model.specs.Modes.{plain, watched, amiss, demand, licence, is-of, fits, bind, is-record-of, raise-if, raise, bind-element, bind-result}
-use Rattle.model.specs.Machine.{object-units, frame-units, find, update, held, as-integer, array-head-of, record-head-of, plus, minus, flag, array-at, record-at, moved, give, integers, one-integer as one-integer-in, plan-array, plan-record, plan-fetch, plan-store, plan-size, slot-there, plan-get, plan-set, actual, actuals, plan-call, handed, into-caller, to-caller, plan-return, gives, branch, plan, apply, step}
+use Rattle.model.specs.Machine.{object-units, frame-units, find, update, held, as-integer, array-head-of, record-head-of, plus, minus, flag, array-at, record-at, moved, give, integers, one-integer, plan-array, plan-record, plan-fetch, plan-store, plan-size, slot-there, plan-get, plan-set, actual, actuals, plan-call, handed, into-caller, to-caller, plan-return, gives, branch, plan, apply, step}
 use Rattle.model.specs.Run.{stopped, settle, run-from, opened, run}
 
 -- procedure 0: main; 1: make (owner 2, result counter{1}); 2: write (owner 2, formals counter, integer); 3: show (owner 2, formal counter, result integer)
@@ -63,15 +63,15 @@ sample =
     }
 
 sample-accepted : verdict (access-rules sample) ≡ Accepted
-unfolding sample operations inners needs within has none-above record-rights base rights element isInteger isArray same alike failure refuse verdict span optional moves owned-by one-integer three-integers new-array-rule new-record-rule fetch-rule store-rule size-rule get-slot-rule set-slot-rule return-rule keeps kept-rule closed closed-result agrees formal-rule local-rule declaration-rule optional-variable call-rule closed-rule rule type-rules qual-rules variable-rule variable-rules instruction-rules head-rules procedure-rules access-rules
+unfolding sample operations inners needs within has none-above record-rights base rights element isInteger isArray same alike failure refuse verdict span optional moves owned-by integer-rule integers-rule new-array-rule new-record-rule fetch-rule store-rule size-rule get-slot-rule set-slot-rule return-rule keeps kept-rule closed closed-result agrees formal-rule local-rule declaration-rule optional-variable call-rule closed-rule rule type-rules qual-rules variable-rule variable-rules instruction-rules head-rules procedure-rules access-rules
 sample-accepted = refl
 
 sample-plain : run plain sample 40 4 (3 ∷ []) 1000 ≡ stopped done 42 (3 ∷ 2 ∷ 1 ∷ []) 0 11
-unfolding sample operations inners needs amiss demand licence is-of fits bind is-record-of raise-if raise bind-element bind-result object-units frame-units find update held as-integer array-head-of record-head-of plus minus flag array-at record-at moved give integers one-integer-in plan-array plan-record plan-fetch plan-store plan-size slot-there plan-get plan-set actual actuals plan-call handed into-caller to-caller plan-return gives branch plan apply step _>>=_ _>>_ test found settle run-from opened run within has record-rights base rights element isInteger isArray same optional
+unfolding sample operations inners needs amiss demand licence is-of fits bind is-record-of raise-if raise bind-element bind-result object-units frame-units find update held as-integer array-head-of record-head-of plus minus flag array-at record-at moved give integers one-integer plan-array plan-record plan-fetch plan-store plan-size slot-there plan-get plan-set actual actuals plan-call handed into-caller to-caller plan-return gives branch plan apply step _>>=_ _>>_ ensure found settle run-from opened run within has record-rights base rights element isInteger isArray same optional
 sample-plain = refl
 
 sample-watched : run watched sample 40 4 (3 ∷ []) 1000 ≡ stopped done 42 (3 ∷ 2 ∷ 1 ∷ []) 0 11
-unfolding sample operations inners needs amiss demand licence is-of fits bind is-record-of raise-if raise bind-element bind-result object-units frame-units find update held as-integer array-head-of record-head-of plus minus flag array-at record-at moved give integers one-integer-in plan-array plan-record plan-fetch plan-store plan-size slot-there plan-get plan-set actual actuals plan-call handed into-caller to-caller plan-return gives branch plan apply step _>>=_ _>>_ test found settle run-from opened run within has record-rights base rights element isInteger isArray same optional
+unfolding sample operations inners needs amiss demand licence is-of fits bind is-record-of raise-if raise bind-element bind-result object-units frame-units find update held as-integer array-head-of record-head-of plus minus flag array-at record-at moved give integers one-integer plan-array plan-record plan-fetch plan-store plan-size slot-there plan-get plan-set actual actuals plan-call handed into-caller to-caller plan-return gives branch plan apply step _>>=_ _>>_ ensure found settle run-from opened run within has record-rights base rights element isInteger isArray same optional
 sample-watched = refl
 
 smallest : Program
@@ -100,13 +100,13 @@ smallest =
     }
 
 K9 : run plain smallest 2 0 [] 1 ≡ stopped done 1 [] 0 0
-unfolding smallest amiss demand licence is-of fits bind is-record-of raise-if raise bind-element bind-result object-units frame-units find update held as-integer array-head-of record-head-of plus minus flag array-at record-at moved give integers one-integer-in plan-array plan-record plan-fetch plan-store plan-size slot-there plan-get plan-set actual actuals plan-call handed into-caller to-caller plan-return gives branch plan apply step _>>=_ _>>_ test found settle run-from opened run within has record-rights base rights element isInteger isArray same optional
+unfolding smallest amiss demand licence is-of fits bind is-record-of raise-if raise bind-element bind-result object-units frame-units find update held as-integer array-head-of record-head-of plus minus flag array-at record-at moved give integers one-integer plan-array plan-record plan-fetch plan-store plan-size slot-there plan-get plan-set actual actuals plan-call handed into-caller to-caller plan-return gives branch plan apply step _>>=_ _>>_ ensure found settle run-from opened run within has record-rights base rights element isInteger isArray same optional
 K9 = refl
 
 K10 : run plain smallest 2 0 [] 0 ≡ stopped fuel-spent 0 [] 0 0
-unfolding smallest amiss demand licence is-of fits bind is-record-of raise-if raise bind-element bind-result object-units frame-units find update held as-integer array-head-of record-head-of plus minus flag array-at record-at moved give integers one-integer-in plan-array plan-record plan-fetch plan-store plan-size slot-there plan-get plan-set actual actuals plan-call handed into-caller to-caller plan-return gives branch plan apply step _>>=_ _>>_ test found settle run-from opened run within has record-rights base rights element isInteger isArray same optional
+unfolding smallest amiss demand licence is-of fits bind is-record-of raise-if raise bind-element bind-result object-units frame-units find update held as-integer array-head-of record-head-of plus minus flag array-at record-at moved give integers one-integer plan-array plan-record plan-fetch plan-store plan-size slot-there plan-get plan-set actual actuals plan-call handed into-caller to-caller plan-return gives branch plan apply step _>>=_ _>>_ ensure found settle run-from opened run within has record-rights base rights element isInteger isArray same optional
 K10 = refl
 
 K11 : run plain smallest 1 0 [] 0 ≡ stopped memory-full 0 [] 0 0
-unfolding smallest amiss demand licence is-of fits bind is-record-of raise-if raise bind-element bind-result object-units frame-units find update held as-integer array-head-of record-head-of plus minus flag array-at record-at moved give integers one-integer-in plan-array plan-record plan-fetch plan-store plan-size slot-there plan-get plan-set actual actuals plan-call handed into-caller to-caller plan-return gives branch plan apply step _>>=_ _>>_ test found settle run-from opened run within has record-rights base rights element isInteger isArray same optional
+unfolding smallest amiss demand licence is-of fits bind is-record-of raise-if raise bind-element bind-result object-units frame-units find update held as-integer array-head-of record-head-of plus minus flag array-at record-at moved give integers one-integer plan-array plan-record plan-fetch plan-store plan-size slot-there plan-get plan-set actual actuals plan-call handed into-caller to-caller plan-return gives branch plan apply step _>>=_ _>>_ ensure found settle run-from opened run within has record-rights base rights element isInteger isArray same optional
 K11 = refl

@@ -10,7 +10,7 @@ use Rattle.model.specs.Rights.{Rights}
 use Rattle.model.specs.Qualified.{Qual}
 use Rattle.model.specs.Program.{Program}
 use Rattle.model.specs.Modes.{plain, watched, fits}
-use Rattle.model.specs.Machine.{object, Cell, empty, filled, Object, Frame, frame, State, state, Head, head-of, cell-of, kind-of-head, object-units, frame-units, find, place-of, first-of, view, Effect, plan, given-back, apply, step}
+use Rattle.model.specs.Machine.{object, Cell, empty, filled, Object, Frame, frame, State, state, Head, head-of, cell-of, kind-of-head, object-units, frame-units, find, caller-place, first-of, view, Effect, plan, given-back, apply, step}
 use Rattle.model.specs.Claim.{heads}
 use Rattle.model.proofs.Relate.{Fit, fit, Granted, CellRel, values, row-get, row-set, row-length, row-blank, row-more, ObjectRel, arrays, records, Objects, Live, Stack, bottom, waits, StateRel, states, NextRel, nexts, ends, live-up, objects-up, stack-up, objects-units, stack-units, stack-place}
 use Rattle.model.proofs.Table.{seen, objects-more, objects-update, grows-append, grows-update, found-new}
@@ -46,7 +46,7 @@ new-ok {g} {p} {os} a {o} l v st ob w t n =
 module _ (g : Program) (s : Sound g) where
   resume-ok :
       {k : ℕ} {fs : List (Frame watched)} {fs′ : List (Frame plain)} {os : List (Object watched)} {os′ : List (Object plain)} (input put : List ℕ) →
-      Stack g (heads os) k fs fs′ → Objects g (heads os) os os′ → (w : Option (ℕ × Cell watched)) (w′ : Option (ℕ × Cell plain)) → Handed g (heads os) (place-of fs) w w′ →
+      Stack g (heads os) k fs fs′ → Objects g (heads os) os os′ → (w : Option (ℕ × Cell watched)) (w′ : Option (ℕ × Cell plain)) → Handed g (heads os) (caller-place fs) w w′ →
       NextRel g (given-back w fs os input put) (given-back w′ fs′ os′ input put)
   resume-ok input put bottom ob w w′ m = absurd m
   resume-ok input put (waits l e v st) ob none none m = nexts (states l v st ob)
@@ -62,7 +62,7 @@ module _ (g : Program) (s : Sound g) where
   apply-ok :
       {p i : ℕ} {vs : List (Cell watched)} {vs′ : List (Cell plain)} {fs : List (Frame watched)} {fs′ : List (Frame plain)}
       {os : List (Object watched)} {os′ : List (Object plain)} (input put : List ℕ) {e : Effect watched} {e′ : Effect plain} →
-      Live g (heads os) p vs vs′ → Stack g (heads os) p fs fs′ → Objects g (heads os) os os′ → EffectRel g (heads os) p i (place-of fs) e e′ →
+      Live g (heads os) p vs vs′ → Stack g (heads os) p fs fs′ → Objects g (heads os) os os′ → EffectRel g (heads os) p i (caller-place fs) e e′ →
       NextRel g (apply g (state (frame p i vs) fs os input put) e) (apply g (state (frame p i vs′) fs′ os′ input put) e′)
   unfolding apply
   apply-ok input put v st ob (writes {a} l w) = nexts (states l (live-set v a w) st ob)
@@ -83,7 +83,7 @@ module _ (g : Program) (s : Sound g) where
 
   -- ---- The step
 
-  caller-of : {h : ℕ → Head watched} {k : ℕ} {fs : List (Frame watched)} {fs′ : List (Frame plain)} → Stack g h k fs fs′ → Caller g k (place-of fs)
+  caller-of : {h : ℕ → Head watched} {k : ℕ} {fs : List (Frame watched)} {fs′ : List (Frame plain)} → Stack g h k fs fs′ → Caller g k (caller-place fs)
   caller-of bottom = no-caller
   caller-of (waits l e v st) = a-caller (v .procedure) l e
 
@@ -96,11 +96,11 @@ module _ (g : Program) (s : Sound g) where
       room-same = unfold frame-units in (rw (row-length (v .row), stack-units st, objects-units ob))
 
       planned :
-          Agree (EffectRel g (heads os) p i (place-of fs))
+          Agree (EffectRel g (heads os) p i (caller-place fs))
           (plan watched g (view memory output (state (frame p i vs) fs os input put)) (g .operation p i))
           (plan plain g (view memory output (state (frame p i vs′) fs′ os′ input put)) (g .operation p i))
       planned =
           rw (← stack-place st, ← room-same)
-          (plan-ok g p i (place-of fs) (λ x. getD vs x empty) (λ x. getD vs′ x empty) (heads os) (λ a. head-of (find os′ a)) (λ a. cell-of (find os a)) (λ a. cell-of (find os′ a))
+          (plan-ok g p i (caller-place fs) (λ x. getD vs x empty) (λ x. getD vs′ x empty) (heads os) (λ a. head-of (find os′ a)) (λ a. cell-of (find os a)) (λ a. cell-of (find os′ a))
           _ (output - length put) (first-of input) (row-get (v .row)) (seen ob) s (caller-of st) (v .procedure) l (g .operation p i) refl
           (s .formed .operations p i (v .procedure) l) (s .facts .allowed p i (v .procedure) l))

@@ -6,7 +6,7 @@ use mathlib.Core.Logic.{_⊎_, inl, inr}
 use mathlib.Core.List.{List, [], _∷_, _++_}
 use native.Mathlib.Omega.{arith}
 use native.Mathlib.Numerals.{add-one}
-use Rattle.model.specs.Refusal.{Refusal, overlong, torn, stray-mark, bad-edition, off-scale, open-exposed, false-raise, wrong-kind, missing-right, big-memory, number, Test, test, Tests, tests, failure, refuse, verdict, span, each, all-from}
+use Rattle.model.specs.Refusal.{Refusal, overlong, torn, stray-mark, bad-edition, off-scale, open-exposed, false-raise, type-mismatch, insufficient-rights, big-memory, refusal-number, Test, test, Tests, tests, failure, refuse, verdict, span, each, all-from}
 use Rattle.model.specs.declared.Verdict.{Verdict}
 use Rattle.model.specs.declared.Verdict.the-variants.{Accepted, Refused}
 
@@ -33,7 +33,7 @@ verdict-append [] ys = refl
 verdict-append (tests at ts ∷ xs) ys =
     ap (refuse (failure ts) at) (verdict-append xs ys) ∙ refuse-then (failure ts) at (verdict xs) (verdict ys)
 
-number-first : (r : Refusal) (n : ℕ) → first (number r) n ≡ number r
+number-first : (r : Refusal) (n : ℕ) → first (refusal-number r) n ≡ refusal-number r
 number-first overlong n = refl
 number-first torn n = refl
 number-first stray-mark n = refl
@@ -41,11 +41,11 @@ number-first bad-edition n = refl
 number-first off-scale n = refl
 number-first open-exposed n = refl
 number-first false-raise n = refl
-number-first wrong-kind n = refl
-number-first missing-right n = refl
+number-first type-mismatch n = refl
+number-first insufficient-rights n = refl
 number-first big-memory n = refl
 
-cond-first : (b : Bool) (r : Refusal) (m n : ℕ) → cond b (first m n) (number r) ≡ first (cond b m (number r)) n
+cond-first : (b : Bool) (r : Refusal) (m n : ℕ) → cond b (first m n) (refusal-number r) ≡ first (cond b m (refusal-number r)) n
 cond-first true r m n = refl
 cond-first false r m n = sym (number-first r n)
 
@@ -53,7 +53,7 @@ pub failure-append : (xs ys : List Test) → failure (xs ++ ys) ≡ first (failu
 unfolding failure
 failure-append [] ys = refl
 failure-append (test r b ∷ xs) ys =
-    ap (λ (n : ℕ). cond b n (number r)) (failure-append xs ys) ∙ cond-first b r (failure xs) (failure ys)
+    ap (λ (n : ℕ). cond b n (refusal-number r)) (failure-append xs ys) ∙ cond-first b r (failure xs) (failure ys)
 
 -- a record's tests alone, and after them others
 pub verdict-one : (at : ℕ) (ts : List Test) (more : List Tests) → verdict (tests at ts ∷ more) ≡ and-then (verdict (tests at ts ∷ [])) (verdict more)
@@ -211,7 +211,7 @@ accepted-tests at ts h = go (failure ts) h
     go zero h = refl
     go (suc n) h = absurd (let z : _≡_ {A = ℕ} 0 1 = cc in omega arith)
 
-number-pos : (r : Refusal) → number r ≡ 0 → ⊥
+number-pos : (r : Refusal) → refusal-number r ≡ 0 → ⊥
 number-pos overlong h = omega arith
 number-pos torn h = omega arith
 number-pos stray-mark h = omega arith
@@ -219,8 +219,8 @@ number-pos bad-edition h = omega arith
 number-pos off-scale h = omega arith
 number-pos open-exposed h = omega arith
 number-pos false-raise h = omega arith
-number-pos wrong-kind h = omega arith
-number-pos missing-right h = omega arith
+number-pos type-mismatch h = omega arith
+number-pos insufficient-rights h = omega arith
 number-pos big-memory h = omega arith
 
 pub passed-test : (r : Refusal) (b : Bool) (ts : List Test) → failure (test r b ∷ ts) ≡ 0 → (b ≡ true) × (failure ts ≡ 0)

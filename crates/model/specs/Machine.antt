@@ -12,8 +12,8 @@ use Rattle.model.specs.Program.{Program}
 use Rattle.model.specs.Rules.{optional}
 use Rattle.model.specs.declared.Operation.{Operation}
 use Rattle.model.specs.declared.Operation.the-variants.{Set, Add, Subtract, Less, JumpZero, Bind, Take, Put, NewArray, Fetch, Store, Size, NewRecord, GetSlot, SetSlot, Call, Return}
-use Rattle.model.specs.Outcome.{Stop, blank, past-end, input-ended, output-full, memory-full, Res, ok, stop, stuck, _>>=_, _>>_, test, found}
-use Rattle.model.specs.Modes.{Mode, plain, watched, Mark, ElementMark, TypeMark, mark, element-mark, type-mark, Kind, integer-kind, array-kind, record-kind, no-kind, amiss, demand, licence, is-of, bind, raise, bind-element, bind-result}
+use Rattle.model.specs.Outcome.{Stop, blank, past-end, input-ended, output-full, memory-full, Res, ok, stop, stuck, _>>=_, _>>_, ensure, found}
+use Rattle.model.specs.Modes.{Mode, plain, watched, Carried, ElementInfo, TypeInfo, carried, element-info, type-info, Kind, integer-kind, array-kind, record-kind, no-kind, amiss, demand, licence, is-of, bind, raise, bind-element, bind-result}
 
 -- ---- The state
 
@@ -25,11 +25,11 @@ pub data Value : Type 0 where
 -- "A cell is blank, an integer or an object; new cells are blank."
 pub data Cell (m : Mode) : Type 0 where
   empty : Cell m
-  filled : Value → Mark m → Cell m
+  filled : Value → Carried m → Cell m
 
 pub data Object (m : Mode) : Type 0 where
-  array-of : ElementMark m → List (Cell m) → Object m
-  record-of : TypeMark m → List (Cell m) → Object m
+  array-of : ElementInfo m → List (Cell m) → Object m
+  record-of : TypeInfo m → List (Cell m) → Object m
 
 -- "frames (procedure, next instruction, variables)"
 pub data Frame (m : Mode) : Type 0 where
@@ -74,8 +74,8 @@ update (o ∷ os) (suc a) i c =
 
 -- what an object is, and how many cells it has
 pub data Head (m : Mode) : Type 0 where
-  array-head : ElementMark m → (size : ℕ) → Head m
-  record-head : TypeMark m → (size : ℕ) → Head m
+  array-head : ElementInfo m → (size : ℕ) → Head m
+  record-head : TypeInfo m → (size : ℕ) → Head m
   no-head : Head m
 
 abbrev pub head-of : {m : Mode} → Option (Object m) → Head m
@@ -99,9 +99,9 @@ pub record View (m : Mode) : Type 0 where
   pub free : ℕ
   pub next-input : Option ℕ
 
-abbrev pub place-of : {m : Mode} → List (Frame m) → Option (ℕ × ℕ)
-place-of [] = none
-place-of (frame p i vs ∷ fs) = some (p, i)
+abbrev pub caller-place : {m : Mode} → List (Frame m) → Option (ℕ × ℕ)
+caller-place [] = none
+caller-place (frame p i vs ∷ fs) = some (p, i)
 
 abbrev pub first-of : List ℕ → Option ℕ
 first-of [] = none
@@ -111,7 +111,7 @@ abbrev pub view : {m : Mode} → (memory output : ℕ) → State m → View m
 view memory output (state (frame p i vs) fs os input put) =
     record {
       procedure = p;
-      caller = place-of fs;
+      caller = caller-place fs;
       variable = λ x. getD vs x empty;
       head = λ a. head-of (find os a);
       cell = λ a. cell-of (find os a);
@@ -130,8 +130,8 @@ pub data Effect (m : Mode) : Type 0 where
   jump : (to : ℕ) → Effect m
   skip : Effect m
   -- variable a becomes a new object, of so many cells, with the rights that it carries there
-  new-array : (a : ℕ) → ElementMark m → (size : ℕ) → Mark m → Effect m
-  new-record : (a : ℕ) → TypeMark m → (size : ℕ) → Mark m → Effect m
+  new-array : (a : ℕ) → ElementInfo m → (size : ℕ) → Carried m → Effect m
+  new-record : (a : ℕ) → TypeInfo m → (size : ℕ) → Carried m → Effect m
   -- cell i of an object becomes a cell
   store : (object i : ℕ) → Cell m → Effect m
   -- a frame of procedure k with these first variables; the caller goes on, with a variable that becomes a cell, or the run is over
@@ -140,7 +140,7 @@ pub data Effect (m : Mode) : Type 0 where
   over : Effect m
 
 -- a value that is read or moved is there: 13
-unfoldable pub held : {m : Mode} → Cell m → Res (Value × Mark m)
+unfoldable pub held : {m : Mode} → Cell m → Res (Value × Carried m)
 held empty = stop blank
 held (filled v r) = ok (v, r)
 
@@ -149,7 +149,7 @@ unfoldable pub as-integer : (m : Mode) → Value → Res ℕ
 as-integer m (word n) = ok n
 as-integer m (object a) = amiss m
 
-unfoldable pub array-head-of : (m : Mode) → ℕ → Head m → Res (ℕ × ElementMark m × ℕ)
+unfoldable pub array-head-of : (m : Mode) → ℕ → Head m → Res (ℕ × ElementInfo m × ℕ)
 array-head-of m a (array-head e n) = ok (a, e, n)
 array-head-of m a (record-head t n) = amiss m
 array-head-of m a no-head = amiss m
@@ -222,7 +222,7 @@ module _ (m : Mode) (g : Program) (v : View m) where
   abbrev pub kind-of : Value → Kind m
   kind-of x = kind-at (v .head) x
 
-  unfoldable pub array-at : Value → Res (ℕ × ElementMark m × ℕ)
+  unfoldable pub array-at : Value → Res (ℕ × ElementInfo m × ℕ)
   array-at (word n) = amiss m
   array-at (object a) = array-head-of m a (v .head a)
 
@@ -239,7 +239,7 @@ module _ (m : Mode) (g : Program) (v : View m) where
 
   -- a computed or taken integer on its way into a
   unfoldable pub give : (a n : ℕ) → Res (Cell m)
-  give a n = moved (declared-as a) (filled (word n) (mark m 0))
+  give a n = moved (declared-as a) (filled (word n) (carried m 0))
 
   unfoldable pub integers : (b c : ℕ) → Res (ℕ × ℕ)
   integers b c = do
@@ -258,15 +258,15 @@ module _ (m : Mode) (g : Program) (v : View m) where
   plan-array a b = do
     n ← one-integer b
     demand m (isArray (declared-as a))
-    test memory-full (leb (suc n) (v .room))
-    r ← bind m (declared-as a) (array-kind (element-mark m (element (declared-as a)))) (mark m array-rights)
-    ok (new-array a (element-mark m (element (declared-as a))) n r)
+    ensure memory-full (leb (suc n) (v .room))
+    r ← bind m (declared-as a) (array-kind (element-info m (element (declared-as a)))) (carried m array-rights)
+    ok (new-array a (element-info m (element (declared-as a))) n r)
 
   unfoldable pub plan-record : (a t : ℕ) → Res (Effect m)
   plan-record a t = do
-    test memory-full (leb (suc (g .slots t)) (v .room))
-    r ← bind m (declared-as a) (record-kind (type-mark m t)) (mark m (record-rights (g .named t)))
-    ok (new-record a (type-mark m t) (g .slots t) r)
+    ensure memory-full (leb (suc (g .slots t)) (v .room))
+    r ← bind m (declared-as a) (record-kind (type-info m t)) (carried m (record-rights (g .named t)))
+    ok (new-record a (type-info m t) (g .slots t) r)
 
   unfoldable pub plan-fetch : (a b c : ℕ) → Res (Effect m)
   plan-fetch a b c = do
@@ -275,7 +275,7 @@ module _ (m : Mode) (g : Program) (v : View m) where
     o ← array-at (x .0)
     i ← as-integer m (y .0)
     licence m fetch-right (x .1)
-    test past-end (ltb i (o .2))
+    ensure past-end (ltb i (o .2))
     d ← moved (declared-as a) (v .cell (o .0) i)
     ok (write a d)
 
@@ -286,7 +286,7 @@ module _ (m : Mode) (g : Program) (v : View m) where
     o ← array-at (x .0)
     i ← as-integer m (y .0)
     licence m store-right (x .1)
-    test past-end (ltb i (o .2))
+    ensure past-end (ltb i (o .2))
     h ← held (v .variable c)
     r ← bind-element m (o .1) (kind-of (h .0)) (h .1)
     ok (store (o .0) i (filled (h .0) r))
@@ -341,7 +341,7 @@ module _ (m : Mode) (g : Program) (v : View m) where
   unfoldable pub plan-call : (a b k : ℕ) → Res (Effect m)
   plan-call a b k = do
     demand m (keeps-well (optional a) (g .result k))
-    test memory-full (leb (g .variables k + 2) (v .room))
+    ensure memory-full (leb (g .variables k + 2) (v .room))
     cs ← actuals k b 0 (g .formals k)
     ok (call k cs)
 
@@ -404,7 +404,7 @@ module _ (m : Mode) (g : Program) (v : View m) where
     ok (take a d)
   plan (Put a) = do
     n ← one-integer a
-    test output-full (ltb 0 (v .free))
+    ensure output-full (ltb 0 (v .free))
     ok (put n)
   plan (NewArray a b) = plan-array a b
   plan (Fetch a b c) = plan-fetch a b c

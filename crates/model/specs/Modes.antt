@@ -8,41 +8,41 @@ use mathlib.Core.Option.{Option, none, some}
 use lib.Dec.{eqb, leb}
 use Rattle.model.specs.Rights.{Rights, within, has}
 use Rattle.model.specs.Qualified.{Qual, integer, array, declared, base, rights, element, isInteger, isArray, same}
-use Rattle.model.specs.Outcome.{Stop, wrong-kind, missing-right, Res, ok, stop, stuck, _>>=_, _>>_, test}
+use Rattle.model.specs.Outcome.{Stop, wrong-kind, missing-right, Res, ok, stop, stuck, _>>=_, _>>_, ensure}
 
 pub data Mode : Type 0 where
   plain watched : Mode
 
 -- "keeps beside each filled cell its carried rights, and with each object its type and, for trays, its element QT"
-abbrev pub Mark : Mode → Type 0
-Mark plain = Unit {0}
-Mark watched = Rights
+abbrev pub Carried : Mode → Type 0
+Carried plain = Unit {0}
+Carried watched = Rights
 
-abbrev pub ElementMark : Mode → Type 0
-ElementMark plain = Unit {0}
-ElementMark watched = Qual
+abbrev pub ElementInfo : Mode → Type 0
+ElementInfo plain = Unit {0}
+ElementInfo watched = Qual
 
-abbrev pub TypeMark : Mode → Type 0
-TypeMark plain = Unit {0}
-TypeMark watched = ℕ
+abbrev pub TypeInfo : Mode → Type 0
+TypeInfo plain = Unit {0}
+TypeInfo watched = ℕ
 
-abbrev pub mark : (m : Mode) → Rights → Mark m
-mark plain r = tt
-mark watched r = r
+abbrev pub carried : (m : Mode) → Rights → Carried m
+carried plain r = tt
+carried watched r = r
 
-abbrev pub element-mark : (m : Mode) → Qual → ElementMark m
-element-mark plain q = tt
-element-mark watched q = q
+abbrev pub element-info : (m : Mode) → Qual → ElementInfo m
+element-info plain q = tt
+element-info watched q = q
 
-abbrev pub type-mark : (m : Mode) → ℕ → TypeMark m
-type-mark plain t = tt
-type-mark watched t = t
+abbrev pub type-info : (m : Mode) → ℕ → TypeInfo m
+type-info plain t = tt
+type-info watched t = t
 
 -- what a value is: an integer, an array or a record; nothing where an object's name is no object's
 pub data Kind (m : Mode) : Type 0 where
   integer-kind : Kind m
-  array-kind : ElementMark m → Kind m
-  record-kind : TypeMark m → Kind m
+  array-kind : ElementInfo m → Kind m
+  record-kind : TypeInfo m → Kind m
   no-kind : Kind m
 
 -- ---- What the plain machine does not do
@@ -55,17 +55,17 @@ amiss watched = stop wrong-kind
 -- a test of kind
 unfoldable pub demand : Mode → Bool → Res (Unit {0})
 demand plain b = ok tt
-demand watched b = test wrong-kind b
+demand watched b = ensure wrong-kind b
 
 -- a test of a right: "Every test reads carried rights"
-unfoldable pub licence : (m : Mode) → ℕ → Mark m → Res (Unit {0})
+unfoldable pub licence : (m : Mode) → ℕ → Carried m → Res (Unit {0})
 licence plain i r = ok tt
-licence watched i r = test missing-right (has i r)
+licence watched i r = ensure missing-right (has i r)
 
 -- a record is of a type
-unfoldable pub is-of : (m : Mode) → ℕ → TypeMark m → Res (Unit {0})
+unfoldable pub is-of : (m : Mode) → ℕ → TypeInfo m → Res (Unit {0})
 is-of plain t u = ok tt
-is-of watched t u = test wrong-kind (eqb u t)
+is-of watched t u = ensure wrong-kind (eqb u t)
 
 -- "the value's type is the QT's base and, for a tray, the object's element equals the QT's"
 unfoldable pub fits : Qual → Kind watched → Bool
@@ -75,11 +75,11 @@ fits q (record-kind t) = leb 2 t && eqb (base q) t
 fits q no-kind = false
 
 -- "Binding a value to a declared QT: .. another type, or unequal elements, 18; a declared right not carried, 19; else the cell carries the declared rights"
-unfoldable pub bind : (m : Mode) → Qual → Kind m → Mark m → Res (Mark m)
+unfoldable pub bind : (m : Mode) → Qual → Kind m → Carried m → Res (Carried m)
 bind plain q k r = ok tt
 bind watched q k r = do
-  test wrong-kind (fits q k)
-  test missing-right (within (rights q) r)
+  ensure wrong-kind (fits q k)
+  ensure missing-right (within (rights q) r)
   ok (rights q)
 
 -- "then, if its type and inner's base are the callee's owner (2 or more), it carries inner's rights, else it is bound to inner"
@@ -93,17 +93,17 @@ unfoldable pub raise-if : Bool → Qual → Kind watched → Rights → Res Righ
 raise-if true inner k r = ok (rights inner)
 raise-if false inner k r = bind watched inner k r
 
-unfoldable pub raise : (m : Mode) → (owner : ℕ) → Qual → Kind m → Mark m → Res (Mark m)
+unfoldable pub raise : (m : Mode) → (owner : ℕ) → Qual → Kind m → Carried m → Res (Carried m)
 raise plain o inner k r = ok tt
 raise watched o inner k r = raise-if (is-record-of o k && eqb (base inner) o) inner k r
 
 -- an array's cells are declared by its element
-unfoldable pub bind-element : (m : Mode) → ElementMark m → Kind m → Mark m → Res (Mark m)
+unfoldable pub bind-element : (m : Mode) → ElementInfo m → Kind m → Carried m → Res (Carried m)
 bind-element plain e k r = ok tt
 bind-element watched e k r = bind watched e k r
 
 -- "A return binds to the result QT"; one without a result is no return of a value
-unfoldable pub bind-result : (m : Mode) → Option Qual → Kind m → Mark m → Res (Mark m)
+unfoldable pub bind-result : (m : Mode) → Option Qual → Kind m → Carried m → Res (Carried m)
 bind-result plain q k r = ok tt
 bind-result watched none k r = stop wrong-kind
 bind-result watched (some q) k r = bind watched q k r

@@ -7,16 +7,16 @@ pub data Stop : Type 0 where
   done fuel-spent blank past-end input-ended output-full memory-full wrong-kind missing-right : Stop
 
 -- the paper's number of each: done, fuel spent, blank, past the tray, reads ended, report full, bench full, mixed sample, unlicensed
-abbrev pub number : Stop → ℕ
-number done = 11
-number fuel-spent = 12
-number blank = 13
-number past-end = 14
-number input-ended = 15
-number output-full = 16
-number memory-full = 17
-number wrong-kind = 18
-number missing-right = 19
+abbrev pub stop-number : Stop → ℕ
+stop-number done = 11
+stop-number fuel-spent = 12
+stop-number blank = 13
+stop-number past-end = 14
+stop-number input-ended = 15
+stop-number output-full = 16
+stop-number memory-full = 17
+stop-number wrong-kind = 18
+stop-number missing-right = 19
 
 pub data Res (A : Type 0) : Type 0 where
   ok : A → Res A
@@ -35,9 +35,9 @@ stop s >> r = stop s
 stuck >> r = stuck
 
 -- a stop where the test fails
-unfoldable pub test : Stop → Bool → Res (Unit {0})
-test s true = ok tt
-test s false = stop s
+unfoldable pub ensure : Stop → Bool → Res (Unit {0})
+ensure s true = ok tt
+ensure s false = stop s
 
 -- what is there, or a stop where nothing is
 unfoldable pub found : {A : Type 0} → Stop → Option A → Res A

@@ -7,29 +7,29 @@ use Rattle.model.specs.declared.Verdict.the-variants.{Accepted, Refused}
 
 pub data Refusal : Type 0 where
   overlong torn stray-mark bad-edition off-scale : Refusal
-  open-exposed false-raise wrong-kind missing-right big-memory : Refusal
+  open-exposed false-raise type-mismatch insufficient-rights big-memory : Refusal
 
 -- the paper's number of each: overlong, torn, stray mark, edition, off scale, loose key, false raise, wrong kind, no licence, big bench
-abbrev pub number : Refusal → ℕ
-number overlong = 1
-number torn = 2
-number stray-mark = 3
-number bad-edition = 4
-number off-scale = 5
-number open-exposed = 6
-number false-raise = 7
-number wrong-kind = 8
-number missing-right = 9
-number big-memory = 10
+abbrev pub refusal-number : Refusal → ℕ
+refusal-number overlong = 1
+refusal-number torn = 2
+refusal-number stray-mark = 3
+refusal-number bad-edition = 4
+refusal-number off-scale = 5
+refusal-number open-exposed = 6
+refusal-number false-raise = 7
+refusal-number type-mismatch = 8
+refusal-number insufficient-rights = 9
+refusal-number big-memory = 10
 
 -- the number and the place that a verdict stands for; an accepted sheet has 0 and 0
-abbrev pub number-of : Verdict → ℕ
-number-of Accepted = 0
-number-of (Refused n at) = n
+abbrev pub verdict-number : Verdict → ℕ
+verdict-number Accepted = 0
+verdict-number (Refused n at) = n
 
-abbrev pub place-of : Verdict → ℕ
-place-of Accepted = 0
-place-of (Refused n at) = at
+abbrev pub verdict-place : Verdict → ℕ
+verdict-place Accepted = 0
+verdict-place (Refused n at) = at
 
 -- a test that must hold, and what is said where it does not
 pub data Test : Type 0 where
@@ -42,7 +42,7 @@ pub data Tests : Type 0 where
 -- the number of the first test that fails, 0 where none does
 unfoldable pub failure : List Test → ℕ
 failure [] = 0
-failure (test r holds ∷ more) = cond holds (failure more) (number r)
+failure (test r holds ∷ more) = cond holds (failure more) (refusal-number r)
 
 -- a record's refusal, else what the rest says
 unfoldable pub refuse : ℕ → ℕ → Verdict → Verdict

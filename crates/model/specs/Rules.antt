@@ -7,7 +7,7 @@ use lib.Dec.{eqb, leb, ltb}
 use Rattle.model.specs.Rights.{within, has, none-above, open-right, fetch-right, store-right, size-right, array-rights}
 use Rattle.model.specs.Qualified.{Qual, base, rights, element, isInteger, isArray, same, alike}
 use Rattle.model.specs.Program.{Program}
-use Rattle.model.specs.Refusal.{open-exposed, false-raise, wrong-kind, missing-right, Test, test, Tests, tests, each}
+use Rattle.model.specs.Refusal.{open-exposed, false-raise, type-mismatch, insufficient-rights, Test, test, Tests, tests, each}
 use Rattle.model.specs.declared.Operation.{Operation}
 use Rattle.model.specs.declared.Operation.the-variants.{Set, Add, Subtract, Less, JumpZero, Bind, Take, Put, NewArray, Fetch, Store, Size, NewRecord, GetSlot, SetSlot, Call, Return}
 
@@ -17,7 +17,7 @@ optional a = cond (eqb a 255) none (some a)
 
 -- "Each movement needs source ≥ destination" (8 before 9 within each)
 unfoldable pub moves : (source destination : Qual) → List Test
-moves s d = test wrong-kind (alike s d) ∷ test missing-right (within (rights d) (rights s)) ∷ []
+moves s d = test type-mismatch (alike s d) ∷ test insufficient-rights (within (rights d) (rights s)) ∷ []
 
 -- a qualified type is of the owner's type; owner 0 is none
 unfoldable pub owned-by : (owner : ℕ) → Qual → Bool
@@ -26,47 +26,47 @@ owned-by o q = leb 2 o && eqb (base q) o
 -- ---- Instructions, by the declared types of their variables
 
 -- "Arithmetic, jumps, sizes, indexes, take and put use integer variables"
-unfoldable pub one-integer : Qual → List Test
-one-integer a = test wrong-kind (isInteger a) ∷ []
+unfoldable pub integer-rule : Qual → List Test
+integer-rule a = test type-mismatch (isInteger a) ∷ []
 
-unfoldable pub three-integers : Qual → Qual → Qual → List Test
-three-integers a b c = test wrong-kind (isInteger a && isInteger b && isInteger c) ∷ []
+unfoldable pub integers-rule : Qual → Qual → Qual → List Test
+integers-rule a b c = test type-mismatch (isInteger a && isInteger b && isInteger c) ∷ []
 
 -- "9 and 13 give all rights": the new value has a's own type and element, so that its movement into a asks that a's rights are among all
 unfoldable pub new-array-rule : Qual → Qual → List Test
-new-array-rule a b = test wrong-kind (isInteger b && isArray a) ∷ test missing-right (within (rights a) array-rights) ∷ []
+new-array-rule a b = test type-mismatch (isInteger b && isArray a) ∷ test insufficient-rights (within (rights a) array-rights) ∷ []
 
 unfoldable pub new-record-rule : (owner named : ℕ) → Qual → List Test
-new-record-rule o n a = test wrong-kind (owned-by o a) ∷ test missing-right (none-above n (rights a)) ∷ []
+new-record-rule o n a = test type-mismatch (owned-by o a) ∷ test insufficient-rights (none-above n (rights a)) ∷ []
 
 -- "Codes 10, 11, 12 need fetch, store, size on the tray"
 unfoldable pub fetch-rule : Qual → Qual → Qual → List Test
 fetch-rule a b c =
-    test wrong-kind (isArray b && isInteger c) ∷ test missing-right (has fetch-right (rights b)) ∷ moves (element b) a
+    test type-mismatch (isArray b && isInteger c) ∷ test insufficient-rights (has fetch-right (rights b)) ∷ moves (element b) a
 
 unfoldable pub store-rule : Qual → Qual → Qual → List Test
 store-rule a b c =
-    test wrong-kind (isArray a && isInteger b) ∷ test missing-right (has store-right (rights a)) ∷ moves c (element a)
+    test type-mismatch (isArray a && isInteger b) ∷ test insufficient-rights (has store-right (rights a)) ∷ moves c (element a)
 
 -- "the size of 12 going into a is one" of the movements: it comes after the right
 unfoldable pub size-rule : Qual → Qual → List Test
-size-rule a b = test wrong-kind (isArray b) ∷ test missing-right (has size-right (rights b)) ∷ one-integer a
+size-rule a b = test type-mismatch (isArray b) ∷ test insufficient-rights (has size-right (rights b)) ∷ integer-rule a
 
 -- "14 and 15 need open on a variable of the owner's type"
 unfoldable pub get-slot-rule : (owner : ℕ) → Qual → Qual → Qual → List Test
 get-slot-rule o a b slot =
-    test wrong-kind (owned-by o b) ∷ test missing-right (has open-right (rights b)) ∷ moves slot a
+    test type-mismatch (owned-by o b) ∷ test insufficient-rights (has open-right (rights b)) ∷ moves slot a
 
 unfoldable pub set-slot-rule : (owner : ℕ) → Qual → Qual → Qual → List Test
 set-slot-rule o a b slot =
-    test wrong-kind (owned-by o a) ∷ test missing-right (has open-right (rights a)) ∷ moves b slot
+    test type-mismatch (owned-by o a) ∷ test insufficient-rights (has open-right (rights a)) ∷ moves b slot
 
 -- "A return has a variable exactly if its PR has a result"
 unfoldable pub return-rule : Option Qual → Option Qual → List Test
 return-rule none none = []
 return-rule (some v) (some r) = moves v r
-return-rule none (some r) = test wrong-kind false ∷ []
-return-rule (some v) none = test wrong-kind false ∷ []
+return-rule none (some r) = test type-mismatch false ∷ []
+return-rule (some v) none = test type-mismatch false ∷ []
 
 -- "a call keeps one only then"; "a kept result last"
 unfoldable pub keeps : Option Qual → Option Qual → Bool
@@ -109,7 +109,7 @@ optional-variable f (some a) = some (f a)
 -- a call, with variables from b on, of a procedure with its needs, its number of formals and its result; actual j moves to need j
 unfoldable pub call-rule : (inner need : ℕ → Qual) → (formals : ℕ) → (result : Option Qual) → (a b : ℕ) → List Test
 call-rule inner need formals result a b =
-    test wrong-kind (keeps (optional-variable inner (optional a)) result)
+    test type-mismatch (keeps (optional-variable inner (optional a)) result)
     ∷ (each formals (λ j. moves (inner (b + j)) (need j)) ++ kept-rule (optional-variable inner (optional a)) result)
 
 -- ---- Records
@@ -121,14 +121,14 @@ closed-rule q = test open-exposed (closed q) ∷ []
 module _ (g : Program) where
   -- one line a code
   unfoldable pub rule : (p : ℕ) → Operation → List Test
-  rule p (Set a k) = one-integer (g .inner p a)
-  rule p (Add a b c) = three-integers (g .inner p a) (g .inner p b) (g .inner p c)
-  rule p (Subtract a b c) = three-integers (g .inner p a) (g .inner p b) (g .inner p c)
-  rule p (Less a b c) = three-integers (g .inner p a) (g .inner p b) (g .inner p c)
-  rule p (JumpZero a k) = one-integer (g .inner p a)
+  rule p (Set a k) = integer-rule (g .inner p a)
+  rule p (Add a b c) = integers-rule (g .inner p a) (g .inner p b) (g .inner p c)
+  rule p (Subtract a b c) = integers-rule (g .inner p a) (g .inner p b) (g .inner p c)
+  rule p (Less a b c) = integers-rule (g .inner p a) (g .inner p b) (g .inner p c)
+  rule p (JumpZero a k) = integer-rule (g .inner p a)
   rule p (Bind a b) = moves (g .inner p b) (g .inner p a)
-  rule p (Take a) = one-integer (g .inner p a)
-  rule p (Put a) = one-integer (g .inner p a)
+  rule p (Take a) = integer-rule (g .inner p a)
+  rule p (Put a) = integer-rule (g .inner p a)
   rule p (NewArray a b) = new-array-rule (g .inner p a) (g .inner p b)
   rule p (Fetch a b c) = fetch-rule (g .inner p a) (g .inner p b) (g .inner p c)
   rule p (Store a b c) = store-rule (g .inner p a) (g .inner p b) (g .inner p c)

@@ -2,7 +2,7 @@
 use Prim.Native.Nat.{ℕ}
 use mathlib.Core.List.{List}
 use lib.ListN.{set}
-use Rattle.running.specs.declared.Reply.{Reply}
+use Rattle.run.specs.declared.Reply.{Reply}
 
 abbrev pub reply-words : List ℕ → Reply → List ℕ
 reply-words words r =

@@ -1,5 +1,5 @@
 // A reply as C reads it: words in a buffer that is lent.
-use running::Reply;
+use run::Reply;
 ghost use mathlib.Core.Path.{_≡_};
 ghost use lib.ListN.{set};
 ghost use Rattle.replies.specs.Words.{reply-words};

@@ -10,7 +10,7 @@ use lib.Dec.{eqb}
 use lib.ListN.{getD, set, List·getD-map}
 use borrow.Author.Tests.{eqb-true, eqb-false, ne-eqb}
 use Rattle.model.specs.Qualified.{Qual}
-use Rattle.model.specs.Modes.{Mode, plain, Mark, ElementMark, TypeMark, mark, element-mark, type-mark}
+use Rattle.model.specs.Modes.{Mode, plain, Carried, ElementInfo, TypeInfo, carried, element-info, type-info}
 use Rattle.model.specs.Machine.{Value, word, object, Cell, empty, filled, array-head, record-head}
 use Rattle.words.specs.Word.{low, tag, payload, pack, size-of, kind-of, Slot, cell, head, place, slot-in, as-cell, as-head, place-procedure, place-next}
 use Rattle.words.specs.Answer.{read-as}
@@ -46,19 +46,19 @@ unfolding slot-in
 slot-zero m qual = refl
 
 module _ (m : Mode) (qual : ℕ → Qual) (w : ℕ) where
-  pub slot-integer : tag w ≡ 1 → slot-in m qual w ≡ cell (filled (word (low w)) (mark m 0))
+  pub slot-integer : tag w ≡ 1 → slot-in m qual w ≡ cell (filled (word (low w)) (carried m 0))
   unfolding slot-in
   slot-integer e = rw (ne-eqb w 0 (tagged w 0 e), e)
 
-  pub slot-object : tag w ≡ 2 → slot-in m qual w ≡ cell (filled (object (payload w)) (mark m (low w)))
+  pub slot-object : tag w ≡ 2 → slot-in m qual w ≡ cell (filled (object (payload w)) (carried m (low w)))
   unfolding slot-in
   slot-object e = rw (ne-eqb w 0 (tagged w 1 e), e)
 
-  pub slot-array : tag w ≡ 3 → slot-in m qual w ≡ head (array-head (element-mark m (qual (kind-of w))) (size-of w))
+  pub slot-array : tag w ≡ 3 → slot-in m qual w ≡ head (array-head (element-info m (qual (kind-of w))) (size-of w))
   unfolding slot-in
   slot-array e = rw (ne-eqb w 0 (tagged w 2 e), e)
 
-  pub slot-record : tag w ≡ 4 → slot-in m qual w ≡ head (record-head (type-mark m (kind-of w)) (size-of w))
+  pub slot-record : tag w ≡ 4 → slot-in m qual w ≡ head (record-head (type-info m (kind-of w)) (size-of w))
   unfolding slot-in
   slot-record e = rw (ne-eqb w 0 (tagged w 3 e), e)
 
@@ -95,10 +95,10 @@ module _ (m : Mode) (qual : ℕ → Qual) (w : ℕ) where
   blank-word e z = ap as-cell (sym e ∙ ap (slot-in m qual) z ∙ slot-zero m qual)
 
   pub filled-word : {c : Cell m} → slot-in m qual w ≡ cell c → (w ≡ 0 → ⊥)
-      → (c ≡ filled (word (low w)) (mark m 0)) ⊎ (c ≡ filled (object (payload w)) (mark m (low w)))
+      → (c ≡ filled (word (low w)) (carried m 0)) ⊎ (c ≡ filled (object (payload w)) (carried m (low w)))
   filled-word {c} e not0 = by (reading w)
     where
-      by : Reading w → (c ≡ filled (word (low w)) (mark m 0)) ⊎ (c ≡ filled (object (payload w)) (mark m (low w)))
+      by : Reading w → (c ≡ filled (word (low w)) (carried m 0)) ⊎ (c ≡ filled (object (payload w)) (carried m (low w)))
       by (a-blank z) = absurd (not0 z)
       by (an-integer t) = inl (ap as-cell (sym e ∙ slot-integer m qual w t))
       by (an-object t) = inr (ap as-cell (sym e ∙ slot-object m qual w t))
@@ -125,10 +125,10 @@ module _ (m : Mode) (qual : ℕ → Qual) (w : ℕ) where
           let k : head-size (as-head (slot-in m qual w)) ≡ none = rw (t m qual) in
           absurd (let z : _≡_ {A = ℕ} 0 1 = cc in omega arith)
 
-  pub array-word : {e : ElementMark m} {n : ℕ} → as-head (slot-in m qual w) ≡ array-head e n → n ≡ size-of w
+  pub array-word : {e : ElementInfo m} {n : ℕ} → as-head (slot-in m qual w) ≡ array-head e n → n ≡ size-of w
   array-word is = size-word (ap head-size is)
 
-  pub record-word : {t : TypeMark m} {n : ℕ} → as-head (slot-in m qual w) ≡ record-head t n → n ≡ size-of w
+  pub record-word : {t : TypeInfo m} {n : ℕ} → as-head (slot-in m qual w) ≡ record-head t n → n ≡ size-of w
   record-word is = size-word (ap head-size is)
 
   pub place-word : {p i : ℕ} → slot-in m qual w ≡ place p i → (p ≡ payload w) × (i ≡ low w)
@@ -158,7 +158,7 @@ is-cell m qual w e k q = by (reading w)
     by (a-record t) = let s = slot-record m qual w t in absurd (let z : _≡_ {A = ℕ} 0 1 = cc in omega arith)
     by (a-place t) = let s = t m qual in absurd (let z : _≡_ {A = ℕ} 0 1 = cc in omega arith)
 
-pub filled-is-cell : (m : Mode) (qual : ℕ → Qual) (w : ℕ) (x : Value) (r : Mark m) → as-cell (slot-in m qual w) ≡ filled x r → IsCell w
+pub filled-is-cell : (m : Mode) (qual : ℕ → Qual) (w : ℕ) (x : Value) (r : Carried m) → as-cell (slot-in m qual w) ≡ filled x r → IsCell w
 filled-is-cell m qual w x r e = is-cell m qual w (known (slot-in m qual w) e)
   where
     known : (s : Slot m) → as-cell s ≡ filled x r → s ≡ cell (filled x r)
@@ -203,23 +203,23 @@ module _ {w : ℕ} {r : Read} (is : r ≡ read-as w) where
 -- ---- what a packed word is
 
 module _ (m : Mode) (qual : ℕ → Qual) where
-  pub integer-packed : (n : ℕ) → n < 2 ^ 32 → slot-in m qual (pack 1 0 n) ≡ cell (filled (word n) (mark m 0))
+  pub integer-packed : (n : ℕ) → n < 2 ^ 32 → slot-in m qual (pack 1 0 n) ≡ cell (filled (word n) (carried m 0))
   integer-packed n h =
       slot-integer m qual _ (tag-pack 1 0 n (omega arith) h) ∙ rw (low-pack 1 0 n (omega arith) h)
 
-  pub object-packed : (a r : ℕ) → r < 2 ^ 32 → slot-in m qual (pack 2 a r) ≡ cell (filled (object a) (mark m r))
+  pub object-packed : (a r : ℕ) → r < 2 ^ 32 → slot-in m qual (pack 2 a r) ≡ cell (filled (object a) (carried m r))
   object-packed a r h =
       slot-object m qual _ (tag-pack 2 a r (omega arith) h) ∙ rw (payload-pack 2 a r (omega arith) h, low-pack 2 a r (omega arith) h)
 
   -- a head of kind k (the element's number, or the type's) and size n
-  pub array-packed : (k n : ℕ) → k < 2 ^ 8 → n < 2 ^ 17 → slot-in m qual (pack 3 (k * 2 ^ 17 + n) 0) ≡ head (array-head (element-mark m (qual k)) n)
+  pub array-packed : (k n : ℕ) → k < 2 ^ 8 → n < 2 ^ 17 → slot-in m qual (pack 3 (k * 2 ^ 17 + n) 0) ≡ head (array-head (element-info m (qual k)) n)
   array-packed k n b h =
       let size : (k * 2 ^ 17 + n) % 2 ^ 17 ≡ n = omega arith in
       let over : (k * 2 ^ 17 + n) / 2 ^ 17 ≡ k = omega arith in
       let kind : k % 2 ^ 8 ≡ k = omega arith in
       slot-array m qual _ (tag-pack 3 _ 0 (omega arith) (omega arith)) ∙ rw (payload-pack 3 (k * 2 ^ 17 + n) 0 (omega arith) (omega arith), size, over, kind)
 
-  pub record-packed : (k n : ℕ) → k < 2 ^ 8 → n < 2 ^ 17 → slot-in m qual (pack 4 (k * 2 ^ 17 + n) 0) ≡ head (record-head (type-mark m k) n)
+  pub record-packed : (k n : ℕ) → k < 2 ^ 8 → n < 2 ^ 17 → slot-in m qual (pack 4 (k * 2 ^ 17 + n) 0) ≡ head (record-head (type-info m k) n)
   record-packed k n b h =
       let size : (k * 2 ^ 17 + n) % 2 ^ 17 ≡ n = omega arith in
       let over : (k * 2 ^ 17 + n) / 2 ^ 17 ≡ k = omega arith in

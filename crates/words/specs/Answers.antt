@@ -8,7 +8,7 @@ use lib.Dec.{eqb}
 use Rattle.model.specs.Outcome.{blank, past-end, input-ended, output-full, memory-full, missing-right, Res, ok, stop, stuck, _>>=_}
 use Rattle.model.specs.Qualified.{Qual}
 use Rattle.model.specs.Program.{Program}
-use Rattle.model.specs.Modes.{Mode, mark, amiss}
+use Rattle.model.specs.Modes.{Mode, carried, amiss}
 use Rattle.model.specs.Machine.{word, Cell, filled, View, Effect, write, store, moved}
 use Rattle.words.specs.Word.{cell, slot-in, as-cell}
 use Rattle.words.specs.Sees.{head-size, heads-in}
@@ -38,7 +38,7 @@ number-as m (N.Halt k) = halted m k
 
 -- variable a becomes that integer
 unfoldable pub given : (m : Mode) → ℕ → Number → Res (Effect m)
-given m a (N.Is n) = ok (write a (filled (word n) (mark m 0)))
+given m a (N.Is n) = ok (write a (filled (word n) (carried m 0)))
 given m a (N.Halt k) = halted m k
 
 -- a cell moved into variable a, as the definition has it

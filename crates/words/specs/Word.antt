@@ -6,7 +6,7 @@ use Prim.Native.Nat.{ℕ, _+_, _*_, _/_, _%_, _^_}
 use mathlib.Core.Bool.{cond}
 use lib.Dec.{eqb}
 use Rattle.model.specs.Qualified.{Qual}
-use Rattle.model.specs.Modes.{Mode, mark, element-mark, type-mark}
+use Rattle.model.specs.Modes.{Mode, carried, element-info, type-info}
 use Rattle.model.specs.Machine.{word, object, Cell, empty, filled, Head, array-head, record-head, no-head}
 
 unfoldable pub low : ℕ → ℕ
@@ -37,10 +37,10 @@ pub data Slot (m : Mode) : Type 0 where
 unfoldable pub slot-in : (m : Mode) → (qual : ℕ → Qual) → ℕ → Slot m
 slot-in m qual w =
     cond (eqb w 0) (cell empty)
-    (cond (eqb (tag w) 1) (cell (filled (word (low w)) (mark m 0)))
-    (cond (eqb (tag w) 2) (cell (filled (object (payload w)) (mark m (low w))))
-    (cond (eqb (tag w) 3) (head (array-head (element-mark m (qual (kind-of w))) (size-of w)))
-    (cond (eqb (tag w) 4) (head (record-head (type-mark m (kind-of w)) (size-of w)))
+    (cond (eqb (tag w) 1) (cell (filled (word (low w)) (carried m 0)))
+    (cond (eqb (tag w) 2) (cell (filled (object (payload w)) (carried m (low w))))
+    (cond (eqb (tag w) 3) (head (array-head (element-info m (qual (kind-of w))) (size-of w)))
+    (cond (eqb (tag w) 4) (head (record-head (type-info m (kind-of w)) (size-of w)))
     (place (payload w) (low w))))))
 
 -- a slot read as a cell, as a head, as a place

@@ -3,7 +3,7 @@ ghost use mathlib.Core.Path.{_≡_};
 ghost use Prim.Native.Nat.{ℕ, _+_, _<_, _^_};
 ghost use lib.ListN.{length, getD, set, replicate};
 ghost use Rattle.model.specs.Qualified.{Qual};
-ghost use Rattle.model.specs.Modes.{Mode, mark, element-mark, type-mark};
+ghost use Rattle.model.specs.Modes.{Mode, carried, element-info, type-info};
 ghost use Rattle.model.specs.Machine.{word, object, filled, array-head, record-head};
 ghost use Rattle.words.specs.Word.{cell, head, place, low, tag, payload, size-of, kind-of, slot-in};
 ghost use Rattle.words.specs.Answer.{read-as};
@@ -91,28 +91,28 @@ pub fn kind_in(w: u64) -> u8
 
 // The words of an integer, of an object, of the heads of an array and of a record, of a place.
 pub fn integer_word(n: u32) -> u64
-    ensures { λ w. ⌜ ((m : Mode) (q : ℕ → Qual) → slot-in m q w ≡ cell (filled (word n) (mark m 0))) ⌝ }
+    ensures { λ w. ⌜ ((m : Mode) (q : ℕ → Qual) → slot-in m q w ≡ cell (filled (word n) (carried m 0))) ⌝ }
 {
     4294967296 + (n as u64)
 }
 
 pub fn object_word(a: u32, rights: u32) -> u64
     requires { ⌜ a < 2 ^ 29 ⌝ }
-    ensures { λ w. ⌜ ((m : Mode) (q : ℕ → Qual) → slot-in m q w ≡ cell (filled (object a) (mark m rights))) ⌝ }
+    ensures { λ w. ⌜ ((m : Mode) (q : ℕ → Qual) → slot-in m q w ≡ cell (filled (object a) (carried m rights))) ⌝ }
 {
     ((a as u64) * 8 + 2) * 4294967296 + (rights as u64)
 }
 
 pub fn array_word(n: u32, element: u8) -> u64
     requires { ⌜ n < 2 ^ 17 ⌝ }
-    ensures { λ w. ⌜ ((m : Mode) (q : ℕ → Qual) → slot-in m q w ≡ head (array-head (element-mark m (q element)) n)) ⌝ }
+    ensures { λ w. ⌜ ((m : Mode) (q : ℕ → Qual) → slot-in m q w ≡ head (array-head (element-info m (q element)) n)) ⌝ }
 {
     (((element as u64) * 131072 + (n as u64)) * 8 + 3) * 4294967296
 }
 
 pub fn record_word(n: u32, kind: u8) -> u64
     requires { ⌜ n < 2 ^ 17 ⌝ }
-    ensures { λ w. ⌜ ((m : Mode) (q : ℕ → Qual) → slot-in m q w ≡ head (record-head (type-mark m kind) n)) ⌝ }
+    ensures { λ w. ⌜ ((m : Mode) (q : ℕ → Qual) → slot-in m q w ≡ head (record-head (type-info m kind) n)) ⌝ }
 {
     (((kind as u64) * 131072 + (n as u64)) * 8 + 4) * 4294967296
 }

@@ -11,9 +11,9 @@ use borrow.Rule.Slice.PartMut.{midOf, putMid, same-len-mid, mid-len, drop-put}
 use lib.Dec.{eqb}
 use lib.ListN.{length, set, take, drop, replicate, length-set, length-append, length-drop, length-replicate, take-append-drop}
 use lib.Seq.{drop-drop, drop-cons, set-at, take-at, take-set-lt, take-suc-set, drop-set-lt, set-append-left, length-take-le}
-use Rattle.model.specs.Outcome.{Stop, number, blank, past-end, input-ended, output-full, memory-full, missing-right, Res, ok, stop, stuck, _>>=_}
+use Rattle.model.specs.Outcome.{Stop, stop-number, blank, past-end, input-ended, output-full, memory-full, missing-right, Res, ok, stop, stuck, _>>=_}
 use Rattle.model.specs.Qualified.{Qual}
-use Rattle.model.specs.Modes.{Mode, plain, watched, Mark, ElementMark, TypeMark, amiss}
+use Rattle.model.specs.Modes.{Mode, plain, watched, Carried, ElementInfo, TypeInfo, amiss}
 use Rattle.model.specs.Machine as M
 use Rattle.model.specs.Machine.{Cell, empty, filled, object, Object, array-of, record-of, cells-of, head-of, find, update, Frame, frame, state, apply, rest-of, object-units}
 use Rattle.sheet.specs.Meaning.{qualOf}
@@ -89,7 +89,7 @@ pub does-halt : (m : Mode) (c : Given) (words words′ out : List ℕ) (r : Regi
 does-halt m c words words′ out r k t S = rw halted-then (halted-after m c words′ out r k)
 
 pub does-stop : (m : Mode) (c : Given) (words words′ out : List ℕ) (r : Registers) (x : Stop)
-    → Does m c words words′ out out r (Halt (number x)) (stop x)
+    → Does m c words words′ out out r (Halt (stop-number x)) (stop x)
 unfolding _>>=_
 does-stop m c words words′ out r x t S = (refl, refl)
 
@@ -359,7 +359,7 @@ allots m q words zeros words′ r a w n v sane room cleared e =
 
 module _ {m : Mode} {c : Given} {words out : List ℕ} {r : Registers} {p i : ℕ} {vs : List (Cell m)} {fs : List (Frame m)} {os : List (Object m)}
     {input put : List ℕ} (S : Stands m c words out r p i vs fs os input put) where
-  pub made : (words′ : List ℕ) (a w n v : ℕ) (o : Object m) (k : Mark m) → r .used + (n + 1) ≤ r .base
+  pub made : (words′ : List ℕ) (a w n v : ℕ) (o : Object m) (k : Carried m) → r .used + (n + 1) ≤ r .base
       → slot-in m (qualOf (c .sheet)) w ≡ head (head-of (some o)) → slot-in m (qualOf (c .sheet)) v ≡ cell (filled (object (r .used)) k)
       → cells-of o ≡ replicate n empty → Allotted m (qualOf (c .sheet)) words words′ r a w n v
       → Stands m c words′ out (onward r (r .next + 1) (r .used + (n + 1)) (r .taken) (r .put)) p (suc i)
@@ -371,15 +371,15 @@ module _ {m : Mode} {c : Given} {words out : List ℕ} {r : Registers} {p i : �
       (A .frame ∙ rw (named, S .frames, used-is S) (set-variable (r .variables) vs (flat-frames (c .sheet) fs) a (filled (object (object-units os)) k) (S .variables)))
 
 -- an object with that head and that name, in either machine
-module _ (m : Mode) (c : Given) (words words′ out : List ℕ) (r : Registers) (a w n v : ℕ) (k : Mark m) (room : r .used + (n + 1) ≤ r .base)
+module _ (m : Mode) (c : Given) (words words′ out : List ℕ) (r : Registers) (a w n v : ℕ) (k : Carried m) (room : r .used + (n + 1) ≤ r .base)
     (named : slot-in m (qualOf (c .sheet)) v ≡ cell (filled (object (r .used)) k)) (A : Allotted m (qualOf (c .sheet)) words words′ r a w n v) where
-  pub does-array : (e : ElementMark m) → slot-in m (qualOf (c .sheet)) w ≡ head (M.array-head e n)
+  pub does-array : (e : ElementInfo m) → slot-in m (qualOf (c .sheet)) w ≡ head (M.array-head e n)
       → Does m c words words′ out out r (Go (onward r (r .next + 1) (r .used + (n + 1)) (r .taken) (r .put))) (ok (M.new-array a e n k))
   unfolding apply _>>=_
   does-array e is (state (frame p i vs) fs os input put) S =
       (refl, made S words′ a w n v (array-of e (replicate n empty)) k room (rw length-replicate is) named refl A)
 
-  pub does-record : (t : TypeMark m) → slot-in m (qualOf (c .sheet)) w ≡ head (M.record-head t n)
+  pub does-record : (t : TypeInfo m) → slot-in m (qualOf (c .sheet)) w ≡ head (M.record-head t n)
       → Does m c words words′ out out r (Go (onward r (r .next + 1) (r .used + (n + 1)) (r .taken) (r .put))) (ok (M.new-record a t n k))
   unfolding apply _>>=_
   does-record t is (state (frame p i vs) fs os input put) S =

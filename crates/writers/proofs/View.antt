@@ -10,7 +10,7 @@ use lib.Dec.{ltb}
 use lib.ListN.{length, getD, take, drop, length-append, length-map, length-drop, List·getD-map}
 use lib.Seq.{getD-drop, getD-at, getD-append-add, drop-drop, drop-append-add, length-take-le, take-at}
 use Rattle.model.specs.Modes.{Mode}
-use Rattle.model.specs.Machine.{Cell, empty, Object, cells-of, head-of, cell-of, find, Frame, frame, State, state, object-units, frame-units, view, place-of, first-of}
+use Rattle.model.specs.Machine.{Cell, empty, Object, cells-of, head-of, cell-of, find, Frame, frame, State, state, object-units, frame-units, view, caller-place, first-of}
 use Rattle.sheet.specs.Layout.{instructionAt, procedureAt}
 use Rattle.sheet.specs.Meaning.{qualOf}
 use Rattle.words.specs.Word.{low, payload, Slot, cell, place, slot-in, as-head}
@@ -125,7 +125,7 @@ module _ {m : Mode} {c : Given} {words out : List ℕ} {r : Registers} {p i q k 
       ∙ rw (S .frames, n) (drop-append-add (map cell vs) (flat-frames (c .sheet) (frame q k us ∷ fs)) 2)
 
 pub caller-is-in : {m : Mode} {c : Given} {words out : List ℕ} {r : Registers} {p i : ℕ} {vs : List (Cell m)} (fs : List (Frame m)) {os : List (Object m)}
-    {input put : List ℕ} → Stands m c words out r p i vs fs os input put → place-of fs ≡ caller-in words (r .base) (r .variables)
+    {input put : List ℕ} → Stands m c words out r p i vs fs os input put → caller-place fs ≡ caller-in words (r .base) (r .variables)
 caller-is-in {words = words} {r = r} [] S = rw (le-ltb (r .base + (r .variables + 2)) (length words) (alone S))
 caller-is-in {m} {c} {words = words} {r = r} (frame q k us ∷ fs) S =
     let w = place-word m (qualOf (c .sheet)) _ (waiting-place S) in

@@ -7,8 +7,8 @@ use mathlib.Core.Option.{Option}
 use lib.Dec.{leb, ltb}
 use lib.ListN.{length, drop, set, replicate}
 use lib.ListN as list
-use Rattle.model.specs.Outcome.{number, input-ended, output-full, memory-full, Res, ok, stop, stuck, test, found, _>>=_, _>>_}
-use Rattle.model.specs.Modes.{Mode, Mark, ElementMark, TypeMark, mark}
+use Rattle.model.specs.Outcome.{stop-number, input-ended, output-full, memory-full, Res, ok, stop, stuck, ensure, found, _>>=_, _>>_}
+use Rattle.model.specs.Modes.{Mode, Carried, ElementInfo, TypeInfo, carried}
 use Rattle.model.specs.Qualified.{Qual}
 use Rattle.model.specs.Machine.{word, empty, filled, State, Next, go, finished, Effect, put, take, jump, skip, new-array, new-record, apply}
 use Rattle.sheet.specs.Meaning.{programOf}
@@ -47,7 +47,7 @@ After m c words before output r (Enter q) (ok finished) = ⊥
 After m c words before output r (Enter q) (stop x) = ⊥
 After m c words before output r (Enter q) stuck = Unit {0}
 After m c words before output r (Halt k) (ok n) = ⊥
-After m c words before output r (Halt k) (stop x) = (k ≡ number x) × (output ≡ before)
+After m c words before output r (Halt k) (stop x) = (k ≡ stop-number x) × (output ≡ before)
 After m c words before output r (Halt k) stuck = Unit {0}
 After m c words before output r Done (ok (go t)) = ⊥
 After m c words before output r Done (ok finished) = output ≡ before
@@ -84,14 +84,14 @@ jumped m k n = number-as m n >>= λ x. ok (branched x k)
 
 -- an output of so many words, with so many free
 unfoldable pub put-effect : (m : Mode) → (free : ℕ) → Number → Res (Effect m)
-put-effect m free n = number-as m n >>= λ x. (test output-full (ltb 0 free) >> ok (put x))
+put-effect m free n = number-as m n >>= λ x. (ensure output-full (ltb 0 free) >> ok (put x))
 
 unfoldable pub take-effect : (m : Mode) → ℕ → Option ℕ → Res (Effect m)
-take-effect m a next = found input-ended next >>= λ n. ok (take a (filled (word n) (mark m 0)))
+take-effect m a next = found input-ended next >>= λ n. ok (take a (filled (word n) (carried m 0)))
 
 -- a new array, or a new record, where so many units are free; what is kept with it, and beside its name
-unfoldable pub array-effect : (m : Mode) → (room a : ℕ) → ElementMark m → Mark m → Number → Res (Effect m)
-array-effect m room a e k n = number-as m n >>= λ x. (test memory-full (leb (suc x) room) >> ok (new-array a e x k))
+unfoldable pub array-effect : (m : Mode) → (room a : ℕ) → ElementInfo m → Carried m → Number → Res (Effect m)
+array-effect m room a e k n = number-as m n >>= λ x. (ensure memory-full (leb (suc x) room) >> ok (new-array a e x k))
 
-unfoldable pub record-effect : (m : Mode) → (room a : ℕ) → TypeMark m → Mark m → (slots : ℕ) → Res (Effect m)
-record-effect m room a t k slots = test memory-full (leb (suc slots) room) >> ok (new-record a t slots k)
+unfoldable pub record-effect : (m : Mode) → (room a : ℕ) → TypeInfo m → Carried m → (slots : ℕ) → Res (Effect m)
+record-effect m room a t k slots = ensure memory-full (leb (suc slots) room) >> ok (new-record a t slots k)

@@ -1,6 +1,6 @@
 -- The word written is an integer's cell, so that the frame's variables are those with that integer; a stop is the number's own.
 use Rattle.model.specs.Machine.{word, filled}
-use Rattle.model.specs.Modes.{mark}
+use Rattle.model.specs.Modes.{carried}
 use Rattle.sheet.specs.Meaning.{qualOf}
 use Rattle.words.specs.Word.{slot-in}
 use Rattle.words.specs.Answers.{given}
@@ -35,7 +35,7 @@ unfolding given
 returns c =
     let s = c .before .before .before .before .before .before .before .before .before .before .before .args in
     λ m g out. rw (c .at-next .ensures, c .before .before .before .before .before .before .before .before .n .given .1)
-    (does-write m g _ _ out (s .r) (s .a) (filled (word _) (mark m 0))
+    (does-write m g _ _ out (s .r) (s .a) (filled (word _) (carried m 0))
     (puts (slot-in m (qualOf (g .sheet))) _ _ (s .r) (s .a) _ _ (c .before .before .before .before .before .before .before .before .before .before .before .pre .0) (c .before .before .before .before .before .integer-word .ensures m (qualOf (g .sheet))) (c .before .before .before .before .put-variable .ensures)))
 
 returns-2 : tie.Need-returns-2

@@ -1,7 +1,7 @@
 -- The word taken is the first of those left; where none is left the machine stops.
 use Rattle.model.specs.Outcome.{input-ended}
 use Rattle.model.specs.Machine.{word, filled}
-use Rattle.model.specs.Modes.{mark}
+use Rattle.model.specs.Modes.{carried}
 use Rattle.sheet.specs.Meaning.{qualOf}
 use Rattle.words.specs.Word.{slot-in}
 use Rattle.writers.proofs.Effects.{puts, does-take, does-stop}
@@ -35,7 +35,7 @@ returns : tie.Need-returns
 returns c =
     let s = c .before .before .before .before .before .before .before .before .before .before .args in
     λ m g out. rw (take-there m _ _ _ (c .before .before .before .before .before .before .before .if1 .taken))
-    (does-take m g _ _ out (s .r) (s .a) (filled (word _) (mark m 0))
+    (does-take m g _ _ out (s .r) (s .a) (filled (word _) (carried m 0))
     (puts (slot-in m (qualOf (g .sheet))) _ _ (s .r) (s .a) _ _ (c .before .before .before .before .before .before .before .before .before .before .pre .0) (c .before .before .before .before .integer-word .ensures m (qualOf (g .sheet))) (c .before .before .before .put-variable .ensures)))
 
 returns-2 : tie.Need-returns-2

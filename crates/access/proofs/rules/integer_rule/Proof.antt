@@ -1,6 +1,6 @@
 -- One test: `require` gives its number where it fails.
 use borrow.Author.Needs.{needs}
-use Rattle.model.specs.Rules.{one-integer}
+use Rattle.model.specs.Rules.{integer-rule}
 use Rattle.model.specs.Refusal.{failure}
 use Rattle.sheet.specs.Meaning.{innerIn}
 use Rattle.access.proofs.rules.integer_rule.Statement.{statement}
@@ -16,7 +16,7 @@ require-requires : tie.Need-require-requires
 require-requires c κs = search needs
 
 returns : tie.Need-returns
-unfolding failure one-integer innerIn
+unfolding failure integer-rule innerIn
 returns c = rw (c .require .ensures, c .before .is-integer .ensures, c .before .before .inner-of .ensures)
 
 pub integer-rule-spec : {M : Type 1} → statement M

@@ -1,6 +1,6 @@
 -- One test of three, put together as in the definition.
 use borrow.Author.Needs.{needs}
-use Rattle.model.specs.Rules.{three-integers}
+use Rattle.model.specs.Rules.{integers-rule}
 use Rattle.model.specs.Refusal.{failure}
 use Rattle.sheet.specs.Meaning.{innerIn}
 use Rattle.access.proofs.rules.integers_rule.Statement.{statement}
@@ -28,7 +28,7 @@ require-requires : tie.Need-require-requires
 require-requires c κs = search needs
 
 returns : tie.Need-returns
-unfolding failure three-integers innerIn
+unfolding failure integers-rule innerIn
 returns c =
     let d = c .before .before .before .before in
     rw (

@@ -1,0 +1,144 @@
+-- The words read are those of the variables and of the head; below the size, the word moved is that of the array's cell.
+use mathlib.Core.Path.{sym}
+use Rattle.model.specs.Rights.{fetch-right}
+use Rattle.model.specs.Modes.{plain}
+use Rattle.model.specs.Machine.{plan, plan-fetch, declared-as}
+use Rattle.words.specs.Answers.{moved-to, halted}
+use Rattle.plain_plan.proofs.Laws.{due, settle, blank-there, filled-there, element-blank, element-blank-index, element-past, element-at, fetching, moved-is}
+use borrow.Author.Needs.{needs}
+use Rattle.plain_plan.proofs.fetch_of.Statement.{statement}
+use Rattle.plain_plan.proofs.fetch_of.Tie as tie
+
+read-requires : tie.Need-read-requires
+read-requires c κs = search needs
+
+cell-of-requires : tie.Need-cell-of-requires
+cell-of-requires c κs = search needs
+
+enum-known-x : tie.Need-enum-known-x
+enum-known-x c = search needs
+
+enum-told : tie.Need-enum-told
+enum-told c = search needs
+
+returns : tie.Need-returns
+unfolding plan plan-fetch moved-to halted
+returns c =
+    let read = c .before .before .before .read in
+    let cell-of = c .before .before .cell-of in
+    let enum-told = c .enum-told in
+    λ q g v a s. due (element-blank g v fetch-right _ _ (fetching g v a) (blank-there s (read .ensures) (cell-of .ensures) (enum-told .given .1))) (λ e. (tt, sym e))
+
+read-requires-2 : tie.Need-read-requires-2
+read-requires-2 c κs = search needs
+
+cell-of-requires-2 : tie.Need-cell-of-requires-2
+cell-of-requires-2 c κs = search needs
+
+enum-known-y : tie.Need-enum-known-y
+enum-known-y c = search needs
+
+enum-told-2 : tie.Need-enum-told-2
+enum-told-2 c = search needs
+
+returns-2 : tie.Need-returns-2
+unfolding plan plan-fetch moved-to halted
+returns-2 c =
+    let read = c .before .before .before .before .before .before .before .before .read in
+    let cell-of = c .before .before .before .before .before .before .before .cell-of in
+    let x = c .before .before .before .before .before .x in
+    let read2 = c .before .before .before .read2 in
+    let cell-of2 = c .before .before .cell-of2 in
+    let enum-told2 = c .enum-told2 in
+    λ q g v a s. due (element-blank-index g v fetch-right _ _ (fetching g v a) (filled-there s (read .ensures) (cell-of .ensures) (x .given .1)) (blank-there s (read2 .ensures) (cell-of2 .ensures) (enum-told2 .given .1))) (λ e. (tt, sym e))
+
+name-of-requires : tie.Need-name-of-requires
+name-of-requires c κs = search needs
+
+cast-o : tie.Need-cast-o
+cast-o c = search needs
+
+low-of-requires : tie.Need-low-of-requires
+low-of-requires c κs = search needs
+
+read-requires-3 : tie.Need-read-requires-3
+read-requires-3 c κs = search needs
+
+size-of-requires : tie.Need-size-of-requires
+size-of-requires c κs = search needs
+
+add-read : tie.Need-add-read
+add-read c = search needs
+
+cast-read : tie.Need-cast-read
+cast-read c = search needs
+
+add-read-2 : tie.Need-add-read-2
+add-read-2 c = search needs
+
+read-requires-4 : tie.Need-read-requires-4
+read-requires-4 c κs = search needs
+
+filled-word-requires : tie.Need-filled-word-requires
+filled-word-requires c κs = search needs
+
+returns-3 : tie.Need-returns-3
+unfolding plan plan-fetch
+returns-3 c =
+    let read = c .before .before .before .before .before .before .before .before .before .before .before .before .before .before .before .before .read in
+    let cell-of = c .before .before .before .before .before .before .before .before .before .before .before .before .before .before .before .cell-of in
+    let x = c .before .before .before .before .before .before .before .before .before .before .before .before .before .x in
+    let read2 = c .before .before .before .before .before .before .before .before .before .before .before .read2 in
+    let cell-of2 = c .before .before .before .before .before .before .before .before .before .before .cell-of2 in
+    let y = c .before .before .before .before .before .before .before .before .y in
+    let name-of = c .before .before .before .before .before .before .name-of in
+    let low-of = c .before .before .before .before .before .low-of in
+    let read3 = c .before .before .before .before .read3 in
+    let size-of = c .before .before .before .size-of in
+    let if1 = c .before .before .if1 in
+    let read4 = c .before .read4 in
+    let filled-word = c .filled-word in
+    λ q g v a s. settle (element-at g v fetch-right _ _ (fetching g v a) s (filled-there s (read .ensures) (cell-of .ensures) (x .given .1)) (filled-there s (read2 .ensures) (cell-of2 .ensures) (y .given .1)) (name-of .ensures) (low-of .ensures) (read3 .ensures) (size-of .ensures) (if1 .taken)) (λ e. moved-is q g v (declared-as plain g v a) a (s .cell _ _ _ (e .0) (if1 .taken)) (read4 .ensures) (filled-word .ensures) (e .1))
+
+returns-4 : tie.Need-returns-4
+unfolding plan plan-fetch moved-to halted
+returns-4 c =
+    let read = c .before .before .before .before .before .before .before .before .before .before .before .before .before .before .read in
+    let cell-of = c .before .before .before .before .before .before .before .before .before .before .before .before .before .cell-of in
+    let x = c .before .before .before .before .before .before .before .before .before .before .before .x in
+    let read2 = c .before .before .before .before .before .before .before .before .before .read2 in
+    let cell-of2 = c .before .before .before .before .before .before .before .before .cell-of2 in
+    let y = c .before .before .before .before .before .before .y in
+    let name-of = c .before .before .before .before .name-of in
+    let low-of = c .before .before .before .low-of in
+    let read3 = c .before .before .read3 in
+    let size-of = c .before .size-of in
+    let if1 = c .if1 in
+    λ q g v a s. settle (element-past g v fetch-right _ _ (fetching g v a) s (filled-there s (read .ensures) (cell-of .ensures) (x .given .1)) (filled-there s (read2 .ensures) (cell-of2 .ensures) (y .given .1)) (name-of .ensures) (low-of .ensures) (read3 .ensures) (size-of .ensures) (if1 .left)) (λ e. (tt, sym e))
+
+pub fetch-of-spec : {M : Type 1} → statement M
+fetch-of-spec =
+    tie.close
+    (tie.spec
+    read-requires
+    cell-of-requires
+    enum-known-x
+    enum-told
+    returns
+    read-requires-2
+    cell-of-requires-2
+    enum-known-y
+    enum-told-2
+    returns-2
+    name-of-requires
+    cast-o
+    low-of-requires
+    read-requires-3
+    size-of-requires
+    add-read
+    cast-read
+    add-read-2
+    read-requires-4
+    filled-word-requires
+    returns-3
+    returns-4)

@@ -1,0 +1,89 @@
+-- The words read are those of the variables; the slot set is one of the record's, or the definition is stuck.
+use mathlib.Core.Path.{_∙_, refl, sym}
+use Rattle.model.specs.Rights.{open-right}
+use Rattle.model.specs.Modes.{plain}
+use Rattle.model.specs.Machine.{plan, plan-set}
+use Rattle.words.specs.Answers.{stored, halted}
+use Rattle.words.proofs.Laws.{is-cell}
+use Rattle.plain_plan.proofs.Laws.{due, settle, blank-there, filled-there, slot-blank, slot-filled, setting, setting-blank, setting-filled, inside}
+use borrow.Author.Needs.{needs}
+use Rattle.plain_plan.proofs.set_at.Statement.{statement}
+use Rattle.plain_plan.proofs.set_at.Tie as tie
+
+read-requires : tie.Need-read-requires
+read-requires c κs = search needs
+
+cell-of-requires : tie.Need-cell-of-requires
+cell-of-requires c κs = search needs
+
+enum-known-x : tie.Need-enum-known-x
+enum-known-x c = search needs
+
+enum-told : tie.Need-enum-told
+enum-told c = search needs
+
+returns : tie.Need-returns
+unfolding plan plan-set stored halted
+returns c =
+    let args = c .before .before .before .before .before .args in
+    let read = c .before .before .before .read in
+    let cell-of = c .before .before .cell-of in
+    let enum-told = c .enum-told in
+    λ q g v h s. due (slot-blank g v open-right (g .owner (v .procedure)) _ (args .k) (λ o. setting g v (g .slot (g .owner (v .procedure)) (args .k)) (args .b) (o .0) (args .k)) (blank-there s (read .ensures) (cell-of .ensures) (enum-told .given .1))) (λ e. (tt, sym e))
+
+read-requires-2 : tie.Need-read-requires-2
+read-requires-2 c κs = search needs
+
+cell-of-requires-2 : tie.Need-cell-of-requires-2
+cell-of-requires-2 c κs = search needs
+
+enum-known-w : tie.Need-enum-known-w
+enum-known-w c = search needs
+
+enum-told-2 : tie.Need-enum-told-2
+enum-told-2 c = search needs
+
+returns-2 : tie.Need-returns-2
+unfolding plan plan-set stored halted
+returns-2 c =
+    let args = c .before .before .before .before .before .before .before .before .before .before .args in
+    let read = c .before .before .before .before .before .before .before .before .read in
+    let cell-of = c .before .before .before .before .before .before .before .cell-of in
+    let x = c .before .before .before .before .before .x in
+    let read2 = c .before .before .before .read2 in
+    let cell-of2 = c .before .before .cell-of2 in
+    let enum-told2 = c .enum-told2 in
+    λ q g v h s. settle (slot-filled g v open-right (g .owner (v .procedure)) _ (args .k) (λ o. setting g v (g .slot (g .owner (v .procedure)) (args .k)) (args .b) (o .0) (args .k)) (filled-there s (read .ensures) (cell-of .ensures) (x .given .1)) refl) (λ there. (tt, sym (there .is ∙ setting-blank g v _ _ _ _ (blank-there s (read2 .ensures) (cell-of2 .ensures) (enum-told2 .given .1)))))
+
+name-of-requires : tie.Need-name-of-requires
+name-of-requires c κs = search needs
+
+returns-3 : tie.Need-returns-3
+unfolding plan plan-set stored
+returns-3 c =
+    let args = c .before .before .before .before .before .before .before .before .before .before .before .before .args in
+    let read = c .before .before .before .before .before .before .before .before .before .before .read in
+    let cell-of = c .before .before .before .before .before .before .before .before .before .cell-of in
+    let x = c .before .before .before .before .before .before .before .x in
+    let read2 = c .before .before .before .before .before .read2 in
+    let cell-of2 = c .before .before .before .before .cell-of2 in
+    let w = c .before .before .w in
+    let name-of = c .name-of in
+    λ q g v h s. settle (slot-filled g v open-right (g .owner (v .procedure)) _ (args .k) (λ o. setting g v (g .slot (g .owner (v .procedure)) (args .k)) (args .b) (o .0) (args .k)) (filled-there s (read .ensures) (cell-of .ensures) (x .given .1)) (name-of .ensures)) (λ there. let W = filled-there s (read2 .ensures) (cell-of2 .ensures) (w .given .1) in ((is-cell plain q _ (W .slot), inside q v _ _ s _ _ _ (there .head) (there .below)), sym (there .is ∙ setting-filled g v _ _ _ _ W)))
+
+pub set-at-spec : {M : Type 1} → statement M
+set-at-spec =
+    tie.close
+    (tie.spec
+    read-requires
+    cell-of-requires
+    enum-known-x
+    enum-told
+    returns
+    read-requires-2
+    cell-of-requires-2
+    enum-known-w
+    enum-told-2
+    returns-2
+    name-of-requires
+    returns-3)

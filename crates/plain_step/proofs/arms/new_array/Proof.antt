@@ -1,0 +1,52 @@
+-- The integer is that of the variable, and the free units are those of the view.
+use borrow.Author.Needs.{needs}
+use denote.Ref.{now}
+use Rattle.sheet.specs.Meaning.{qualOf, programOf}
+use Rattle.plain_step.proofs.Laws.{performs-array}
+use Rattle.plain_step.proofs.arms.new_array.Statement.{statement}
+use Rattle.plain_step.proofs.arms.new_array.Tie as tie
+
+add-end : tie.Need-add-end
+add-end c = search needs
+
+mul-integer-at : tie.Need-mul-integer-at
+mul-integer-at c = search needs
+
+sub-integer-at : tie.Need-sub-integer-at
+sub-integer-at c = search needs
+
+part-integer-at-start : tie.Need-part-integer-at-start
+part-integer-at-start c = search needs
+
+part-integer-at-end : tie.Need-part-integer-at-end
+part-integer-at-end c = search needs
+
+integer-at-requires : tie.Need-integer-at-requires
+integer-at-requires c κs = search needs
+
+give-array-requires : tie.Need-give-array-requires
+give-array-requires c κs = search needs
+
+same-length : tie.Need-same-length
+same-length c = search needs
+
+returns : tie.Need-returns
+returns c =
+    let args = c .before .before .before .before .before .before .before .before .before .args in
+    let integer-at = c .before .before .before .before .integer-at in
+    let give-array = c .before .before .give-array in
+    λ s input out. performs-array s input (now (args .memory)) (give-array .last .0) out out (args .r) (give-array .result) (args .a) (args .b) (integer-at .result) (λ d. give-array .ensures d out) (λ v S. integer-at .ensures (qualOf s) (programOf s) v _ S)
+
+pub new-array-spec : {M : Type 1} → statement M
+new-array-spec =
+    tie.close
+    (tie.spec
+    add-end
+    mul-integer-at
+    sub-integer-at
+    part-integer-at-start
+    part-integer-at-end
+    integer-at-requires
+    give-array-requires
+    same-length
+    returns)

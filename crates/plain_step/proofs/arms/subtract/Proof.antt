@@ -1,0 +1,54 @@
+-- The part of the memory that is read is the frame's, which the view sees; the writer does what is planned.
+use borrow.Author.Needs.{needs}
+use denote.Ref.{now}
+use Rattle.model.specs.Modes.{plain}
+use Rattle.sheet.specs.Meaning.{qualOf, programOf}
+use Rattle.words.specs.Answers.{given}
+use Rattle.frames.proofs.Performs.{performs-frame}
+use Rattle.plain_step.proofs.arms.subtract.Statement.{statement}
+use Rattle.plain_step.proofs.arms.subtract.Tie as tie
+
+add-end : tie.Need-add-end
+add-end c = search needs
+
+mul-subtract-of : tie.Need-mul-subtract-of
+mul-subtract-of c = search needs
+
+sub-subtract-of : tie.Need-sub-subtract-of
+sub-subtract-of c = search needs
+
+part-subtract-of-start : tie.Need-part-subtract-of-start
+part-subtract-of-start c = search needs
+
+part-subtract-of-end : tie.Need-part-subtract-of-end
+part-subtract-of-end c = search needs
+
+subtract-of-requires : tie.Need-subtract-of-requires
+subtract-of-requires c κs = search needs
+
+give-number-requires : tie.Need-give-number-requires
+give-number-requires c κs = search needs
+
+same-length : tie.Need-same-length
+same-length c = search needs
+
+returns : tie.Need-returns
+returns c =
+    let args = c .before .before .before .before .before .before .before .before .before .args in
+    let subtract-of = c .before .before .before .before .subtract-of in
+    let give-number = c .before .before .give-number in
+    λ s input out. performs-frame plain s input (now (args .memory)) (give-number .last .0) out out (args .r) (give-number .result) _ (λ q. given plain (args .a) (subtract-of .result)) (λ d. give-number .ensures plain d out) (λ v R S. subtract-of .ensures (qualOf s) (programOf s) v _ (args .a) S)
+
+pub subtract-spec : {M : Type 1} → statement M
+subtract-spec =
+    tie.close
+    (tie.spec
+    add-end
+    mul-subtract-of
+    sub-subtract-of
+    part-subtract-of-start
+    part-subtract-of-end
+    subtract-of-requires
+    give-number-requires
+    same-length
+    returns)

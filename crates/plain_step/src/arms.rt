@@ -1,0 +1,245 @@
+// Each operation: what it asks for (crate plans), done (crate writers).
+use plain_plan::add_of;
+use plain_plan::array_size_of;
+use plain_plan::fetch_of;
+use plain_plan::get_of;
+use plain_plan::integer_at;
+use plain_plan::less_of;
+use plain_plan::moved_at;
+use plain_plan::set_at;
+use plain_plan::store_at;
+use plain_plan::subtract_of;
+use sheet::bytes::byte;
+use sheet::places::type_at;
+use words::Moved;
+use words::Number;
+use words::Stored;
+use writers::Registers;
+use writers::Stepped;
+use writers::give_array;
+use writers::give_moved;
+use writers::give_number;
+use writers::give_record;
+use writers::jump;
+use writers::put_output;
+use writers::store_cell;
+use writers::take_input;
+ghost use mathlib.Core.Path.{_≡_};
+ghost use mathlib.Core.List.{List};
+ghost use Prim.Native.Nat.{ℕ, _<_};
+ghost use lib.ListN.{length, take, drop};
+ghost use Rattle.model.specs.Qualified.{Qual};
+ghost use Rattle.model.specs.Program.{Program};
+ghost use Rattle.model.specs.Modes.{plain};
+ghost use Rattle.model.specs.Machine.{View, plan};
+ghost use Rattle.model.specs.declared.Operation.the-variants as Op;
+ghost use Rattle.sheet.specs.Layout.{ownerAt, slotsOf};
+ghost use Rattle.words.specs.Sees.{Sees};
+ghost use Rattle.words.specs.Answers.{Unless-stuck, MovedOk, StoredOk, given, moved-to, stored};
+ghost use Rattle.writers.specs.Memory.{Sane};
+ghost use Rattle.frames.specs.Performs.{Loaded, Performs};
+
+// What is read of the running frame's part of the memory and of the objects' part, where the definition is not stuck.
+fn fetch_in(memory: &[u64], r: Registers, b: u8, c: u8) -> Moved
+    requires { ⌜ Sane (length (now memory)) r ⌝ }
+    ensures { λ m. ⌜ ((q : ℕ → Qual) (g : Program) (v : View plain) (a : ℕ) → Sees plain q v (take (r .variables) (drop (r .base) (now (memory .entry)))) (take (r .used) (now (memory .entry))) → Unless-stuck (plan plain g v (Op.Fetch a b c)) (MovedOk m × (moved-to plain q a m ≡ plan plain g v (Op.Fetch a b c)))) ⌝ }
+{
+    let base = r.base;
+    let end = base + r.variables;
+    let used = r.used;
+    fetch_of(&memory[base..end], &memory[..used], b, c)
+}
+
+fn size_in(memory: &[u64], r: Registers, b: u8) -> Number
+    requires { ⌜ Sane (length (now memory)) r ⌝ }
+    ensures { λ n. ⌜ ((q : ℕ → Qual) (g : Program) (v : View plain) (a : ℕ) → Sees plain q v (take (r .variables) (drop (r .base) (now (memory .entry)))) (take (r .used) (now (memory .entry))) → Unless-stuck (plan plain g v (Op.Size a b)) (given plain a n ≡ plan plain g v (Op.Size a b))) ⌝ }
+{
+    let base = r.base;
+    let end = base + r.variables;
+    let used = r.used;
+    array_size_of(&memory[base..end], &memory[..used], b)
+}
+
+fn get_in(memory: &[u64], r: Registers, b: u8, k: u16) -> Moved
+    requires { ⌜ Sane (length (now memory)) r ⌝ }
+    ensures { λ m. ⌜ ((q : ℕ → Qual) (g : Program) (v : View plain) (a : ℕ) → Sees plain q v (take (r .variables) (drop (r .base) (now (memory .entry)))) (take (r .used) (now (memory .entry))) → Unless-stuck (plan plain g v (Op.GetSlot a b k)) (MovedOk m × (moved-to plain q a m ≡ plan plain g v (Op.GetSlot a b k)))) ⌝ }
+{
+    let base = r.base;
+    let end = base + r.variables;
+    let used = r.used;
+    get_of(&memory[base..end], &memory[..used], b, k)
+}
+
+fn store_in(memory: &[u64], r: Registers, a: u8, b: u8, c: u8) -> Stored
+    requires { ⌜ Sane (length (now memory)) r ⌝ }
+    ensures { λ m. ⌜ ((q : ℕ → Qual) (g : Program) (v : View plain) → Sees plain q v (take (r .variables) (drop (r .base) (now (memory .entry)))) (take (r .used) (now (memory .entry))) → Unless-stuck (plan plain g v (Op.Store a b c)) (StoredOk (take (r .used) (now (memory .entry))) m × (stored plain q m ≡ plan plain g v (Op.Store a b c)))) ⌝ }
+{
+    let base = r.base;
+    let end = base + r.variables;
+    let used = r.used;
+    store_at(&memory[base..end], &memory[..used], a, b, c)
+}
+
+fn set_in(memory: &[u64], r: Registers, a: u8, b: u8, k: u16) -> Stored
+    requires { ⌜ Sane (length (now memory)) r ⌝ }
+    ensures { λ m. ⌜ ((q : ℕ → Qual) (g : Program) (v : View plain) → Sees plain q v (take (r .variables) (drop (r .base) (now (memory .entry)))) (take (r .used) (now (memory .entry))) → Unless-stuck (plan plain g v (Op.SetSlot a b k)) (StoredOk (take (r .used) (now (memory .entry))) m × (stored plain q m ≡ plan plain g v (Op.SetSlot a b k)))) ⌝ }
+{
+    let base = r.base;
+    let end = base + r.variables;
+    set_at(&memory[base..end], a, b, k)
+}
+
+pub fn set(memory: &mut [u64], r: Registers, a: u8, k: u16) -> Stepped
+    requires { ⌜ Sane (length (now memory)) r ⌝ }
+    requires { ⌜ r .next < 65536 ⌝ }
+    ensures { λ o. ⌜ ((s input out : List ℕ) → Performs plain s input (now (memory .entry)) (now (memory .exit)) out out r o (Op.Set a k)) ⌝ }
+{
+    give_number(memory, r, a, Number::Is(k as u32))
+}
+
+pub fn add(memory: &mut [u64], r: Registers, a: u8, b: u8, c: u8) -> Stepped
+    requires { ⌜ Sane (length (now memory)) r ⌝ }
+    requires { ⌜ r .next < 65536 ⌝ }
+    ensures { λ o. ⌜ ((s input out : List ℕ) → Performs plain s input (now (memory .entry)) (now (memory .exit)) out out r o (Op.Add a b c)) ⌝ }
+{
+    let base = r.base;
+    let end = base + r.variables;
+    let n = add_of(&memory[base..end], b, c);
+    give_number(memory, r, a, n)
+}
+
+pub fn subtract(memory: &mut [u64], r: Registers, a: u8, b: u8, c: u8) -> Stepped
+    requires { ⌜ Sane (length (now memory)) r ⌝ }
+    requires { ⌜ r .next < 65536 ⌝ }
+    ensures { λ o. ⌜ ((s input out : List ℕ) → Performs plain s input (now (memory .entry)) (now (memory .exit)) out out r o (Op.Subtract a b c)) ⌝ }
+{
+    let base = r.base;
+    let end = base + r.variables;
+    let n = subtract_of(&memory[base..end], b, c);
+    give_number(memory, r, a, n)
+}
+
+pub fn less(memory: &mut [u64], r: Registers, a: u8, b: u8, c: u8) -> Stepped
+    requires { ⌜ Sane (length (now memory)) r ⌝ }
+    requires { ⌜ r .next < 65536 ⌝ }
+    ensures { λ o. ⌜ ((s input out : List ℕ) → Performs plain s input (now (memory .entry)) (now (memory .exit)) out out r o (Op.Less a b c)) ⌝ }
+{
+    let base = r.base;
+    let end = base + r.variables;
+    let n = less_of(&memory[base..end], b, c);
+    give_number(memory, r, a, n)
+}
+
+pub fn bind(memory: &mut [u64], r: Registers, a: u8, b: u8) -> Stepped
+    requires { ⌜ Sane (length (now memory)) r ⌝ }
+    requires { ⌜ r .next < 65536 ⌝ }
+    ensures { λ o. ⌜ ((s input out : List ℕ) → Performs plain s input (now (memory .entry)) (now (memory .exit)) out out r o (Op.Bind a b)) ⌝ }
+{
+    let base = r.base;
+    let end = base + r.variables;
+    let m = moved_at(&memory[base..end], b);
+    give_moved(memory, r, a, m)
+}
+
+pub fn fetch(memory: &mut [u64], r: Registers, a: u8, b: u8, c: u8) -> Stepped
+    requires { ⌜ Sane (length (now memory)) r ⌝ }
+    requires { ⌜ r .next < 65536 ⌝ }
+    ensures { λ o. ⌜ ((s input out : List ℕ) → Performs plain s input (now (memory .entry)) (now (memory .exit)) out out r o (Op.Fetch a b c)) ⌝ }
+{
+    let m = fetch_in(memory, r, b, c);
+    give_moved(memory, r, a, m)
+}
+
+pub fn size(memory: &mut [u64], r: Registers, a: u8, b: u8) -> Stepped
+    requires { ⌜ Sane (length (now memory)) r ⌝ }
+    requires { ⌜ r .next < 65536 ⌝ }
+    ensures { λ o. ⌜ ((s input out : List ℕ) → Performs plain s input (now (memory .entry)) (now (memory .exit)) out out r o (Op.Size a b)) ⌝ }
+{
+    let n = size_in(memory, r, b);
+    give_number(memory, r, a, n)
+}
+
+pub fn get_slot(memory: &mut [u64], r: Registers, a: u8, b: u8, k: u16) -> Stepped
+    requires { ⌜ Sane (length (now memory)) r ⌝ }
+    requires { ⌜ r .next < 65536 ⌝ }
+    ensures { λ o. ⌜ ((s input out : List ℕ) → Performs plain s input (now (memory .entry)) (now (memory .exit)) out out r o (Op.GetSlot a b k)) ⌝ }
+{
+    let m = get_in(memory, r, b, k);
+    give_moved(memory, r, a, m)
+}
+
+pub fn store(memory: &mut [u64], r: Registers, a: u8, b: u8, c: u8) -> Stepped
+    requires { ⌜ Sane (length (now memory)) r ⌝ }
+    requires { ⌜ r .next < 65536 ⌝ }
+    ensures { λ o. ⌜ ((s input out : List ℕ) → Performs plain s input (now (memory .entry)) (now (memory .exit)) out out r o (Op.Store a b c)) ⌝ }
+{
+    let m = store_in(memory, r, a, b, c);
+    store_cell(memory, r, m)
+}
+
+pub fn set_slot(memory: &mut [u64], r: Registers, a: u8, b: u8, k: u16) -> Stepped
+    requires { ⌜ Sane (length (now memory)) r ⌝ }
+    requires { ⌜ r .next < 65536 ⌝ }
+    ensures { λ o. ⌜ ((s input out : List ℕ) → Performs plain s input (now (memory .entry)) (now (memory .exit)) out out r o (Op.SetSlot a b k)) ⌝ }
+{
+    let m = set_in(memory, r, a, b, k);
+    store_cell(memory, r, m)
+}
+
+pub fn new_array(memory: &mut [u64], r: Registers, a: u8, b: u8) -> Stepped
+    requires { ⌜ Sane (length (now memory)) r ⌝ }
+    requires { ⌜ r .next < 65536 ⌝ }
+    ensures { λ o. ⌜ ((s input out : List ℕ) → Performs plain s input (now (memory .entry)) (now (memory .exit)) out out r o (Op.NewArray a b)) ⌝ }
+{
+    let base = r.base;
+    let end = base + r.variables;
+    let n = integer_at(&memory[base..end], b);
+    give_array(memory, r, a, n)
+}
+
+pub fn jump_zero(memory: &[u64], r: Registers, a: u8, k: u16) -> Stepped
+    requires { ⌜ Sane (length (now memory)) r ⌝ }
+    requires { ⌜ r .next < 65536 ⌝ }
+    ensures { λ o. ⌜ ((s input out : List ℕ) → Performs plain s input (now (memory .entry)) (now (memory .entry)) out out r o (Op.JumpZero a k)) ⌝ }
+{
+    let base = r.base;
+    let end = base + r.variables;
+    jump(r, integer_at(&memory[base..end], a), k)
+}
+
+pub fn put(memory: &[u64], output: &mut [u32], r: Registers, a: u8) -> Stepped
+    requires { ⌜ Sane (length (now memory)) r ⌝ }
+    requires { ⌜ r .next < 65536 ⌝ }
+    ensures { λ o. ⌜ ((s input : List ℕ) → Performs plain s input (now (memory .entry)) (now (memory .entry)) (now (output .entry)) (now (output .exit)) r o (Op.Put a)) ⌝ }
+{
+    let base = r.base;
+    let end = base + r.variables;
+    let n = integer_at(&memory[base..end], a);
+    put_output(output, r, n)
+}
+
+pub fn take(input: &[u32], memory: &mut [u64], r: Registers, a: u8) -> Stepped
+    requires { ⌜ Sane (length (now memory)) r ⌝ }
+    requires { ⌜ r .next < 65536 ⌝ }
+    ensures { λ o. ⌜ ((s out : List ℕ) → Performs plain s (now (input .entry)) (now (memory .entry)) (now (memory .exit)) out out r o (Op.Take a)) ⌝ }
+{
+    take_input(input, memory, r, a)
+}
+
+// How many slots the owner of the procedure at pr has.
+fn slots_at(s: &[u8], pr: u32) -> u8
+    ensures { λ n. ⌜ n ≡ slotsOf (now (s .entry)) (ownerAt (now (s .entry)) pr) ⌝ }
+{
+    let owner = byte(s, pr as usize, 2);
+    byte(s, type_at(owner), 3)
+}
+
+pub fn new_record(s: &[u8], table: &[u32; 65], memory: &mut [u64], r: Registers, a: u8) -> Stepped
+    requires { ⌜ Loaded (now s) (now table) ⌝ }
+    requires { ⌜ Sane (length (now memory)) r ⌝ }
+    requires { ⌜ r .next < 65536 ⌝ }
+    ensures { λ o. ⌜ ((input out : List ℕ) → Performs plain (now (s .entry)) input (now (memory .entry)) (now (memory .exit)) out out r o (Op.NewRecord a)) ⌝ }
+{
+    let p = r.procedure;
+    give_record(memory, r, a, slots_at(s, table[p]))
+}

@@ -1,0 +1,57 @@
+-- 10, or the machine's end: its reply, a memory of zeros, and the words put before the old ones.
+use mathlib.Core.Path.{_∙_, ap}
+use Prim.Native.Nat.{ℕ}
+use lib.ListN.{replicate}
+use borrow.Author.Tests.{lt-leb, le-leb}
+use Rattle.run.specs.Run.{memory-fits, end}
+use Rattle.run.proofs.Laws.{replies}
+use borrow.Author.Needs.{needs}
+use Rattle.run.proofs.run_lent.Statement.{statement}
+use Rattle.run.proofs.run_lent.Tie as tie
+
+refusal-requires : tie.Need-refusal-requires
+refusal-requires c κs = search needs
+
+returns : tie.Need-returns
+unfolding memory-fits
+returns c =
+    let f = lt-leb _ _ (c .before .if1 .taken) in (rw f (c .refusal .ensures), (rw f, rw f))
+
+places-requires : tie.Need-places-requires
+places-requires c κs = search needs
+
+run-in-requires : tie.Need-run-in-requires
+unfolding end
+run-in-requires c κs =
+    (record { formed = c .before .before .before .before .before .before .before .before .before .pre .0; places = c .before .before .before .places .ensures }, (c .before .before .before .before .if1 .left, c .before .before .before .before .before .before .before .before .before .pre .1 (c .before .before .before .before .if1 .left)))
+
+clear-requires : tie.Need-clear-requires
+clear-requires c κs = search needs
+
+stop-requires : tie.Need-stop-requires
+stop-requires c κs = search needs
+
+same-length : tie.Need-same-length
+same-length c = search needs
+
+same-length-2 : tie.Need-same-length-2
+same-length-2 c = search needs
+
+returns-2 : tie.Need-returns-2
+unfolding memory-fits end
+returns-2 c =
+    let f = le-leb _ _ (c .before .before .before .before .before .before .before .before .before .before .before .before .before .before .if1 .left) in let z = replies _ _ _ _ (c .before .before .before .before .before .before .before .before .before .run-in .ensures) in (rw f (c .stop .ensures ∙ z .reply), (rw f (c .before .before .before .clear .ensures ∙ ap (λ (n : ℕ). replicate n 0) (c .before .before .before .before .before .before .before .before .before .run-in .kept .1 .1 .1 .1 .0)), rw f (z .written-is)))
+
+pub run-lent-spec : {M : Type 1} → statement M
+run-lent-spec =
+    tie.close
+    (tie.spec
+    refusal-requires
+    returns
+    places-requires
+    run-in-requires
+    clear-requires
+    stop-requires
+    same-length
+    same-length-2
+    returns-2)

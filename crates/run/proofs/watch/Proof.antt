@@ -1,0 +1,58 @@
+-- What is not well-formed is refused; the watched machine is never stuck.
+use mathlib.Core.Path.{sym, _∙_}
+use Rattle.model.proofs.AnyProgram.{watched-not-stuck}
+use Rattle.run.specs.Run.{reply, memory-after, output-after, end}
+use borrow.Author.Needs.{needs}
+use Rattle.run.proofs.watch.Statement.{statement}
+use Rattle.run.proofs.watch.Tie as tie
+
+places-requires : tie.Need-places-requires
+places-requires c κs = search needs
+
+well-formed-requires : tie.Need-well-formed-requires
+well-formed-requires c κs = search needs
+
+enum-known-number : tie.Need-enum-known-number
+enum-known-number c = search needs
+
+refusal-requires : tie.Need-refusal-requires
+refusal-requires c κs = search needs
+
+enum-told : tie.Need-enum-told
+enum-told c = search needs
+
+run-lent-requires : tie.Need-run-lent-requires
+unfolding end
+run-lent-requires c κs =
+    let a = sym (c .before .before .before .before .well-formed .ensures) ∙ c .before .before .enum-told .given .1 in (a, λ h. watched-not-stuck _ _ _ _ _)
+
+returns : tie.Need-returns
+unfolding reply memory-after output-after
+returns c =
+    let e = sym (c .before .before .before .before .well-formed .ensures) ∙ c .before .before .number .given .1 in (rw e (c .refusal .ensures), (rw e, rw e))
+
+same-length : tie.Need-same-length
+same-length c = search needs
+
+same-length-2 : tie.Need-same-length-2
+same-length-2 c = search needs
+
+returns-2 : tie.Need-returns-2
+unfolding reply memory-after output-after
+returns-2 c =
+    let a = sym (c .before .before .before .before .before .before .before .before .before .well-formed .ensures) ∙ c .before .before .before .before .before .before .before .enum-told .given .1 in (rw a (c .before .before .before .before .run-lent .ensures .0), (rw a (c .before .before .before .before .run-lent .ensures .1 .0), rw a (c .before .before .before .before .run-lent .ensures .1 .1)))
+
+pub watch-spec : {M : Type 1} → statement M
+watch-spec =
+    tie.close
+    (tie.spec
+    places-requires
+    well-formed-requires
+    enum-known-number
+    refusal-requires
+    enum-told
+    run-lent-requires
+    returns
+    same-length
+    same-length-2
+    returns-2)

@@ -1,0 +1,42 @@
+-- The flag tells whose step it is.
+use borrow.Author.Needs.{needs}
+use Rattle.run_by_frames.proofs.run.turn.Statement.{statement}
+use Rattle.run_by_frames.proofs.run.turn.Tie as tie
+
+guarded-step-requires : tie.Need-guarded-step-requires
+guarded-step-requires c κs = search needs
+
+same-length : tie.Need-same-length
+same-length c = search needs
+
+same-length-2 : tie.Need-same-length-2
+same-length-2 c = search needs
+
+returns : tie.Need-returns
+returns c = rw (c .before .before .before .before .before .before .before .if1 .taken) (c .before .before .before .before .guarded-step .ensures)
+
+step-requires : tie.Need-step-requires
+step-requires c κs = search needs
+
+same-length-3 : tie.Need-same-length-3
+same-length-3 c = search needs
+
+same-length-4 : tie.Need-same-length-4
+same-length-4 c = search needs
+
+returns-2 : tie.Need-returns-2
+returns-2 c =
+    rw (c .before .before .before .before .before .before .before .if1 .left) (c .before .before .before .before .step .ensures)
+
+pub turn-spec : {M : Type 1} → statement M
+turn-spec =
+    tie.close
+    (tie.spec
+    guarded-step-requires
+    same-length
+    same-length-2
+    returns
+    step-requires
+    same-length-3
+    same-length-4
+    returns-2)

@@ -1,0 +1,91 @@
+-- Main's variables are counted where the table says that main stands; with room for its frame the run is that of its turns, and else there is none.
+use Prim.Native.Nat.{ℕ, _+_, _≤_, _<_, zero-le}
+use mathlib.Core.Path.{_≡_, refl, ap, _∙_}
+use native.Mathlib.Omega.{arith}
+use borrow.Author.Tests.{lt-leb}
+use lib.ListN.{length}
+use denote.Ref.{now}
+use Rattle.model.specs.Modes.{plain}
+use Rattle.model.specs.Run.{run, opened}
+use Rattle.sheet.specs.Bytes.{byteAt}
+use Rattle.sheet.specs.Layout.{variablesAt, procedureAt}
+use Rattle.form.proofs.Laws.{placed, procedure-small}
+use Rattle.run_by_frames.specs.Reply.{ended}
+use Rattle.run_by_frames.proofs.Turn.{run-is, starts, begins-frame}
+use borrow.Author.Needs.{needs}
+use Rattle.run_by_steps.proofs.run.run_by_steps.Statement.{statement}
+use Rattle.run_by_steps.proofs.run.run_by_steps.Tie as tie
+
+element-copy-out-pr : tie.Need-element-copy-out-pr
+element-copy-out-pr c = search needs
+
+cast-byte : tie.Need-cast-byte
+cast-byte c =
+    let a = c .before .before .before .before .before in
+    omega (arith, placed (a .args .s .now) (a .args .table .now) (a .pre .0 .places) 0 zero-le zero-le, procedure-small (a .args .s .now) (λ i. c .before .before .before .before .shared-slice-known .given i .fits) 0)
+
+byte-requires : tie.Need-byte-requires
+byte-requires c κs = search needs
+
+cast-v : tie.Need-cast-v
+cast-v c = search needs
+
+add-if1 : tie.Need-add-if1
+add-if1 c = search needs
+
+main-variables : (c : tie.After-byte) → c .byte .result ≡ variablesAt (c .before .before .before .before .before .before .args .s .now) (procedureAt (c .before .before .before .before .before .before .args .s .now) 0)
+unfolding variablesAt
+main-variables c =
+    let a = c .before .before .before .before .before .before in
+    c .byte .ensures ∙ ap (λ (at : ℕ). byteAt (a .args .s .now) at 4) (placed (a .args .s .now) (a .args .table .now) (a .pre .0 .places) 0 zero-le zero-le)
+
+returns : tie.Need-returns
+unfolding run
+returns c =
+    let a = c .before .before .before .before .before .before .before .args in
+    let h : length (a .memory .now) < variablesAt (a .s .now) (procedureAt (a .s .now) 0) + 2 = omega (arith, main-variables (c .before), c .if1 .taken) in
+    rw (lt-leb _ _ h) (ended refl refl refl refl refl refl)
+
+open-main-requires : tie.Need-open-main-requires
+open-main-requires c κs =
+    let pre = c .before .before .before .before .before .before .before .before .pre in
+    (pre .0, (main-variables (c .before .before), (omega arith, pre .1 .0)))
+
+run-turns-requires : tie.Need-run-turns-requires
+unfolding opened
+run-turns-requires c κs =
+    let args = c .before .before .before .before .before .before .before .before .before .before .before .before .before .args in
+    let pre = c .before .before .before .before .before .before .before .before .before .before .before .before .before .pre in
+    let open-main = c .before .before .before .before .open-main in
+    let h : variablesAt (args .s .now) (procedureAt (args .s .now) 0) + 2 ≤ length (args .memory .now) = omega (arith, main-variables (c .before .before .before .before .before .before .before), c .before .before .before .before .before .before .if1 .left) in
+    (pre .0, begins-frame (starts plain _ _ _ _ (args .fuel) (pre .0 .formed) h (open-main .kept .1 .1 .0) (open-main .ensures plain _ _) (pre .1 .1)))
+
+same-length : tie.Need-same-length
+same-length c = search needs
+
+same-length-2 : tie.Need-same-length-2
+same-length-2 c = search needs
+
+returns-2 : tie.Need-returns-2
+returns-2 c =
+    let args = c .before .before .before .before .before .before .before .before .before .before .before .before .before .before .before .before .before .before .args in
+    let open-main = c .before .before .before .before .before .before .before .before .before .open-main in
+    let run-turns = c .before .before .before .before .run-turns in
+    let h : variablesAt (args .s .now) (procedureAt (args .s .now) 0) + 2 ≤ length (args .memory .now) = omega (arith, main-variables (c .before .before .before .before .before .before .before .before .before .before .before .before), c .before .before .before .before .before .before .before .before .before .before .before .if1 .left) in
+    rw (run-is plain (record { sheet = now (args .s); input = now (args .input); output = now (args .output) }) _ (args .fuel) h) (rw (open-main .kept .1 .1 .0) at (run-turns .ensures))
+
+pub run-by-steps-spec : {M : Type 1} → statement M
+run-by-steps-spec =
+    tie.close
+    (tie.spec
+    element-copy-out-pr
+    cast-byte
+    byte-requires
+    cast-v
+    add-if1
+    returns
+    open-main-requires
+    run-turns-requires
+    same-length
+    same-length-2
+    returns-2)

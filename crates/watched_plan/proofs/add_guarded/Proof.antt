@@ -1,0 +1,49 @@
+-- Two integers, whose sum `give` moves on, or a stop, which stays what it is.
+use borrow.Author.Needs.{needs}
+use Rattle.model.specs.Machine.{plan, plus}
+use Rattle.sheet.specs.Meaning.{programOf}
+use Rattle.watched_plan.proofs.Laws.{computed, not-computed}
+use Rattle.watched_plan.proofs.add_guarded.Statement.{statement}
+use Rattle.watched_plan.proofs.add_guarded.Tie as tie
+
+two-integers-requires : tie.Need-two-integers-requires
+two-integers-requires c κs = search needs
+
+enum-known-m : tie.Need-enum-known-m
+enum-known-m c = search needs
+
+wrapping-add-u32-requires : tie.Need-wrapping-add-u32-requires
+wrapping-add-u32-requires c κs = search needs
+
+give-requires : tie.Need-give-requires
+give-requires c κs = search needs
+
+enum-known-k : tie.Need-enum-known-k
+enum-known-k c = search needs
+
+returns : tie.Need-returns
+unfolding plan plus
+returns c =
+    let args = c .before .before .before .before .before .before .before .before .args in
+    let two-integers = c .before .before .before .before .before .two-integers in
+    let m = c .before .before .before .m in
+    let wrapping-add-u32 = c .before .wrapping-add-u32 in
+    let give = c .give in
+    λ v h at s. computed (programOf (args .s .now)) v _ _ _ plus (two-integers .ensures _ _ v h s) _ (m .given .1) (wrapping-add-u32 .ensures) (give .ensures v at)
+
+returns-2 : tie.Need-returns-2
+unfolding plan
+returns-2 c =
+    λ v h at s. not-computed (programOf (c .before .before .before .before .before .before .args .s .now)) v _ _ _ plus (c .before .before .before .two-integers .ensures _ _ v h s) (c .before .k .given .1)
+
+pub add-guarded-spec : {M : Type 1} → statement M
+add-guarded-spec =
+    tie.close
+    (tie.spec
+    two-integers-requires
+    enum-known-m
+    wrapping-add-u32-requires
+    give-requires
+    enum-known-k
+    returns
+    returns-2)

@@ -1,0 +1,30 @@
+-- What `bind_word` ensures of the variable's cell.
+use mathlib.Core.Path.{sym, ap, _∙_}
+use borrow.Author.Needs.{needs}
+use Rattle.model.specs.Modes.{watched}
+use Rattle.sheet.specs.Meaning.{qualOf, innerIn, programOf}
+use Rattle.words.specs.Word.{slot-in}
+use Rattle.watched_plan.proofs.Laws.{bind-plan}
+use Rattle.watched_plan.proofs.bind_guarded.Statement.{statement}
+use Rattle.watched_plan.proofs.bind_guarded.Tie as tie
+
+inner-of-requires : tie.Need-inner-of-requires
+inner-of-requires c κs = search needs
+
+read-requires : tie.Need-read-requires
+read-requires c κs = search needs
+
+bind-word-requires : tie.Need-bind-word-requires
+bind-word-requires c κs = search needs
+
+returns : tie.Need-returns
+unfolding innerIn
+returns c =
+    let bind-word = c .bind-word in
+    let args = c .before .before .before .before .before .before .args in
+    let inner-of = c .before .before .inner-of in
+    let read = c .before .read in
+    (bind-word .ensures .0, λ v at s. bind-plan _ (programOf (args .s .now)) v _ _ _ (rw (at, sym (inner-of .ensures))) (bind-word .ensures .1 _ v _ (s .head) (ap (slot-in watched (qualOf (args .s .now))) (read .ensures) ∙ s .variable _)))
+
+pub bind-guarded-spec : {M : Type 1} → statement M
+bind-guarded-spec = tie.close (tie.spec inner-of-requires read-requires bind-word-requires returns)

@@ -1,0 +1,69 @@
+-- The element found is a cell of the array, of which `bind_word` ensures the rest; a stop stays what it is.
+use mathlib.Core.Path.{sym}
+use borrow.Author.Needs.{needs}
+use Rattle.sheet.specs.Meaning.{innerIn, programOf}
+use Rattle.watched_plan.proofs.Laws.{fetch-at, fetch-halt}
+use Rattle.watched_plan.proofs.fetch_guarded.Statement.{statement}
+use Rattle.watched_plan.proofs.fetch_guarded.Tie as tie
+
+element-spot-requires : tie.Need-element-spot-requires
+element-spot-requires c κs = search needs
+
+enum-known-o : tie.Need-enum-known-o
+enum-known-o c = search needs
+
+cast-read : tie.Need-cast-read
+cast-read c = search needs
+
+add-read : tie.Need-add-read
+add-read c = search needs
+
+cast-read-2 : tie.Need-cast-read-2
+cast-read-2 c = search needs
+
+add-read-2 : tie.Need-add-read-2
+add-read-2 c = search needs
+
+read-requires : tie.Need-read-requires
+read-requires c κs = search needs
+
+inner-of-requires : tie.Need-inner-of-requires
+inner-of-requires c κs = search needs
+
+bind-word-requires : tie.Need-bind-word-requires
+bind-word-requires c κs = search needs
+
+enum-known-k : tie.Need-enum-known-k
+enum-known-k c = search needs
+
+returns : tie.Need-returns
+unfolding innerIn
+returns c =
+    let bind-word = c .bind-word in
+    let args = c .before .before .before .before .before .before .before .before .before .before .args in
+    let element-spot = c .before .before .before .before .before .before .element-spot in
+    let o = c .before .before .before .before .o in
+    let inner-of = c .before .inner-of in
+    let read = c .before .before .read in
+    (bind-word .ensures .0, λ v at s. fetch-at _ (programOf (args .s .now)) v (args .f .now) (args .h .now) _ _ _ (element-spot .ensures .1 _ _ v s) _ (o .given .1) (element-spot .ensures .0) s (rw (at, sym (inner-of .ensures))) (read .ensures) (λ d. bind-word .ensures .1 _ v d (s .head)))
+
+returns-2 : tie.Need-returns-2
+returns-2 c =
+    (tt, λ v at s. fetch-halt _ (programOf (c .before .before .before .before .before .before .before .args .s .now)) v (c .before .before .before .before .before .before .before .args .f .now) (c .before .before .before .before .before .before .before .args .h .now) _ _ _ (c .before .before .before .element-spot .ensures .1 _ _ v s) (c .before .k .given .1))
+
+pub fetch-guarded-spec : {M : Type 1} → statement M
+fetch-guarded-spec =
+    tie.close
+    (tie.spec
+    element-spot-requires
+    enum-known-o
+    cast-read
+    add-read
+    cast-read-2
+    add-read-2
+    read-requires
+    inner-of-requires
+    bind-word-requires
+    enum-known-k
+    returns
+    returns-2)

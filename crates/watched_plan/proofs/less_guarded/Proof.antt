@@ -1,0 +1,51 @@
+-- Two integers, whose comparison `give` moves on, or a stop, which stays what it is.
+use Prim.Native.Nat.{ℕ}
+use lib.Dec.{ltb}
+use borrow.Author.Needs.{needs}
+use Rattle.model.specs.Machine.{plan, flag}
+use Rattle.sheet.specs.Meaning.{programOf}
+use Rattle.watched_plan.proofs.Laws.{computed, not-computed}
+use Rattle.watched_plan.proofs.less_guarded.Statement.{statement}
+use Rattle.watched_plan.proofs.less_guarded.Tie as tie
+
+two-integers-requires : tie.Need-two-integers-requires
+two-integers-requires c κs = search needs
+
+enum-known-m : tie.Need-enum-known-m
+enum-known-m c = search needs
+
+less-requires : tie.Need-less-requires
+less-requires c κs = search needs
+
+give-requires : tie.Need-give-requires
+give-requires c κs = search needs
+
+enum-known-k : tie.Need-enum-known-k
+enum-known-k c = search needs
+
+returns : tie.Need-returns
+unfolding plan
+returns c =
+    let args = c .before .before .before .before .before .before .before .before .args in
+    let two-integers = c .before .before .before .before .before .two-integers in
+    let m-known = c .before .before .before .m in
+    let less = c .before .less in
+    let give = c .give in
+    λ v h at s. computed (programOf (args .s .now)) v _ _ _ (λ (m n : ℕ). flag (ltb m n)) (two-integers .ensures _ _ v h s) _ (m-known .given .1) (less .ensures) (give .ensures v at)
+
+returns-2 : tie.Need-returns-2
+unfolding plan
+returns-2 c =
+    λ v h at s. not-computed (programOf (c .before .before .before .before .before .before .args .s .now)) v _ _ _ (λ (m n : ℕ). flag (ltb m n)) (c .before .before .before .two-integers .ensures _ _ v h s) (c .before .k .given .1)
+
+pub less-guarded-spec : {M : Type 1} → statement M
+less-guarded-spec =
+    tie.close
+    (tie.spec
+    two-integers-requires
+    enum-known-m
+    less-requires
+    give-requires
+    enum-known-k
+    returns
+    returns-2)

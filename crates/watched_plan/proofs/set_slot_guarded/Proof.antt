@@ -1,0 +1,67 @@
+-- What `bind_word` ensures of the variable's cell, bound to the slot's type, is stored to the slot found.
+use mathlib.Core.Path.{sym, ap, _∙_}
+use borrow.Author.Needs.{needs}
+use Rattle.model.specs.Modes.{watched}
+use Rattle.sheet.specs.Layout.{ownerAt}
+use Rattle.sheet.specs.Meaning.{qualOf, slotIn, programOf}
+use Rattle.words.specs.Word.{slot-in}
+use Rattle.watched_plan.proofs.Laws.{inside-spot, set-at, set-halt}
+use Rattle.watched_plan.proofs.set_slot_guarded.Statement.{statement}
+use Rattle.watched_plan.proofs.set_slot_guarded.Tie as tie
+
+byte-requires : tie.Need-byte-requires
+byte-requires c κs = search needs
+
+slot-spot-requires : tie.Need-slot-spot-requires
+slot-spot-requires c κs = search needs
+
+enum-known-o : tie.Need-enum-known-o
+enum-known-o c = search needs
+
+slot-of-requires : tie.Need-slot-of-requires
+slot-of-requires c κs = search needs
+
+read-requires : tie.Need-read-requires
+read-requires c κs = search needs
+
+bind-word-requires : tie.Need-bind-word-requires
+bind-word-requires c κs = search needs
+
+stored-at-requires : tie.Need-stored-at-requires
+stored-at-requires c κs = search needs
+
+enum-known-n : tie.Need-enum-known-n
+enum-known-n c = search needs
+
+returns : tie.Need-returns
+unfolding ownerAt slotIn
+returns c =
+    let stored-at = c .stored-at in
+    let o = c .before .before .before .before .before .o in
+    let slot-spot = c .before .before .before .before .before .before .before .slot-spot in
+    let bind-word = c .before .bind-word in
+    let args = c .before .before .before .before .before .before .before .before .before .before .before .before .args in
+    let byte = c .before .before .before .before .before .before .before .before .byte in
+    let slot-of = c .before .before .before .slot-of in
+    let read = c .before .before .read in
+    (stored-at .ensures .0 _ (inside-spot (o .given .1) (slot-spot .ensures .0)) (bind-word .ensures .0), λ v at s. set-at _ (programOf (args .s .now)) v _ _ _ (rw (at, sym (byte .ensures))) (slot-spot .ensures .1 _ _ v s) _ _ (o .given .1) (stored-at .ensures .1 _) (rw (sym (slot-of .ensures)) (bind-word .ensures .1 _ v _ (s .head) (ap (slot-in watched (qualOf (args .s .now))) (read .ensures) ∙ s .variable _))))
+
+returns-2 : tie.Need-returns-2
+unfolding ownerAt
+returns-2 c =
+    (tt, λ v at s. set-halt _ (programOf (c .before .before .before .before .before .before .before .before .args .s .now)) v _ _ _ (rw (at, sym (c .before .before .before .before .byte .ensures))) (c .before .before .before .slot-spot .ensures .1 _ _ v s) (c .before .n .given .1))
+
+pub set-slot-guarded-spec : {M : Type 1} → statement M
+set-slot-guarded-spec =
+    tie.close
+    (tie.spec
+    byte-requires
+    slot-spot-requires
+    enum-known-o
+    slot-of-requires
+    read-requires
+    bind-word-requires
+    stored-at-requires
+    enum-known-n
+    returns
+    returns-2)

@@ -1,0 +1,118 @@
+-- A blank cell; then the two tags, the right, and what `give` ensures of the size.
+use borrow.Author.Needs.{needs}
+use Rattle.sheet.specs.Meaning.{programOf}
+use Rattle.watched_plan.proofs.Laws.{size-blank, size-misfit, size-without, size-given, blank-seen, filled-seen}
+use Rattle.watched_plan.proofs.size_guarded.Statement.{statement}
+use Rattle.watched_plan.proofs.size_guarded.Tie as tie
+
+read-requires : tie.Need-read-requires
+read-requires c κs = search needs
+
+cell-of-requires : tie.Need-cell-of-requires
+cell-of-requires c κs = search needs
+
+enum-known-x : tie.Need-enum-known-x
+enum-known-x c = search needs
+
+enum-told : tie.Need-enum-told
+enum-told c = search needs
+
+returns : tie.Need-returns
+returns c =
+    λ v at s. size-blank (programOf (c .before .before .before .before .before .before .before .args .s .now)) v _ _ (blank-seen s (c .before .before .before .read .ensures) (c .before .before .cell-of .ensures) (c .enum-told .given .1))
+
+name-of-requires : tie.Need-name-of-requires
+name-of-requires c κs = search needs
+
+cast-read : tie.Need-cast-read
+cast-read c = search needs
+
+read-requires-2 : tie.Need-read-requires-2
+read-requires-2 c κs = search needs
+
+tag-of-requires : tie.Need-tag-of-requires
+tag-of-requires c κs = search needs
+
+tag-of-requires-2 : tie.Need-tag-of-requires-2
+tag-of-requires-2 c κs = search needs
+
+low-of-requires : tie.Need-low-of-requires
+low-of-requires c κs = search needs
+
+has-right-requires : tie.Need-has-right-requires
+has-right-requires c κs = search needs
+
+size-of-requires : tie.Need-size-of-requires
+size-of-requires c κs = search needs
+
+give-requires : tie.Need-give-requires
+give-requires c κs = search needs
+
+returns-2 : tie.Need-returns-2
+returns-2 c =
+    let args = c .before .before .before .before .before .before .before .before .before .before .before .before .before .before .before .before .before .before .args in
+    let read = c .before .before .before .before .before .before .before .before .before .before .before .before .before .before .read in
+    let cell-of = c .before .before .before .before .before .before .before .before .before .before .before .before .before .cell-of in
+    let x = c .before .before .before .before .before .before .before .before .before .before .before .x in
+    let name-of = c .before .before .before .before .before .before .before .before .before .name-of in
+    let read2 = c .before .before .before .before .before .before .before .before .read2 in
+    let tag-of = c .before .before .before .before .before .before .before .tag-of in
+    let tag-of2 = c .before .before .before .before .before .before .tag-of2 in
+    let first-test = c .before .before .before .before .before .if1 in
+    let low-of = c .before .before .before .before .low-of in
+    let has-right = c .before .before .before .has-right in
+    let second-test = c .before .before .if2 in
+    let size-of = c .before .size-of in
+    let give = c .give in
+    λ v at s. size-given (programOf (args .s .now)) v _ (args .h .now) _ _ _ (s .head) (filled-seen s (read .ensures) (cell-of .ensures) (x .given .1)) (name-of .ensures) (read2 .ensures) (tag-of .ensures) (tag-of2 .ensures) (first-test .taken) (low-of .ensures) (has-right .ensures) _ (second-test .taken) (size-of .ensures) (give .ensures v at)
+
+returns-3 : tie.Need-returns-3
+returns-3 c =
+    let args = c .before .before .before .before .before .before .before .before .before .before .before .before .before .before .before .before .args in
+    let read = c .before .before .before .before .before .before .before .before .before .before .before .before .read in
+    let cell-of = c .before .before .before .before .before .before .before .before .before .before .before .cell-of in
+    let x = c .before .before .before .before .before .before .before .before .before .x in
+    let name-of = c .before .before .before .before .before .before .before .name-of in
+    let read2 = c .before .before .before .before .before .before .read2 in
+    let tag-of = c .before .before .before .before .before .tag-of in
+    let tag-of2 = c .before .before .before .before .tag-of2 in
+    let first-test = c .before .before .before .if1 in
+    let low-of = c .before .before .low-of in
+    let has-right = c .before .has-right in
+    let second-test = c .if2 in
+    λ v at s. size-without (programOf (args .s .now)) v _ (args .h .now) _ _ _ (s .head) (filled-seen s (read .ensures) (cell-of .ensures) (x .given .1)) (name-of .ensures) (read2 .ensures) (tag-of .ensures) (tag-of2 .ensures) (first-test .taken) (low-of .ensures) (has-right .ensures) (second-test .left)
+
+returns-4 : tie.Need-returns-4
+returns-4 c =
+    let args = c .before .before .before .before .before .before .before .before .before .before .before .before .before .args in
+    let read = c .before .before .before .before .before .before .before .before .before .read in
+    let cell-of = c .before .before .before .before .before .before .before .before .cell-of in
+    let x = c .before .before .before .before .before .before .x in
+    let name-of = c .before .before .before .before .name-of in
+    let read2 = c .before .before .before .read2 in
+    let tag-of = c .before .before .tag-of in
+    let tag-of2 = c .before .tag-of2 in
+    let first-test = c .if1 in
+    λ v at s. size-misfit (programOf (args .s .now)) v _ (args .h .now) _ _ _ (s .head) (filled-seen s (read .ensures) (cell-of .ensures) (x .given .1)) (name-of .ensures) (read2 .ensures) (tag-of .ensures) (tag-of2 .ensures) (first-test .left)
+
+pub size-guarded-spec : {M : Type 1} → statement M
+size-guarded-spec =
+    tie.close
+    (tie.spec
+    read-requires
+    cell-of-requires
+    enum-known-x
+    enum-told
+    returns
+    name-of-requires
+    cast-read
+    read-requires-2
+    tag-of-requires
+    tag-of-requires-2
+    low-of-requires
+    has-right-requires
+    size-of-requires
+    give-requires
+    returns-2
+    returns-3
+    returns-4)

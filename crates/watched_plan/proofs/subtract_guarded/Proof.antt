@@ -1,0 +1,50 @@
+-- Two integers, whose difference `give` moves on, or a stop, which stays what it is.
+use native.Mathlib.Omega.{arith}
+use borrow.Author.Needs.{needs}
+use Rattle.model.specs.Machine.{plan, minus}
+use Rattle.sheet.specs.Meaning.{programOf}
+use Rattle.watched_plan.proofs.Laws.{computed, not-computed}
+use Rattle.watched_plan.proofs.subtract_guarded.Statement.{statement}
+use Rattle.watched_plan.proofs.subtract_guarded.Tie as tie
+
+two-integers-requires : tie.Need-two-integers-requires
+two-integers-requires c κs = search needs
+
+enum-known-m : tie.Need-enum-known-m
+enum-known-m c = search needs
+
+wrapping-sub-u32-requires : tie.Need-wrapping-sub-u32-requires
+wrapping-sub-u32-requires c κs = search needs
+
+give-requires : tie.Need-give-requires
+give-requires c κs = search needs
+
+enum-known-k : tie.Need-enum-known-k
+enum-known-k c = search needs
+
+returns : tie.Need-returns
+unfolding plan minus
+returns c =
+    let args = c .before .before .before .before .before .before .before .before .args in
+    let two-integers = c .before .before .before .before .before .two-integers in
+    let m = c .before .before .before .m in
+    let wrapping-sub-u32 = c .before .wrapping-sub-u32 in
+    let give = c .give in
+    λ v h at s. computed (programOf (args .s .now)) v _ _ _ minus (two-integers .ensures _ _ v h s) _ (m .given .1) (omega (arith, wrapping-sub-u32 .ensures)) (give .ensures v at)
+
+returns-2 : tie.Need-returns-2
+unfolding plan
+returns-2 c =
+    λ v h at s. not-computed (programOf (c .before .before .before .before .before .before .args .s .now)) v _ _ _ minus (c .before .before .before .two-integers .ensures _ _ v h s) (c .before .k .given .1)
+
+pub subtract-guarded-spec : {M : Type 1} → statement M
+subtract-guarded-spec =
+    tie.close
+    (tie.spec
+    two-integers-requires
+    enum-known-m
+    wrapping-sub-u32-requires
+    give-requires
+    enum-known-k
+    returns
+    returns-2)

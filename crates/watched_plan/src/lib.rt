@@ -1,0 +1,361 @@
+// What each instruction of the watched machine asks for, with every test of kind and right, found by reading alone: f is the running frame's part of the
+// memory, h the objects' part, pr the place of the running procedure's PR. Every test reads carried rights.
+use binding::Kind;
+use binding::bind_word;
+use binding::kind_fits;
+use order::element_of;
+use order::inner_of;
+use order::is_array;
+use order::is_integer;
+use order::rights_of;
+use order::slot_of;
+use rights::has_none_above;
+use rights::has_right;
+use rights::is_within;
+use sheet::bytes::byte;
+use sheet::places::type_at;
+use words::Cell;
+use words::Moved;
+use words::Number;
+use words::Stored;
+use words::cell_of;
+use words::kind_in;
+use words::low_of;
+use words::name_of;
+use words::read;
+use words::size_of;
+use words::tag_of;
+ghost use mathlib.Core.Path.{_≡_};
+ghost use mathlib.Core.List.{List};
+ghost use Prim.Native.Nat.{ℕ, _<_};
+ghost use lib.Dec.{ltb};
+ghost use Rattle.model.specs.Rights.{array-rights, record-rights};
+ghost use Rattle.model.specs.Qualified.{Qual, rights, element, isInteger};
+ghost use Rattle.model.specs.Program.{Program};
+ghost use Rattle.model.specs.Modes.{watched, array-kind, record-kind, bind};
+ghost use Rattle.model.specs.Machine.{Value, filled, View, plan, as-integer, integers, one-integer, gives, flag};
+ghost use Rattle.model.specs.declared.Operation.the-variants as Op;
+ghost use Rattle.sheet.specs.Layout.{procedureAt, ownerAt, namedOf};
+ghost use Rattle.sheet.specs.Meaning.{qualOf, innerIn, programOf};
+ghost use Rattle.words.specs.Word.{cell, slot-in};
+ghost use Rattle.words.specs.Sees.{heads-in, Sees};
+ghost use Rattle.words.specs.Answers.{MovedOk, StoredOk, Inside, number-as, given, moved-to, stored};
+ghost use Rattle.binding.specs.Kinds.{moved-cell};
+ghost use Rattle.watched_plan.specs.Spots.{pair-as, element-as, slot-as, SpotOk, storing, made, index-of, element-at, slot-of, slot-at, size-for};
+
+// Two integers, or the number of the stop.
+enum Pair {
+    Are(u32, u32),
+    Halt(u8),
+}
+
+// A cell of an object, or the number of the stop.
+enum Spot {
+    At(u32, u32),
+    Halt(u8),
+}
+
+// The integer of a filled cell.
+fn integer_of(w: u64) -> Number
+    ensures { λ r. ⌜ ((q : ℕ → Qual) (x : Value) (m : ℕ) → slot-in watched q w ≡ cell (filled x m) → number-as watched r ≡ as-integer watched x) ⌝ }
+{
+    if tag_of(w) == 1 {
+        return Number::Is(low_of(w));
+    }
+    Number::Halt(18)
+}
+
+// The integer in variable x.
+pub fn integer_in(f: &[u64], x: u8) -> Number
+    ensures { λ r. ⌜ ((q : ℕ → Qual) (g : Program) (v : View watched) (h : List ℕ) → Sees watched q v (now (f .entry)) h → number-as watched r ≡ one-integer watched g v x) ⌝ }
+{
+    let Cell::Filled(w) = cell_of(read(f, x as usize)) else {
+        return Number::Halt(13);
+    };
+    integer_of(w)
+}
+
+// The integers in variables b and c.
+fn two_integers(f: &[u64], b: u8, c: u8) -> Pair
+    ensures { λ r. ⌜ ((q : ℕ → Qual) (g : Program) (v : View watched) (h : List ℕ) → Sees watched q v (now (f .entry)) h → pair-as r ≡ integers watched g v b c) ⌝ }
+{
+    let Cell::Filled(x) = cell_of(read(f, b as usize)) else {
+        return Pair::Halt(13);
+    };
+    let Cell::Filled(y) = cell_of(read(f, c as usize)) else {
+        return Pair::Halt(13);
+    };
+    if (tag_of(x) == 1) & (tag_of(y) == 1) {
+        return Pair::Are(low_of(x), low_of(y));
+    }
+    Pair::Halt(18)
+}
+
+// The input that a take finds may go into variable a.
+pub fn takes_integer(s: &[u8], pr: u32, a: u8) -> bool
+    ensures { λ r. ⌜ r ≡ isInteger (innerIn (now (s .entry)) pr a) ⌝ }
+{
+    is_integer(s, inner_of(s, pr, a))
+}
+
+// An integer on its way into variable a.
+fn give(s: &[u8], pr: u32, a: u8, n: u32) -> Number
+    ensures { λ r. ⌜ ((v : View watched) → procedureAt (now (s .entry)) (v .procedure) ≡ pr → given watched a r ≡ gives watched (programOf (now (s .entry))) v a n) ⌝ }
+{
+    if takes_integer(s, pr, a) {
+        return Number::Is(n);
+    }
+    Number::Halt(18)
+}
+
+pub fn set_guarded(s: &[u8], pr: u32, a: u8, k: u16) -> Number
+    ensures { λ r. ⌜ ((v : View watched) → procedureAt (now (s .entry)) (v .procedure) ≡ pr → given watched a r ≡ plan watched (programOf (now (s .entry))) v (Op.Set a k)) ⌝ }
+{
+    give(s, pr, a, k as u32)
+}
+
+pub fn add_guarded(s: &[u8], pr: u32, f: &[u64], a: u8, b: u8, c: u8) -> Number
+    ensures { λ r. ⌜ ((v : View watched) (h : List ℕ) → procedureAt (now (s .entry)) (v .procedure) ≡ pr → Sees watched (qualOf (now (s .entry))) v (now (f .entry)) h → given watched a r ≡ plan watched (programOf (now (s .entry))) v (Op.Add a b c)) ⌝ }
+{
+    match two_integers(f, b, c) {
+        Pair::Are(m, n) => give(s, pr, a, std::num::wrapping_add_u32(m, n)),
+        Pair::Halt(k) => Number::Halt(k),
+    }
+}
+
+pub fn subtract_guarded(s: &[u8], pr: u32, f: &[u64], a: u8, b: u8, c: u8) -> Number
+    ensures { λ r. ⌜ ((v : View watched) (h : List ℕ) → procedureAt (now (s .entry)) (v .procedure) ≡ pr → Sees watched (qualOf (now (s .entry))) v (now (f .entry)) h → given watched a r ≡ plan watched (programOf (now (s .entry))) v (Op.Subtract a b c)) ⌝ }
+{
+    match two_integers(f, b, c) {
+        Pair::Are(m, n) => give(s, pr, a, std::num::wrapping_sub_u32(m, n)),
+        Pair::Halt(k) => Number::Halt(k),
+    }
+}
+
+fn less(m: u32, n: u32) -> u32
+    ensures { λ r. ⌜ r ≡ flag (ltb m n) ⌝ }
+{
+    if m < n {
+        return 1;
+    }
+    0
+}
+
+pub fn less_guarded(s: &[u8], pr: u32, f: &[u64], a: u8, b: u8, c: u8) -> Number
+    ensures { λ r. ⌜ ((v : View watched) (h : List ℕ) → procedureAt (now (s .entry)) (v .procedure) ≡ pr → Sees watched (qualOf (now (s .entry))) v (now (f .entry)) h → given watched a r ≡ plan watched (programOf (now (s .entry))) v (Op.Less a b c)) ⌝ }
+{
+    match two_integers(f, b, c) {
+        Pair::Are(m, n) => give(s, pr, a, less(m, n)),
+        Pair::Halt(k) => Number::Halt(k),
+    }
+}
+
+pub fn bind_guarded(s: &[u8], pr: u32, f: &[u64], h: &[u64], a: u8, b: u8) -> Moved
+    ensures { λ r. ⌜ MovedOk r ⌝ }
+    ensures { λ r. ⌜ ((v : View watched) → procedureAt (now (s .entry)) (v .procedure) ≡ pr → Sees watched (qualOf (now (s .entry))) v (now (f .entry)) (now (h .entry)) → moved-to watched (qualOf (now (s .entry))) a r ≡ plan watched (programOf (now (s .entry))) v (Op.Bind a b)) ⌝ }
+{
+    bind_word(s, h, inner_of(s, pr, a), read(f, b as usize))
+}
+
+// The element of the array of a filled cell, x, by the index in another, y: kinds, right, size.
+fn index_in(h: &[u64], x: u64, y: u64, right: u8) -> Spot
+    requires { ⌜ right < 32 ⌝ }
+    ensures { λ r. ⌜ SpotOk (now (h .entry)) r ⌝ }
+    ensures { λ r. ⌜ ((q : ℕ → Qual) (g : Program) (v : View watched) (z u : Value) (m n : ℕ) → ((a : ℕ) → heads-in watched q (now (h .entry)) a ≡ v .head a) → slot-in watched q x ≡ cell (filled z m) → slot-in watched q y ≡ cell (filled u n) → element-as q (now (h .entry)) r ≡ index-of g v right z m u) ⌝ }
+{
+    let o = name_of(x);
+    let i = low_of(y);
+    let head = read(h, o as usize);
+    if (tag_of(x) == 2) & (tag_of(head) == 3) & (tag_of(y) == 1) {
+        if has_right(right, low_of(x)) {
+            if i < size_of(head) {
+                return Spot::At(o, i);
+            }
+            return Spot::Halt(14);
+        }
+        return Spot::Halt(19);
+    }
+    Spot::Halt(18)
+}
+
+// The element of the array in variable b by the index in variable c.
+fn element_spot(f: &[u64], h: &[u64], b: u8, c: u8, right: u8) -> Spot
+    requires { ⌜ right < 32 ⌝ }
+    ensures { λ r. ⌜ SpotOk (now (h .entry)) r ⌝ }
+    ensures { λ r. ⌜ ((q : ℕ → Qual) (g : Program) (v : View watched) → Sees watched q v (now (f .entry)) (now (h .entry)) → element-as q (now (h .entry)) r ≡ element-at g v right b c) ⌝ }
+{
+    let Cell::Filled(x) = cell_of(read(f, b as usize)) else {
+        return Spot::Halt(13);
+    };
+    let Cell::Filled(y) = cell_of(read(f, c as usize)) else {
+        return Spot::Halt(13);
+    };
+    index_in(h, x, y, right)
+}
+
+pub fn fetch_guarded(s: &[u8], pr: u32, f: &[u64], h: &[u64], a: u8, b: u8, c: u8) -> Moved
+    ensures { λ r. ⌜ MovedOk r ⌝ }
+    ensures { λ r. ⌜ ((v : View watched) → procedureAt (now (s .entry)) (v .procedure) ≡ pr → Sees watched (qualOf (now (s .entry))) v (now (f .entry)) (now (h .entry)) → moved-to watched (qualOf (now (s .entry))) a r ≡ plan watched (programOf (now (s .entry))) v (Op.Fetch a b c)) ⌝ }
+{
+    match element_spot(f, h, b, c, 1) {
+        Spot::At(o, i) => {
+            let w = read(h, (o as usize) + 1 + (i as usize));
+            bind_word(s, h, inner_of(s, pr, a), w)
+        }
+        Spot::Halt(k) => Moved::Halt(k),
+    }
+}
+
+// What was bound, on its way to a cell of an object.
+fn stored_at(o: u32, i: u32, m: Moved) -> Stored
+    ensures { λ r. ⌜ ((h : List ℕ) → Inside h o i → MovedOk m → StoredOk h r) ⌝ }
+    ensures { λ r. ⌜ ((q : ℕ → Qual) → stored watched q r ≡ storing o i (moved-cell q m)) ⌝ }
+{
+    match m {
+        Moved::To(w) => Stored::At(o, i, w),
+        Moved::Halt(k) => Stored::Halt(k),
+    }
+}
+
+pub fn store_guarded(s: &[u8], f: &[u64], h: &[u64], a: u8, b: u8, c: u8) -> Stored
+    ensures { λ r. ⌜ StoredOk (now (h .entry)) r ⌝ }
+    ensures { λ r. ⌜ ((v : View watched) → Sees watched (qualOf (now (s .entry))) v (now (f .entry)) (now (h .entry)) → stored watched (qualOf (now (s .entry))) r ≡ plan watched (programOf (now (s .entry))) v (Op.Store a b c)) ⌝ }
+{
+    match element_spot(f, h, a, b, 2) {
+        Spot::At(o, i) => {
+            let element = kind_in(read(h, o as usize));
+            stored_at(o, i, bind_word(s, h, element, read(f, c as usize)))
+        }
+        Spot::Halt(k) => Stored::Halt(k),
+    }
+}
+
+pub fn size_guarded(s: &[u8], pr: u32, f: &[u64], h: &[u64], a: u8, b: u8) -> Number
+    ensures { λ r. ⌜ ((v : View watched) → procedureAt (now (s .entry)) (v .procedure) ≡ pr → Sees watched (qualOf (now (s .entry))) v (now (f .entry)) (now (h .entry)) → given watched a r ≡ plan watched (programOf (now (s .entry))) v (Op.Size a b)) ⌝ }
+{
+    let Cell::Filled(x) = cell_of(read(f, b as usize)) else {
+        return Number::Halt(13);
+    };
+    let head = read(h, name_of(x) as usize);
+    if (tag_of(x) == 2) & (tag_of(head) == 3) {
+        if has_right(3, low_of(x)) {
+            return give(s, pr, a, size_of(head));
+        }
+        return Number::Halt(19);
+    }
+    Number::Halt(18)
+}
+
+// Slot k of the record of a filled cell, of type t: kind, open, size.
+fn open_slot(h: &[u64], x: u64, t: u8, k: u16) -> Spot
+    ensures { λ r. ⌜ SpotOk (now (h .entry)) r ⌝ }
+    ensures { λ r. ⌜ ((q : ℕ → Qual) (g : Program) (v : View watched) (z : Value) (m : ℕ) → ((a : ℕ) → heads-in watched q (now (h .entry)) a ≡ v .head a) → slot-in watched q x ≡ cell (filled z m) → slot-as r ≡ slot-of g v t k z m) ⌝ }
+{
+    let o = name_of(x);
+    let head = read(h, o as usize);
+    if (tag_of(x) == 2) & (tag_of(head) == 4) & (kind_in(head) == t) {
+        if has_right(0, low_of(x)) {
+            if (k as u32) < size_of(head) {
+                return Spot::At(o, k as u32);
+            }
+            return Spot::Halt(18);
+        }
+        return Spot::Halt(19);
+    }
+    Spot::Halt(18)
+}
+
+// Slot k of the record in variable b.
+fn slot_spot(f: &[u64], h: &[u64], t: u8, b: u8, k: u16) -> Spot
+    ensures { λ r. ⌜ SpotOk (now (h .entry)) r ⌝ }
+    ensures { λ r. ⌜ ((q : ℕ → Qual) (g : Program) (v : View watched) → Sees watched q v (now (f .entry)) (now (h .entry)) → slot-as r ≡ slot-at g v t k b) ⌝ }
+{
+    let Cell::Filled(x) = cell_of(read(f, b as usize)) else {
+        return Spot::Halt(13);
+    };
+    open_slot(h, x, t, k)
+}
+
+pub fn get_guarded(s: &[u8], pr: u32, f: &[u64], h: &[u64], a: u8, b: u8, k: u16) -> Moved
+    ensures { λ r. ⌜ MovedOk r ⌝ }
+    ensures { λ r. ⌜ ((v : View watched) → procedureAt (now (s .entry)) (v .procedure) ≡ pr → Sees watched (qualOf (now (s .entry))) v (now (f .entry)) (now (h .entry)) → moved-to watched (qualOf (now (s .entry))) a r ≡ plan watched (programOf (now (s .entry))) v (Op.GetSlot a b k)) ⌝ }
+{
+    match slot_spot(f, h, byte(s, pr as usize, 2), b, k) {
+        Spot::At(o, i) => {
+            let w = read(h, (o as usize) + 1 + (i as usize));
+            bind_word(s, h, inner_of(s, pr, a), w)
+        }
+        Spot::Halt(n) => Moved::Halt(n),
+    }
+}
+
+pub fn set_slot_guarded(s: &[u8], pr: u32, f: &[u64], h: &[u64], a: u8, b: u8, k: u16) -> Stored
+    ensures { λ r. ⌜ StoredOk (now (h .entry)) r ⌝ }
+    ensures { λ r. ⌜ ((v : View watched) → procedureAt (now (s .entry)) (v .procedure) ≡ pr → Sees watched (qualOf (now (s .entry))) v (now (f .entry)) (now (h .entry)) → stored watched (qualOf (now (s .entry))) r ≡ plan watched (programOf (now (s .entry))) v (Op.SetSlot a b k)) ⌝ }
+{
+    let owner = byte(s, pr as usize, 2);
+    match slot_spot(f, h, owner, a, k) {
+        Spot::At(o, i) => stored_at(
+            o,
+            i,
+            bind_word(s, h, slot_of(s, owner, k), read(f, b as usize)),
+        ),
+        Spot::Halt(n) => Stored::Halt(n),
+    }
+}
+
+// The size of a new array for variable a, from variable b, before the room for it is tested.
+pub fn sized(s: &[u8], pr: u32, f: &[u64], a: u8, b: u8) -> Number
+    ensures { λ r. ⌜ ((g : Program) (v : View watched) (h : List ℕ) → Sees watched (qualOf (now (s .entry))) v (now (f .entry)) h → number-as watched r ≡ size-for g v (innerIn (now (s .entry)) pr a) b) ⌝ }
+{
+    let n = integer_in(f, b);
+    let Number::Is(_) = n else {
+        return n;
+    };
+    if is_array(s, inner_of(s, pr, a)) {
+        return n;
+    }
+    Number::Halt(18)
+}
+
+// The number of the element, and the rights, of the declared type of variable a.
+pub fn declared_element(s: &[u8], pr: u32, a: u8) -> u8
+    ensures { λ r. ⌜ qualOf (now (s .entry)) r ≡ element (innerIn (now (s .entry)) pr a) ⌝ }
+{
+    element_of(s, inner_of(s, pr, a))
+}
+
+pub fn declared_rights(s: &[u8], pr: u32, a: u8) -> u32
+    ensures { λ r. ⌜ r ≡ rights (innerIn (now (s .entry)) pr a) ⌝ }
+{
+    rights_of(s, inner_of(s, pr, a))
+}
+
+// A new array with all its rights, bound to variable a: 0, or the number of the stop.
+pub fn array_made_as(s: &[u8], pr: u32, a: u8) -> u8
+    ensures { λ r. ⌜ made (innerIn (now (s .entry)) pr a) r ≡ bind watched (innerIn (now (s .entry)) pr a) (array-kind (element (innerIn (now (s .entry)) pr a))) array-rights ⌝ }
+{
+    let q = inner_of(s, pr, a);
+    if is_array(s, q) {
+        if is_within(rights_of(s, q), 14) {
+            return 0;
+        }
+        return 19;
+    }
+    18
+}
+
+// A new record of the owner's type with all its rights, bound to variable a: 0, or the number of the stop.
+pub fn record_made_as(s: &[u8], pr: u32, a: u8) -> u8
+    ensures { λ r. ⌜ made (innerIn (now (s .entry)) pr a) r ≡ bind watched (innerIn (now (s .entry)) pr a) (record-kind (ownerAt (now (s .entry)) pr)) (record-rights (namedOf (now (s .entry)) (ownerAt (now (s .entry)) pr))) ⌝ }
+{
+    let q = inner_of(s, pr, a);
+    let owner = byte(s, pr as usize, 2);
+    if kind_fits(s, q, Kind::Record(owner)) {
+        if has_none_above(byte(s, type_at(owner), 2), rights_of(s, q)) {
+            return 0;
+        }
+        return 19;
+    }
+    18
+}

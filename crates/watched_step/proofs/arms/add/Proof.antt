@@ -1,0 +1,56 @@
+-- The part of the memory that is read is the frame's, which the view sees; the writer does what is planned.
+use borrow.Author.Needs.{needs}
+use Rattle.model.specs.Modes.{watched}
+use denote.Ref.{now}
+use Rattle.sheet.specs.Meaning.{qualOf}
+use Rattle.words.specs.Answers.{given}
+use Rattle.frames.proofs.Performs.{sees-cut}
+use Rattle.watched_step.proofs.Laws.{performs-seeing}
+use Rattle.watched_step.proofs.arms.add.Statement.{statement}
+use Rattle.watched_step.proofs.arms.add.Tie as tie
+
+add-end : tie.Need-add-end
+add-end c = search needs
+
+mul-add-guarded : tie.Need-mul-add-guarded
+mul-add-guarded c = search needs
+
+sub-add-guarded : tie.Need-sub-add-guarded
+sub-add-guarded c = search needs
+
+part-add-guarded-start : tie.Need-part-add-guarded-start
+part-add-guarded-start c = search needs
+
+part-add-guarded-end : tie.Need-part-add-guarded-end
+part-add-guarded-end c = search needs
+
+add-guarded-requires : tie.Need-add-guarded-requires
+add-guarded-requires c κs = search needs
+
+give-number-requires : tie.Need-give-number-requires
+give-number-requires c κs = search needs
+
+same-length : tie.Need-same-length
+same-length c = search needs
+
+returns : tie.Need-returns
+returns c =
+    let args = c .before .before .before .before .before .before .before .before .before .before .args in
+    let pre = c .before .before .before .before .before .before .before .before .before .before .pre in
+    let add-guarded = c .before .before .before .before .add-guarded in
+    let give-number = c .before .before .give-number in
+    λ input out. performs-seeing (now (args .s)) input (now (args .memory)) (give-number .last .0) out out (args .r) (give-number .result) _ (λ z. given watched (args .a) (add-guarded .result)) (λ d q. give-number .ensures watched d out) (args .pr) (pre .1 .1) (λ v at S. add-guarded .ensures v _ at (sees-cut watched (qualOf (now (args .s))) v (now (args .memory)) _ (args .r) S))
+
+pub add-spec : {M : Type 1} → statement M
+add-spec =
+    tie.close
+    (tie.spec
+    add-end
+    mul-add-guarded
+    sub-add-guarded
+    part-add-guarded-start
+    part-add-guarded-end
+    add-guarded-requires
+    give-number-requires
+    same-length
+    returns)

@@ -1,0 +1,51 @@
+-- The parts of the memory, as the code cuts them, are those that the view sees.
+use native.Mathlib.Omega.{arith}
+use borrow.Author.Needs.{needs}
+use Rattle.model.specs.Modes.{watched}
+use denote.Ref.{now}
+use mathlib.Core.Path.{sym}
+use Rattle.sheet.specs.Meaning.{qualOf}
+use lib.Seq.{length-take-le}
+use Rattle.frames.proofs.Performs.{sees-cut}
+use Rattle.watched_step.proofs.arms.fetch_in.Statement.{statement}
+use Rattle.watched_step.proofs.arms.fetch_in.Tie as tie
+
+add-end : tie.Need-add-end
+add-end c = search needs
+
+mul-fetch-guarded : tie.Need-mul-fetch-guarded
+mul-fetch-guarded c = search needs
+
+sub-fetch-guarded : tie.Need-sub-fetch-guarded
+sub-fetch-guarded c = search needs
+
+part-fetch-guarded-start : tie.Need-part-fetch-guarded-start
+part-fetch-guarded-start c = search needs
+
+part-fetch-guarded-end : tie.Need-part-fetch-guarded-end
+part-fetch-guarded-end c = search needs
+
+slice-aggregate-fetch-guarded : tie.Need-slice-aggregate-fetch-guarded
+slice-aggregate-fetch-guarded c = sym (length-take-le _ _ (omega arith))
+
+fetch-guarded-requires : tie.Need-fetch-guarded-requires
+fetch-guarded-requires c κs = search needs
+
+returns : tie.Need-returns
+returns c =
+    let args = c .before .before .before .before .before .before .args in
+    let fetch-guarded = c .fetch-guarded in
+    (fetch-guarded .ensures .0, λ v at S. fetch-guarded .ensures .1 v at (sees-cut watched (qualOf (now (args .s))) v (now (args .memory)) _ (args .r) S))
+
+pub fetch-in-spec : {M : Type 1} → statement M
+fetch-in-spec =
+    tie.close
+    (tie.spec
+    add-end
+    mul-fetch-guarded
+    sub-fetch-guarded
+    part-fetch-guarded-start
+    part-fetch-guarded-end
+    slice-aggregate-fetch-guarded
+    fetch-guarded-requires
+    returns)

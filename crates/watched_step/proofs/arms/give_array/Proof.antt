@@ -1,0 +1,59 @@
+-- The test is that of the definition: an array of x cells takes x + 1 units.
+use borrow.Author.Needs.{needs}
+use Rattle.model.specs.Modes.{watched}
+use Rattle.model.specs.Outcome.{memory-full}
+use Rattle.writers.proofs.Effects.{does-stop, does-halt}
+use Rattle.watched_step.proofs.Laws.{array-full, array-halt}
+use Rattle.watched_step.proofs.arms.give_array.Statement.{statement}
+use Rattle.watched_step.proofs.arms.give_array.Tie as tie
+
+enum-known-n : tie.Need-enum-known-n
+enum-known-n c = search needs
+
+cast-if1 : tie.Need-cast-if1
+cast-if1 c = search needs
+
+sub-if1 : tie.Need-sub-if1
+sub-if1 c = search needs
+
+make-array-requires : tie.Need-make-array-requires
+make-array-requires c κs = search needs
+
+same-length : tie.Need-same-length
+same-length c = search needs
+
+returns : tie.Need-returns
+returns c =
+    let n = c .before .before .before .before .before .before .before .n in
+    let make-array = c .before .before .make-array in
+    λ d out q. rw (n .given .1) (make-array .ensures d out q)
+
+enum-known-n-2 : tie.Need-enum-known-n-2
+enum-known-n-2 c = search needs
+
+returns-2 : tie.Need-returns-2
+returns-2 c =
+    let args = c .before .before .before .before .before .before .before .args in
+    let n = c .before .before .before .n in
+    let if1 = c .if1 in
+    λ d out q. rw (n .given .1, array-full _ _ _ _ (if1 .left)) (does-stop watched d _ _ out (args .r) memory-full)
+
+returns-3 : tie.Need-returns-3
+returns-3 c =
+    let args = c .before .before .before .before .before .args in
+    let n2 = c .before .n2 in
+    λ d out q. rw (n2 .given .1, array-halt) (does-halt watched d _ _ out (args .r) _)
+
+pub give-array-spec : {M : Type 1} → statement M
+give-array-spec =
+    tie.close
+    (tie.spec
+    enum-known-n
+    cast-if1
+    sub-if1
+    make-array-requires
+    same-length
+    returns
+    enum-known-n-2
+    returns-2
+    returns-3)

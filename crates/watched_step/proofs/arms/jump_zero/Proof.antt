@@ -1,0 +1,50 @@
+-- The integer is that of the variable.
+use borrow.Author.Needs.{needs}
+use Rattle.model.specs.Modes.{watched}
+use denote.Ref.{now}
+use Rattle.sheet.specs.Meaning.{qualOf, programOf}
+use Rattle.model.specs.Machine.{one-integer}
+use Rattle.frames.proofs.Performs.{always, performs-jump}
+use Rattle.watched_step.proofs.arms.jump_zero.Statement.{statement}
+use Rattle.watched_step.proofs.arms.jump_zero.Tie as tie
+
+add-end : tie.Need-add-end
+add-end c = search needs
+
+mul-integer-in : tie.Need-mul-integer-in
+mul-integer-in c = search needs
+
+sub-integer-in : tie.Need-sub-integer-in
+sub-integer-in c = search needs
+
+part-integer-in-start : tie.Need-part-integer-in-start
+part-integer-in-start c = search needs
+
+part-integer-in-end : tie.Need-part-integer-in-end
+part-integer-in-end c = search needs
+
+integer-in-requires : tie.Need-integer-in-requires
+integer-in-requires c κs = search needs
+
+jump-requires : tie.Need-jump-requires
+jump-requires c κs = search needs
+
+returns : tie.Need-returns
+returns c =
+    let args = c .before .before .before .before .before .args in
+    let integer-in = c .before .integer-in in
+    let jump = c .jump in
+    λ s input out. performs-jump watched s input (now (args .memory)) (now (args .memory)) out out (args .r) (jump .result) (args .a) (integer-in .result) (args .k) (λ d. jump .ensures watched d (now (args .memory)) out) (λ v S. always (one-integer watched (programOf s) v (args .a)) _ (integer-in .ensures (qualOf s) (programOf s) v _ S))
+
+pub jump-zero-spec : {M : Type 1} → statement M
+jump-zero-spec =
+    tie.close
+    (tie.spec
+    add-end
+    mul-integer-in
+    sub-integer-in
+    part-integer-in-start
+    part-integer-in-end
+    integer-in-requires
+    jump-requires
+    returns)

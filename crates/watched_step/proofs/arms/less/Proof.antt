@@ -1,0 +1,56 @@
+-- The part of the memory that is read is the frame's, which the view sees; the writer does what is planned.
+use borrow.Author.Needs.{needs}
+use Rattle.model.specs.Modes.{watched}
+use denote.Ref.{now}
+use Rattle.sheet.specs.Meaning.{qualOf}
+use Rattle.words.specs.Answers.{given}
+use Rattle.frames.proofs.Performs.{sees-cut}
+use Rattle.watched_step.proofs.Laws.{performs-seeing}
+use Rattle.watched_step.proofs.arms.less.Statement.{statement}
+use Rattle.watched_step.proofs.arms.less.Tie as tie
+
+add-end : tie.Need-add-end
+add-end c = search needs
+
+mul-less-guarded : tie.Need-mul-less-guarded
+mul-less-guarded c = search needs
+
+sub-less-guarded : tie.Need-sub-less-guarded
+sub-less-guarded c = search needs
+
+part-less-guarded-start : tie.Need-part-less-guarded-start
+part-less-guarded-start c = search needs
+
+part-less-guarded-end : tie.Need-part-less-guarded-end
+part-less-guarded-end c = search needs
+
+less-guarded-requires : tie.Need-less-guarded-requires
+less-guarded-requires c κs = search needs
+
+give-number-requires : tie.Need-give-number-requires
+give-number-requires c κs = search needs
+
+same-length : tie.Need-same-length
+same-length c = search needs
+
+returns : tie.Need-returns
+returns c =
+    let args = c .before .before .before .before .before .before .before .before .before .before .args in
+    let pre = c .before .before .before .before .before .before .before .before .before .before .pre in
+    let less-guarded = c .before .before .before .before .less-guarded in
+    let give-number = c .before .before .give-number in
+    λ input out. performs-seeing (now (args .s)) input (now (args .memory)) (give-number .last .0) out out (args .r) (give-number .result) _ (λ z. given watched (args .a) (less-guarded .result)) (λ d q. give-number .ensures watched d out) (args .pr) (pre .1 .1) (λ v at S. less-guarded .ensures v _ at (sees-cut watched (qualOf (now (args .s))) v (now (args .memory)) _ (args .r) S))
+
+pub less-spec : {M : Type 1} → statement M
+less-spec =
+    tie.close
+    (tie.spec
+    add-end
+    mul-less-guarded
+    sub-less-guarded
+    part-less-guarded-start
+    part-less-guarded-end
+    less-guarded-requires
+    give-number-requires
+    same-length
+    returns)

@@ -1,0 +1,75 @@
+-- The answer 0 is the declared rights, which the new name carries; another is the stop.
+use native.Mathlib.Omega.{arith}
+use borrow.Author.Needs.{needs}
+use Rattle.model.specs.Modes.{watched}
+use mathlib.Core.Path.{ap, _∙_}
+use mathlib.Core.List.{List}
+use Rattle.model.specs.Qualified.{Qual}
+use Rattle.model.specs.Machine.{array-head}
+use Prim.Native.Nat.{ℕ, _+_, _≤_}
+use Rattle.words.specs.Word.{head}
+use Rattle.sheet.specs.Meaning.{qualOf}
+use Rattle.writers.proofs.Effects.{does-array, does-halt}
+use Rattle.watched_step.proofs.Laws.{array-made, array-refused}
+use Rattle.watched_step.proofs.arms.make_array.Statement.{statement}
+use Rattle.watched_step.proofs.arms.make_array.Tie as tie
+
+array-made-as-requires : tie.Need-array-made-as-requires
+array-made-as-requires c κs = search needs
+
+declared-element-requires : tie.Need-declared-element-requires
+declared-element-requires c κs = search needs
+
+array-word-requires : tie.Need-array-word-requires
+array-word-requires c κs = search needs
+
+cast-object-word : tie.Need-cast-object-word
+cast-object-word c = search needs
+
+declared-rights-requires : tie.Need-declared-rights-requires
+declared-rights-requires c κs = search needs
+
+object-word-requires : tie.Need-object-word-requires
+object-word-requires c κs = search needs
+
+allot-requires : tie.Need-allot-requires
+allot-requires c κs = search needs
+
+same-length : tie.Need-same-length
+same-length c = search needs
+
+returns : tie.Need-returns
+returns c =
+    let args = c .before .before .before .before .before .before .before .before .before .before .before .before .before .args in
+    let pre = c .before .before .before .before .before .before .before .before .before .before .before .before .before .pre in
+    let array-made-as = c .before .before .before .before .before .before .before .before .before .before .array-made-as in
+    let if1 = c .before .before .before .before .before .before .before .before .before .if1 in
+    let declared-element = c .before .before .before .before .before .before .before .before .declared-element in
+    let array-word = c .before .before .before .before .before .before .before .array-word in
+    let declared-rights = c .before .before .before .before .before .declared-rights in
+    let object-word = c .before .before .before .before .object-word in
+    let allot = c .before .before .allot in
+    λ d out q. let room : args .r .used + (args .n + 1) ≤ args .r .base = omega arith in rw (allot .ensures .0, (array-made _ _ _ _ _ (pre .1 .1) (array-made-as .ensures) (if1 .taken))) (does-array watched d _ _ out (args .r) (args .a) _ _ _ _ room (rw (declared-rights .ensures) at (object-word .ensures watched (qualOf (d .sheet)))) (allot .ensures .1 watched (qualOf (d .sheet))) _ (array-word .ensures watched (qualOf (d .sheet)) ∙ ap (λ (e : Qual). head (array-head e (args .n))) (ap (λ (z : List ℕ). qualOf z (declared-element .result)) q ∙ declared-element .ensures)))
+
+returns-2 : tie.Need-returns-2
+returns-2 c =
+    let pre = c .before .before .before .before .pre in
+    let args = c .before .before .before .before .args in
+    let array-made-as = c .before .array-made-as in
+    let if1 = c .if1 in
+    λ d out q. rw (array-refused _ _ _ _ _ (pre .1 .1) (array-made-as .ensures) (if1 .left)) (does-halt watched d _ _ out (args .r) _)
+
+pub make-array-spec : {M : Type 1} → statement M
+make-array-spec =
+    tie.close
+    (tie.spec
+    array-made-as-requires
+    declared-element-requires
+    array-word-requires
+    cast-object-word
+    declared-rights-requires
+    object-word-requires
+    allot-requires
+    same-length
+    returns
+    returns-2)

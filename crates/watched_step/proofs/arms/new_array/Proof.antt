@@ -1,0 +1,58 @@
+-- The size is that which is planned, and the free units are those of the view.
+use borrow.Author.Needs.{needs}
+use Rattle.model.specs.Modes.{watched}
+use denote.Ref.{now}
+use Rattle.sheet.specs.Meaning.{qualOf, programOf}
+use Rattle.sheet.specs.Meaning.{innerIn}
+use Prim.Native.Nat.{_-_}
+use Rattle.watched_step.specs.Watched.{array-into}
+use Rattle.frames.proofs.Performs.{sees-cut}
+use Rattle.watched_step.proofs.Laws.{arrays, performs-roomy}
+use Rattle.watched_step.proofs.arms.new_array.Statement.{statement}
+use Rattle.watched_step.proofs.arms.new_array.Tie as tie
+
+add-end : tie.Need-add-end
+add-end c = search needs
+
+mul-sized : tie.Need-mul-sized
+mul-sized c = search needs
+
+sub-sized : tie.Need-sub-sized
+sub-sized c = search needs
+
+part-sized-start : tie.Need-part-sized-start
+part-sized-start c = search needs
+
+part-sized-end : tie.Need-part-sized-end
+part-sized-end c = search needs
+
+sized-requires : tie.Need-sized-requires
+sized-requires c κs = search needs
+
+give-array-requires : tie.Need-give-array-requires
+give-array-requires c κs = search needs
+
+same-length : tie.Need-same-length
+same-length c = search needs
+
+returns : tie.Need-returns
+returns c =
+    let args = c .before .before .before .before .before .before .before .before .before .before .args in
+    let pre = c .before .before .before .before .before .before .before .before .before .before .pre in
+    let sized = c .before .before .before .before .sized in
+    let give-array = c .before .before .give-array in
+    λ input out. performs-roomy (now (args .s)) input (now (args .memory)) (give-array .last .1 .1 .0) out out (args .r) (give-array .result) _ (λ z. array-into (args .r .base - args .r .used) (args .a) (innerIn (now (args .s)) (args .pr) (args .a)) (sized .result)) (λ d q. give-array .ensures d out q) (args .pr) (pre .1 .1) (λ v at free S. arrays (programOf (now (args .s))) v _ _ _ (rw at) free (sized .ensures (programOf (now (args .s))) v _ (sees-cut watched (qualOf (now (args .s))) v (now (args .memory)) _ (args .r) S)))
+
+pub new-array-spec : {M : Type 1} → statement M
+new-array-spec =
+    tie.close
+    (tie.spec
+    add-end
+    mul-sized
+    sub-sized
+    part-sized-start
+    part-sized-end
+    sized-requires
+    give-array-requires
+    same-length
+    returns)

@@ -1,0 +1,54 @@
+-- The integer is that of the variable, and the free output words are those of the view.
+use borrow.Author.Needs.{needs}
+use Rattle.model.specs.Modes.{watched}
+use denote.Ref.{now}
+use Rattle.sheet.specs.Meaning.{qualOf, programOf}
+use Rattle.model.specs.Machine.{one-integer}
+use Rattle.frames.proofs.Performs.{always, performs-put}
+use Rattle.watched_step.proofs.arms.put.Statement.{statement}
+use Rattle.watched_step.proofs.arms.put.Tie as tie
+
+add-end : tie.Need-add-end
+add-end c = search needs
+
+mul-integer-in : tie.Need-mul-integer-in
+mul-integer-in c = search needs
+
+sub-integer-in : tie.Need-sub-integer-in
+sub-integer-in c = search needs
+
+part-integer-in-start : tie.Need-part-integer-in-start
+part-integer-in-start c = search needs
+
+part-integer-in-end : tie.Need-part-integer-in-end
+part-integer-in-end c = search needs
+
+integer-in-requires : tie.Need-integer-in-requires
+integer-in-requires c κs = search needs
+
+put-output-requires : tie.Need-put-output-requires
+put-output-requires c κs = search needs
+
+same-length : tie.Need-same-length
+same-length c = search needs
+
+returns : tie.Need-returns
+returns c =
+    let args = c .before .before .before .before .before .before .before .before .before .args in
+    let integer-in = c .before .before .before .before .integer-in in
+    let put-output = c .before .before .put-output in
+    λ s input. performs-put watched s input (now (args .memory)) (now (args .memory)) (now (args .output)) (put-output .last .0) (args .r) (put-output .result) (args .a) (integer-in .result) (λ d. put-output .ensures watched d (now (args .memory))) (λ v S. always (one-integer watched (programOf s) v (args .a)) _ (integer-in .ensures (qualOf s) (programOf s) v _ S))
+
+pub put-spec : {M : Type 1} → statement M
+put-spec =
+    tie.close
+    (tie.spec
+    add-end
+    mul-integer-in
+    sub-integer-in
+    part-integer-in-start
+    part-integer-in-end
+    integer-in-requires
+    put-output-requires
+    same-length
+    returns)

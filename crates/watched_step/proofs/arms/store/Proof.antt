@@ -1,0 +1,29 @@
+-- What is read is what the view sees; the writer does what is planned.
+use borrow.Author.Needs.{needs}
+use Rattle.model.specs.Modes.{watched}
+use denote.Ref.{now}
+use mathlib.Core.Path.{refl}
+use Rattle.sheet.specs.Meaning.{qualOf}
+use Rattle.words.specs.Answers.{stored}
+use Rattle.watched_step.proofs.Laws.{performs-seeing}
+use Rattle.watched_step.proofs.arms.store.Statement.{statement}
+use Rattle.watched_step.proofs.arms.store.Tie as tie
+
+store-in-requires : tie.Need-store-in-requires
+store-in-requires c κs = search needs
+
+store-cell-requires : tie.Need-store-cell-requires
+store-cell-requires c κs = search needs
+
+same-length : tie.Need-same-length
+same-length c = search needs
+
+returns : tie.Need-returns
+returns c =
+    let args = c .before .before .before .before .before .before .before .before .args in
+    let store-in = c .before .before .before .before .store-in in
+    let store-cell = c .before .before .store-cell in
+    λ input out. performs-seeing (now (args .s)) input (now (args .memory)) (store-cell .last .0) out out (args .r) (store-cell .result) _ (λ z. stored watched (qualOf z) (store-in .result)) (λ d q. store-cell .ensures watched d out (store-in .ensures .0)) _ (λ h. refl) (λ v at S. store-in .ensures .1 v S)
+
+pub store-spec : {M : Type 1} → statement M
+store-spec = tie.close (tie.spec store-in-requires store-cell-requires same-length returns)

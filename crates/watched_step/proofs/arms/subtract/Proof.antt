@@ -1,0 +1,56 @@
+-- The part of the memory that is read is the frame's, which the view sees; the writer does what is planned.
+use borrow.Author.Needs.{needs}
+use Rattle.model.specs.Modes.{watched}
+use denote.Ref.{now}
+use Rattle.sheet.specs.Meaning.{qualOf}
+use Rattle.words.specs.Answers.{given}
+use Rattle.frames.proofs.Performs.{sees-cut}
+use Rattle.watched_step.proofs.Laws.{performs-seeing}
+use Rattle.watched_step.proofs.arms.subtract.Statement.{statement}
+use Rattle.watched_step.proofs.arms.subtract.Tie as tie
+
+add-end : tie.Need-add-end
+add-end c = search needs
+
+mul-subtract-guarded : tie.Need-mul-subtract-guarded
+mul-subtract-guarded c = search needs
+
+sub-subtract-guarded : tie.Need-sub-subtract-guarded
+sub-subtract-guarded c = search needs
+
+part-subtract-guarded-start : tie.Need-part-subtract-guarded-start
+part-subtract-guarded-start c = search needs
+
+part-subtract-guarded-end : tie.Need-part-subtract-guarded-end
+part-subtract-guarded-end c = search needs
+
+subtract-guarded-requires : tie.Need-subtract-guarded-requires
+subtract-guarded-requires c κs = search needs
+
+give-number-requires : tie.Need-give-number-requires
+give-number-requires c κs = search needs
+
+same-length : tie.Need-same-length
+same-length c = search needs
+
+returns : tie.Need-returns
+returns c =
+    let args = c .before .before .before .before .before .before .before .before .before .before .args in
+    let pre = c .before .before .before .before .before .before .before .before .before .before .pre in
+    let subtract-guarded = c .before .before .before .before .subtract-guarded in
+    let give-number = c .before .before .give-number in
+    λ input out. performs-seeing (now (args .s)) input (now (args .memory)) (give-number .last .0) out out (args .r) (give-number .result) _ (λ z. given watched (args .a) (subtract-guarded .result)) (λ d q. give-number .ensures watched d out) (args .pr) (pre .1 .1) (λ v at S. subtract-guarded .ensures v _ at (sees-cut watched (qualOf (now (args .s))) v (now (args .memory)) _ (args .r) S))
+
+pub subtract-spec : {M : Type 1} → statement M
+subtract-spec =
+    tie.close
+    (tie.spec
+    add-end
+    mul-subtract-guarded
+    sub-subtract-guarded
+    part-subtract-guarded-start
+    part-subtract-guarded-end
+    subtract-guarded-requires
+    give-number-requires
+    same-length
+    returns)

@@ -1,0 +1,61 @@
+-- The word is that of the variable, and the objects' part has the heads that the view sees.
+use native.Mathlib.Omega.{arith}
+use borrow.Author.Needs.{needs}
+use mathlib.Core.Path.{sym, ap, _∙_}
+use denote.Ref.{now}
+use lib.Seq.{length-take-le}
+use Rattle.model.specs.Modes.{watched}
+use Rattle.sheet.specs.Meaning.{qualOf}
+use Rattle.words.specs.Word.{slot-in}
+use Rattle.frames.proofs.Performs.{sees-cut}
+use Rattle.watched_step.proofs.calls.actual_in.Statement.{statement}
+use Rattle.watched_step.proofs.calls.actual_in.Tie as tie
+
+add-end : tie.Need-add-end
+add-end c = search needs
+
+mul-read : tie.Need-mul-read
+mul-read c = search needs
+
+sub-read : tie.Need-sub-read
+sub-read c = search needs
+
+part-read-start : tie.Need-part-read-start
+part-read-start c = search needs
+
+part-read-end : tie.Need-part-read-end
+part-read-end c = search needs
+
+add-read : tie.Need-add-read
+add-read c = search needs
+
+read-requires : tie.Need-read-requires
+read-requires c κs = search needs
+
+slice-aggregate-actual-word : tie.Need-slice-aggregate-actual-word
+slice-aggregate-actual-word c = sym (length-take-le _ _ (omega arith))
+
+actual-word-requires : tie.Need-actual-word-requires
+actual-word-requires c κs = search needs
+
+returns : tie.Need-returns
+returns c =
+    let args = c .before .before .before .before .before .before .before .args in
+    let read = c .before .before .read in
+    let actual-word = c .actual-word in
+    (actual-word .ensures .0, λ v k at S. actual-word .ensures .1 v k (args .b) (S .head) at (ap (slot-in watched (qualOf (now (args .s)))) (read .ensures) ∙ sees-cut watched (qualOf (now (args .s))) v (now (args .memory)) _ (args .r) S .variable _))
+
+pub actual-in-spec : {M : Type 1} → statement M
+actual-in-spec =
+    tie.close
+    (tie.spec
+    add-end
+    mul-read
+    sub-read
+    part-read-start
+    part-read-end
+    add-read
+    read-requires
+    slice-aggregate-actual-word
+    actual-word-requires
+    returns)

@@ -1,0 +1,112 @@
+-- After j turns the first j actuals stand at the place; a word that is written there changes nothing that the next one reads.
+use native.Mathlib.Omega.{arith}
+use borrow.Author.Needs.{needs}
+use Prim.Native.Nat.{ℕ, _+_, _-_, _≤_, _<_}
+use mathlib.Core.Path.{_≡_, refl}
+use denote.Ref.{now}
+use lib.ListN.{length, length-set}
+use Rattle.sheet.specs.Layout.{procedureAt}
+use Rattle.watched_step.specs.Calls.{Bound}
+use Rattle.watched_step.proofs.Calling.{bound-none, bound-more, bound-stop, bound-done}
+use Rattle.watched_step.proofs.calls.bind_actuals.Statement.{statement}
+use Rattle.watched_step.proofs.calls.bind_actuals.Tie as tie
+
+abbrev Inv-loop : tie.InvT-loop
+Inv-loop s pr memory₀ r b at f j₀ memory j =
+    (j ≤ f) × (length memory ≡ length memory₀) × ((k : ℕ) → procedureAt s k ≡ pr → Bound s memory₀ memory r k b at j (f - j))
+
+abbrev μ-loop : tie.MeasureT-loop
+μ-loop s pr memory₀ r b at f j₀ memory j = f - j
+
+loop-holds : tie.Need-loop-holds Inv-loop μ-loop
+loop-holds c =
+    let args = c .before .before .args in
+    (omega arith, refl, λ k at. let e : args .f - 0 ≡ args .f = omega arith in rw e (bound-none (now (args .s)) (now (args .memory)) (args .r) k (args .b) (args .at) (args .f)))
+
+actual-in-requires : tie.Need-actual-in-requires Inv-loop μ-loop
+actual-in-requires c κs =
+    let pre = c .before .before .before .before .before .pre in
+    let loop = c .before .before .loop in
+    rw (loop .inv .1) (pre .0)
+
+enum-known-w : tie.Need-enum-known-w Inv-loop μ-loop
+enum-known-w c = search needs
+
+cast-memory : tie.Need-cast-memory Inv-loop μ-loop
+cast-memory c = search needs
+
+add-memory : tie.Need-add-memory Inv-loop μ-loop
+add-memory c = search needs
+
+mul-memory : tie.Need-mul-memory Inv-loop μ-loop
+mul-memory c = search needs
+
+slice-write-memory : tie.Need-slice-write-memory Inv-loop μ-loop
+slice-write-memory c =
+    let pre = c .before .before .before .before .before .before .before .before .before .pre in
+    let loop = c .before .before .before .before .before .before .loop in
+    let frame = pre .0 .frame in let room = pre .1 .1 in let long = loop .inv .1 in omega arith
+
+enum-known-k : tie.Need-enum-known-k Inv-loop μ-loop
+enum-known-k c = search needs
+
+same-length : tie.Need-same-length Inv-loop μ-loop
+same-length c =
+    let loop = c .before .before .before .before .before .before .loop in
+    loop .inv .1
+
+returns : tie.Need-returns Inv-loop μ-loop
+returns c =
+    let args = c .before .before .before .before .before .before .before .before .before .args in
+    let loop = c .before .before .before .before .before .before .loop in
+    let actual-in = c .before .before .before .actual-in in
+    let k = c .before .k in
+    λ p at v S. let turn : loop .j < args .f = omega arith in let e : loop .j + (args .f - loop .j) ≡ args .f = omega arith in rw e at (bound-stop (loop .inv .2 p at) (actual-in .result) (args .f - (loop .j + 1)) (omega arith) (λ u T. actual-in .ensures .1 u p at T) (k .given .1) v S)
+
+add-j : tie.Need-add-j Inv-loop μ-loop
+add-j c = omega arith
+
+loop-less : tie.Need-loop-less Inv-loop μ-loop
+loop-less c = omega arith
+
+loop-again : tie.Need-loop-again Inv-loop μ-loop
+loop-again c =
+    let args = c .before .before .before .before .before .before .before .before .before .args in
+    let pre = c .before .before .before .before .before .before .before .before .before .pre in
+    let loop = c .before .before .before .before .before .before .loop in
+    let actual-in = c .before .before .before .actual-in in
+    let w = c .before .w in
+    let turn : loop .j < args .f = omega arith in let low = pre .1 .0 in let room = pre .1 .1 in let frame = pre .0 .frame in (omega arith, simp length-set (loop .inv .1), λ k at. bound-more (loop .inv .2 k at) (actual-in .result) (args .f - (loop .j + 1)) (omega arith) (λ u T. actual-in .ensures .1 u k at T) (w .given .1) (rw (w .given .1) at (actual-in .ensures .0)) (omega arith) (omega arith) (omega arith))
+
+same-length-2 : tie.Need-same-length-2 Inv-loop μ-loop
+same-length-2 c =
+    let loop = c .before .loop in
+    loop .inv .1
+
+returns-2 : tie.Need-returns-2 Inv-loop μ-loop
+returns-2 c =
+    let args = c .before .before .before .before .args in
+    let loop = c .before .loop in
+    λ k at. let e : loop .j ≡ args .f = omega arith in bound-done (loop .inv .2 k at) e (omega arith)
+
+pub bind-actuals-spec : {M : Type 1} → statement M
+bind-actuals-spec =
+    tie.close
+    (tie.spec
+    Inv-loop
+    μ-loop
+    loop-holds
+    actual-in-requires
+    enum-known-w
+    cast-memory
+    add-memory
+    mul-memory
+    slice-write-memory
+    enum-known-k
+    same-length
+    returns
+    add-j
+    loop-less
+    loop-again
+    same-length-2
+    returns-2)

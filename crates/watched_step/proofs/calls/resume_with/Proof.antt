@@ -1,0 +1,111 @@
+-- Main's return, a result that is dropped, and one that is bound to the variable that keeps it.
+use borrow.Author.Needs.{needs}
+use denote.Ref.{now}
+use Rattle.model.specs.Modes.{watched}
+use Rattle.form.proofs.WellFormed.{form-small}
+use Rattle.frames.proofs.Returning.{returns-over, returns-dropped}
+use Rattle.watched_step.proofs.Returning.{returns-kept, returns-refused}
+use Rattle.watched_step.proofs.calls.resume_with.Statement.{statement}
+use Rattle.watched_step.proofs.calls.resume_with.Tie as tie
+
+add-if1 : tie.Need-add-if1
+add-if1 c = search needs
+
+add-if1-2 : tie.Need-add-if1-2
+add-if1-2 c = search needs
+
+returns : tie.Need-returns
+returns c =
+    let args = c .before .before .before .before .before .args in
+    let if1 = c .if1 in
+    returns-over watched (now (args .s)) (now (args .memory)) (args .r) _ (if1 .taken)
+
+waiting-requires : tie.Need-waiting-requires
+waiting-requires c κs = search needs
+
+kept-at-requires : tie.Need-kept-at-requires
+kept-at-requires c κs = search needs
+
+same-length : tie.Need-same-length
+same-length c = search needs
+
+returns-2 : tie.Need-returns-2
+returns-2 c =
+    let args = c .before .before .before .before .before .before .before .before .before .args in
+    let pre = c .before .before .before .before .before .before .before .before .before .pre in
+    let if1 = c .before .before .before .before .if1 in
+    let waiting = c .before .before .waiting in
+    let kept-at = c .before .kept-at in
+    let if2 = c .if2 in
+    returns-dropped watched (now (args .s)) (now (args .memory)) (args .r) (waiting .result) (kept-at .result) (if1 .left) (waiting .ensures .0 watched (now (args .s)) (form-small (now (args .s)) (pre .0 .formed) .3)) (kept-at .ensures) (if2 .taken) _
+
+mul-bind-kept : tie.Need-mul-bind-kept
+mul-bind-kept c = search needs
+
+element-copy-out-bind-kept : tie.Need-element-copy-out-bind-kept
+element-copy-out-bind-kept c = search needs
+
+bind-kept-requires : tie.Need-bind-kept-requires
+bind-kept-requires c κs = search needs
+
+enum-known-x : tie.Need-enum-known-x
+enum-known-x c = search needs
+
+keep-requires : tie.Need-keep-requires
+keep-requires c κs = search needs
+
+enum-known-k : tie.Need-enum-known-k
+enum-known-k c = search needs
+
+same-length-2 : tie.Need-same-length-2
+same-length-2 c = search needs
+
+returns-3 : tie.Need-returns-3
+returns-3 c =
+    let args = c .before .before .before .before .before .before .before .before .before .before .before .before .before .before .before .before .before .before .before .args in
+    let pre = c .before .before .before .before .before .before .before .before .before .before .before .before .before .before .before .before .before .before .before .pre in
+    let if1 = c .before .before .before .before .before .before .before .before .before .before .before .before .before .before .if1 in
+    let waiting = c .before .before .before .before .before .before .before .before .before .before .before .before .waiting in
+    let kept-at = c .before .before .before .before .before .before .before .before .before .before .before .kept-at in
+    let if2 = c .before .before .before .before .before .before .before .before .before .before .if2 in
+    let bind-kept = c .before .before .before .before .before .before .before .bind-kept in
+    let x = c .before .before .before .before .before .x in
+    let keep = c .before .before .keep in
+    returns-kept (now (args .s)) (now (args .memory)) (args .r) (waiting .result) (kept-at .result) (if1 .left) (waiting .ensures .0 watched (now (args .s)) (form-small (now (args .s)) (pre .0 .formed) .3)) (kept-at .ensures) (if2 .left) (now (args .table)) (pre .0) (args .w) (pre .1 .1) (bind-kept .result) (bind-kept .ensures .1) (x .given .1) (bind-kept .ensures .0) (keep .last .0) (keep .ensures watched)
+
+same-length-3 : tie.Need-same-length-3
+same-length-3 c = search needs
+
+returns-4 : tie.Need-returns-4
+returns-4 c =
+    let args = c .before .before .before .before .before .before .before .before .before .before .before .before .before .before .before .args in
+    let pre = c .before .before .before .before .before .before .before .before .before .before .before .before .before .before .before .pre in
+    let if1 = c .before .before .before .before .before .before .before .before .before .before .if1 in
+    let waiting = c .before .before .before .before .before .before .before .before .waiting in
+    let kept-at = c .before .before .before .before .before .before .before .kept-at in
+    let if2 = c .before .before .before .before .before .before .if2 in
+    let bind-kept = c .before .before .before .bind-kept in
+    let k = c .before .k in
+    returns-refused (now (args .s)) (now (args .memory)) (args .r) (waiting .result) (kept-at .result) (if1 .left) (waiting .ensures .0 watched (now (args .s)) (form-small (now (args .s)) (pre .0 .formed) .3)) (kept-at .ensures) (if2 .left) (now (args .table)) (pre .0) (args .w) (pre .1 .1) (bind-kept .result) (bind-kept .ensures .1) (k .given .1) (now (args .memory))
+
+pub resume-with-spec : {M : Type 1} → statement M
+resume-with-spec =
+    tie.close
+    (tie.spec
+    add-if1
+    add-if1-2
+    returns
+    waiting-requires
+    kept-at-requires
+    same-length
+    returns-2
+    mul-bind-kept
+    element-copy-out-bind-kept
+    bind-kept-requires
+    enum-known-x
+    keep-requires
+    enum-known-k
+    same-length-2
+    returns-3
+    same-length-3
+    returns-4)

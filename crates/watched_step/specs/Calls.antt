@@ -1,0 +1,78 @@
+-- What a call and a return of the watched machine ask for, and what the code answers there.
+use Prim.Native.Nat.{ℕ, _+_, _≤_, _<_}
+use mathlib.Core.Path.{_≡_}
+use mathlib.Core.List.{List, _++_, map}
+use mathlib.Core.Option.{Option, none, some}
+use lib.ListN.{length, take, drop}
+use Rattle.model.specs.Qualified.{Qual}
+use Rattle.model.specs.Program.{Program}
+use Rattle.model.specs.Rules.{optional}
+use Rattle.model.specs.Outcome.{Res, ok, _>>=_, _>>_}
+use Rattle.model.specs.Modes.{watched, demand}
+use Rattle.model.specs.Machine.{Cell, View, actuals, handed, returns-well}
+use Rattle.sheet.specs.Layout.{proceduresOf, formalsAt, variablesAt, procedureAt}
+use Rattle.sheet.specs.Meaning.{qualOf, programOf}
+use Rattle.words.specs.Word.{cell, slot-in, as-cell}
+use Rattle.words.specs.Sees.{Sees}
+use Rattle.words.specs.Answers.{halted, IsCell}
+use Rattle.words.specs.declared.Number.{Number}
+use Rattle.words.specs.declared.Number.the-variants as N
+use Rattle.writers.specs.declared.Registers.{Registers}
+use Rattle.watched_step.specs.declared.calls.Handed.{Handed}
+use Rattle.watched_step.specs.declared.calls.Handed.the-variants as H
+
+-- what a view sees of the running frame's part of the memory and of the objects' part
+abbrev pub SeesIn : List ℕ → View watched → List ℕ → Registers → Type 0
+SeesIn s v words r = Sees watched (qualOf s) v (take (r .variables) (drop (r .base) words)) (take (r .used) words)
+
+-- ---- a call
+
+-- procedure k of a sheet, whose PR stands at pr
+pub record Callee (s : List ℕ) (k pr : ℕ) : Type 0 where
+  pub place : procedureAt s k ≡ pr
+  pub formals : formalsAt s pr ≤ variablesAt s pr
+  pub known : k < proceduresOf s
+  pub small : k < 64
+
+-- the cells of n words from a place on
+abbrev pub cells-at : (s words : List ℕ) → (at n : ℕ) → List (Cell watched)
+cells-at s words at n = map (λ w. as-cell (slot-in watched (qualOf s) w)) (take n (drop at words))
+
+-- cells before those that are still to come
+unfoldable pub before : List (Cell watched) → Res (List (Cell watched)) → Res (List (Cell watched))
+before cs r = r >>= λ ds. ok (cs ++ ds)
+
+-- the first j actuals of a call of procedure k with variables from b on were bound and stand at a place between objects and frames, where alone the
+-- words changed; n are still to come
+pub record Bound (s words words′ : List ℕ) (r : Registers) (k b at j n : ℕ) : Type 0 where
+  pub long : length words′ ≡ length words
+  pub objects : take (r .used) words′ ≡ take (r .used) words
+  pub frames : drop (r .base) words′ ≡ drop (r .base) words
+  pub cells : map (slot-in watched (qualOf s)) (take j (drop at words′)) ≡ map cell (cells-at s words′ at j)
+  pub planned : (v : View watched) → SeesIn s v words r
+      → actuals watched (programOf s) v k b 0 (j + n) ≡ before (cells-at s words′ at j) (actuals watched (programOf s) v k b j n)
+
+-- all f of them were, or the first that was not is the stop
+abbrev pub Binds : (s words words′ : List ℕ) → Registers → (k b at f : ℕ) → Number → Type 0
+Binds s words words′ r k b at f (N.Is n) = Bound s words words′ r k b at f 0
+Binds s words words′ r k b at f (N.Halt x) =
+    (v : View watched) → SeesIn s v words r → actuals watched (programOf s) v k b 0 f ≡ halted watched x
+
+-- ---- a return
+
+-- what is handed over: variable a, or nothing, as the procedure's result demands
+unfoldable pub hands : Program → View watched → ℕ → Res (Option (Cell watched))
+hands g v a = do
+  demand watched (returns-well (optional a) (g .result (v .procedure)))
+  handed watched g v (optional a)
+
+unfoldable pub handed-as : (ℕ → Qual) → Handed → Res (Option (Cell watched))
+handed-as qual H.Nothing = ok none
+handed-as qual (H.Is w) = ok (some (as-cell (slot-in watched qual w)))
+handed-as qual (H.Halt k) = halted watched k
+
+-- a word that is handed over is a cell's
+abbrev pub HandedOk : Handed → Type 0
+HandedOk H.Nothing = Unit {0}
+HandedOk (H.Is w) = IsCell w
+HandedOk (H.Halt k) = Unit {0}

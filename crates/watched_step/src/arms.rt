@@ -1,0 +1,344 @@
+// Each operation but call and return: what it asks for (crate guards), done (crate writers). pr is the place of the running procedure's PR.
+use watched_plan::add_guarded;
+use watched_plan::array_made_as;
+use watched_plan::bind_guarded;
+use watched_plan::declared_element;
+use watched_plan::declared_rights;
+use watched_plan::fetch_guarded;
+use watched_plan::get_guarded;
+use watched_plan::integer_in;
+use watched_plan::less_guarded;
+use watched_plan::record_made_as;
+use watched_plan::set_guarded;
+use watched_plan::set_slot_guarded;
+use watched_plan::size_guarded;
+use watched_plan::sized;
+use watched_plan::store_guarded;
+use watched_plan::subtract_guarded;
+use watched_plan::takes_integer;
+use sheet::bytes::byte;
+use sheet::places::type_at;
+use words::Moved;
+use words::Number;
+use words::Stored;
+use words::array_word;
+use words::object_word;
+use words::record_word;
+use writers::Registers;
+use writers::Stepped;
+use writers::allot;
+use writers::give_moved;
+use writers::give_number;
+use writers::jump;
+use writers::put_output;
+use writers::store_cell;
+use writers::take_input;
+ghost use mathlib.Core.Path.{_≡_};
+ghost use mathlib.Core.List.{List};
+ghost use Prim.Native.Nat.{ℕ, _-_, _<_};
+ghost use lib.ListN.{length, take, drop};
+ghost use Rattle.model.specs.Modes.{watched};
+ghost use Rattle.model.specs.Machine.{View, plan};
+ghost use Rattle.model.specs.declared.Operation.the-variants as Op;
+ghost use Rattle.sheet.specs.Layout.{procedureAt, ownerAt, namedOf};
+ghost use Rattle.sheet.specs.Meaning.{qualOf, innerIn, programOf};
+ghost use Rattle.words.specs.Sees.{Sees};
+ghost use Rattle.words.specs.Answers.{MovedOk, StoredOk, given, moved-to, stored};
+ghost use Rattle.words.specs.declared.Number.the-variants.{Is};
+ghost use Rattle.writers.specs.Memory.{Given, Sane};
+ghost use Rattle.writers.specs.Steps.{Does};
+ghost use Rattle.frames.specs.Performs.{Performs};
+ghost use Rattle.watched_step.specs.Watched.{PlaceOf, array-into, record-into};
+
+// What is read of the running frame's part of the memory and of the objects' part.
+fn bind_in(s: &[u8], pr: u32, memory: &[u64], r: Registers, a: u8, b: u8) -> Moved
+    requires { ⌜ Sane (length (now memory)) r ⌝ }
+    ensures { λ m. ⌜ MovedOk m ⌝ }
+    ensures { λ m. ⌜ ((v : View watched) → procedureAt (now (s .entry)) (v .procedure) ≡ pr → Sees watched (qualOf (now (s .entry))) v (take (r .variables) (drop (r .base) (now (memory .entry)))) (take (r .used) (now (memory .entry))) → moved-to watched (qualOf (now (s .entry))) a m ≡ plan watched (programOf (now (s .entry))) v (Op.Bind a b)) ⌝ }
+{
+    let base = r.base;
+    let end = base + r.variables;
+    let used = r.used;
+    bind_guarded(s, pr, &memory[base..end], &memory[..used], a, b)
+}
+
+fn fetch_in(s: &[u8], pr: u32, memory: &[u64], r: Registers, a: u8, b: u8, c: u8) -> Moved
+    requires { ⌜ Sane (length (now memory)) r ⌝ }
+    ensures { λ m. ⌜ MovedOk m ⌝ }
+    ensures { λ m. ⌜ ((v : View watched) → procedureAt (now (s .entry)) (v .procedure) ≡ pr → Sees watched (qualOf (now (s .entry))) v (take (r .variables) (drop (r .base) (now (memory .entry)))) (take (r .used) (now (memory .entry))) → moved-to watched (qualOf (now (s .entry))) a m ≡ plan watched (programOf (now (s .entry))) v (Op.Fetch a b c)) ⌝ }
+{
+    let base = r.base;
+    let end = base + r.variables;
+    let used = r.used;
+    fetch_guarded(s, pr, &memory[base..end], &memory[..used], a, b, c)
+}
+
+fn get_in(s: &[u8], pr: u32, memory: &[u64], r: Registers, a: u8, b: u8, k: u16) -> Moved
+    requires { ⌜ Sane (length (now memory)) r ⌝ }
+    ensures { λ m. ⌜ MovedOk m ⌝ }
+    ensures { λ m. ⌜ ((v : View watched) → procedureAt (now (s .entry)) (v .procedure) ≡ pr → Sees watched (qualOf (now (s .entry))) v (take (r .variables) (drop (r .base) (now (memory .entry)))) (take (r .used) (now (memory .entry))) → moved-to watched (qualOf (now (s .entry))) a m ≡ plan watched (programOf (now (s .entry))) v (Op.GetSlot a b k)) ⌝ }
+{
+    let base = r.base;
+    let end = base + r.variables;
+    let used = r.used;
+    get_guarded(s, pr, &memory[base..end], &memory[..used], a, b, k)
+}
+
+fn size_in(s: &[u8], pr: u32, memory: &[u64], r: Registers, a: u8, b: u8) -> Number
+    requires { ⌜ Sane (length (now memory)) r ⌝ }
+    ensures { λ m. ⌜ ((v : View watched) → procedureAt (now (s .entry)) (v .procedure) ≡ pr → Sees watched (qualOf (now (s .entry))) v (take (r .variables) (drop (r .base) (now (memory .entry)))) (take (r .used) (now (memory .entry))) → given watched a m ≡ plan watched (programOf (now (s .entry))) v (Op.Size a b)) ⌝ }
+{
+    let base = r.base;
+    let end = base + r.variables;
+    let used = r.used;
+    size_guarded(s, pr, &memory[base..end], &memory[..used], a, b)
+}
+
+fn store_in(s: &[u8], memory: &[u64], r: Registers, a: u8, b: u8, c: u8) -> Stored
+    requires { ⌜ Sane (length (now memory)) r ⌝ }
+    ensures { λ m. ⌜ StoredOk (take (r .used) (now (memory .entry))) m ⌝ }
+    ensures { λ m. ⌜ ((v : View watched) → Sees watched (qualOf (now (s .entry))) v (take (r .variables) (drop (r .base) (now (memory .entry)))) (take (r .used) (now (memory .entry))) → stored watched (qualOf (now (s .entry))) m ≡ plan watched (programOf (now (s .entry))) v (Op.Store a b c)) ⌝ }
+{
+    let base = r.base;
+    let end = base + r.variables;
+    let used = r.used;
+    store_guarded(s, &memory[base..end], &memory[..used], a, b, c)
+}
+
+fn set_in(s: &[u8], pr: u32, memory: &[u64], r: Registers, a: u8, b: u8, k: u16) -> Stored
+    requires { ⌜ Sane (length (now memory)) r ⌝ }
+    ensures { λ m. ⌜ StoredOk (take (r .used) (now (memory .entry))) m ⌝ }
+    ensures { λ m. ⌜ ((v : View watched) → procedureAt (now (s .entry)) (v .procedure) ≡ pr → Sees watched (qualOf (now (s .entry))) v (take (r .variables) (drop (r .base) (now (memory .entry)))) (take (r .used) (now (memory .entry))) → stored watched (qualOf (now (s .entry))) m ≡ plan watched (programOf (now (s .entry))) v (Op.SetSlot a b k)) ⌝ }
+{
+    let base = r.base;
+    let end = base + r.variables;
+    let used = r.used;
+    set_slot_guarded(s, pr, &memory[base..end], &memory[..used], a, b, k)
+}
+
+pub fn set(s: &[u8], pr: u32, memory: &mut [u64], r: Registers, a: u8, k: u16) -> Stepped
+    requires { ⌜ Sane (length (now memory)) r ⌝ }
+    requires { ⌜ r .next < 65536 ⌝ }
+    requires { ⌜ PlaceOf (now s) r pr ⌝ }
+    ensures { λ o. ⌜ ((input out : List ℕ) → Performs watched (now (s .entry)) input (now (memory .entry)) (now (memory .exit)) out out r o (Op.Set a k)) ⌝ }
+{
+    give_number(memory, r, a, set_guarded(s, pr, a, k))
+}
+
+pub fn add(s: &[u8], pr: u32, memory: &mut [u64], r: Registers, a: u8, b: u8, c: u8) -> Stepped
+    requires { ⌜ Sane (length (now memory)) r ⌝ }
+    requires { ⌜ r .next < 65536 ⌝ }
+    requires { ⌜ PlaceOf (now s) r pr ⌝ }
+    ensures { λ o. ⌜ ((input out : List ℕ) → Performs watched (now (s .entry)) input (now (memory .entry)) (now (memory .exit)) out out r o (Op.Add a b c)) ⌝ }
+{
+    let base = r.base;
+    let end = base + r.variables;
+    let n = add_guarded(s, pr, &memory[base..end], a, b, c);
+    give_number(memory, r, a, n)
+}
+
+pub fn subtract(s: &[u8], pr: u32, memory: &mut [u64], r: Registers, a: u8, b: u8, c: u8) -> Stepped
+    requires { ⌜ Sane (length (now memory)) r ⌝ }
+    requires { ⌜ r .next < 65536 ⌝ }
+    requires { ⌜ PlaceOf (now s) r pr ⌝ }
+    ensures { λ o. ⌜ ((input out : List ℕ) → Performs watched (now (s .entry)) input (now (memory .entry)) (now (memory .exit)) out out r o (Op.Subtract a b c)) ⌝ }
+{
+    let base = r.base;
+    let end = base + r.variables;
+    let n = subtract_guarded(s, pr, &memory[base..end], a, b, c);
+    give_number(memory, r, a, n)
+}
+
+pub fn less(s: &[u8], pr: u32, memory: &mut [u64], r: Registers, a: u8, b: u8, c: u8) -> Stepped
+    requires { ⌜ Sane (length (now memory)) r ⌝ }
+    requires { ⌜ r .next < 65536 ⌝ }
+    requires { ⌜ PlaceOf (now s) r pr ⌝ }
+    ensures { λ o. ⌜ ((input out : List ℕ) → Performs watched (now (s .entry)) input (now (memory .entry)) (now (memory .exit)) out out r o (Op.Less a b c)) ⌝ }
+{
+    let base = r.base;
+    let end = base + r.variables;
+    let n = less_guarded(s, pr, &memory[base..end], a, b, c);
+    give_number(memory, r, a, n)
+}
+
+pub fn bind(s: &[u8], pr: u32, memory: &mut [u64], r: Registers, a: u8, b: u8) -> Stepped
+    requires { ⌜ Sane (length (now memory)) r ⌝ }
+    requires { ⌜ r .next < 65536 ⌝ }
+    requires { ⌜ PlaceOf (now s) r pr ⌝ }
+    ensures { λ o. ⌜ ((input out : List ℕ) → Performs watched (now (s .entry)) input (now (memory .entry)) (now (memory .exit)) out out r o (Op.Bind a b)) ⌝ }
+{
+    let m = bind_in(s, pr, memory, r, a, b);
+    give_moved(memory, r, a, m)
+}
+
+pub fn fetch(s: &[u8], pr: u32, memory: &mut [u64], r: Registers, a: u8, b: u8, c: u8) -> Stepped
+    requires { ⌜ Sane (length (now memory)) r ⌝ }
+    requires { ⌜ r .next < 65536 ⌝ }
+    requires { ⌜ PlaceOf (now s) r pr ⌝ }
+    ensures { λ o. ⌜ ((input out : List ℕ) → Performs watched (now (s .entry)) input (now (memory .entry)) (now (memory .exit)) out out r o (Op.Fetch a b c)) ⌝ }
+{
+    let m = fetch_in(s, pr, memory, r, a, b, c);
+    give_moved(memory, r, a, m)
+}
+
+pub fn size(s: &[u8], pr: u32, memory: &mut [u64], r: Registers, a: u8, b: u8) -> Stepped
+    requires { ⌜ Sane (length (now memory)) r ⌝ }
+    requires { ⌜ r .next < 65536 ⌝ }
+    requires { ⌜ PlaceOf (now s) r pr ⌝ }
+    ensures { λ o. ⌜ ((input out : List ℕ) → Performs watched (now (s .entry)) input (now (memory .entry)) (now (memory .exit)) out out r o (Op.Size a b)) ⌝ }
+{
+    let n = size_in(s, pr, memory, r, a, b);
+    give_number(memory, r, a, n)
+}
+
+pub fn get_slot(
+    s: &[u8],
+    pr: u32,
+    memory: &mut [u64],
+    r: Registers,
+    a: u8,
+    b: u8,
+    k: u16,
+) -> Stepped
+    requires { ⌜ Sane (length (now memory)) r ⌝ }
+    requires { ⌜ r .next < 65536 ⌝ }
+    requires { ⌜ PlaceOf (now s) r pr ⌝ }
+    ensures { λ o. ⌜ ((input out : List ℕ) → Performs watched (now (s .entry)) input (now (memory .entry)) (now (memory .exit)) out out r o (Op.GetSlot a b k)) ⌝ }
+{
+    let m = get_in(s, pr, memory, r, a, b, k);
+    give_moved(memory, r, a, m)
+}
+
+pub fn store(s: &[u8], memory: &mut [u64], r: Registers, a: u8, b: u8, c: u8) -> Stepped
+    requires { ⌜ Sane (length (now memory)) r ⌝ }
+    requires { ⌜ r .next < 65536 ⌝ }
+    ensures { λ o. ⌜ ((input out : List ℕ) → Performs watched (now (s .entry)) input (now (memory .entry)) (now (memory .exit)) out out r o (Op.Store a b c)) ⌝ }
+{
+    let m = store_in(s, memory, r, a, b, c);
+    store_cell(memory, r, m)
+}
+
+pub fn set_slot(
+    s: &[u8],
+    pr: u32,
+    memory: &mut [u64],
+    r: Registers,
+    a: u8,
+    b: u8,
+    k: u16,
+) -> Stepped
+    requires { ⌜ Sane (length (now memory)) r ⌝ }
+    requires { ⌜ r .next < 65536 ⌝ }
+    requires { ⌜ PlaceOf (now s) r pr ⌝ }
+    ensures { λ o. ⌜ ((input out : List ℕ) → Performs watched (now (s .entry)) input (now (memory .entry)) (now (memory .exit)) out out r o (Op.SetSlot a b k)) ⌝ }
+{
+    let m = set_in(s, pr, memory, r, a, b, k);
+    store_cell(memory, r, m)
+}
+
+pub fn jump_zero(memory: &[u64], r: Registers, a: u8, k: u16) -> Stepped
+    requires { ⌜ Sane (length (now memory)) r ⌝ }
+    requires { ⌜ r .next < 65536 ⌝ }
+    ensures { λ o. ⌜ ((s input out : List ℕ) → Performs watched s input (now (memory .entry)) (now (memory .entry)) out out r o (Op.JumpZero a k)) ⌝ }
+{
+    let base = r.base;
+    let end = base + r.variables;
+    jump(r, integer_in(&memory[base..end], a), k)
+}
+
+pub fn put(memory: &[u64], output: &mut [u32], r: Registers, a: u8) -> Stepped
+    requires { ⌜ Sane (length (now memory)) r ⌝ }
+    requires { ⌜ r .next < 65536 ⌝ }
+    ensures { λ o. ⌜ ((s input : List ℕ) → Performs watched s input (now (memory .entry)) (now (memory .entry)) (now (output .entry)) (now (output .exit)) r o (Op.Put a)) ⌝ }
+{
+    let base = r.base;
+    let end = base + r.variables;
+    let n = integer_in(&memory[base..end], a);
+    put_output(output, r, n)
+}
+
+pub fn take(s: &[u8], pr: u32, input: &[u32], memory: &mut [u64], r: Registers, a: u8) -> Stepped
+    requires { ⌜ Sane (length (now memory)) r ⌝ }
+    requires { ⌜ r .next < 65536 ⌝ }
+    requires { ⌜ PlaceOf (now s) r pr ⌝ }
+    ensures { λ o. ⌜ ((out : List ℕ) → Performs watched (now (s .entry)) (now (input .entry)) (now (memory .entry)) (now (memory .exit)) out out r o (Op.Take a)) ⌝ }
+{
+    if (input.len() <= r.taken) | takes_integer(s, pr, a) {
+        return take_input(input, memory, r, a);
+    }
+    Stepped::Halt(18)
+}
+
+// A new array of n cells, where there is room for it, bound to variable a.
+fn give_array(s: &[u8], pr: u32, memory: &mut [u64], r: Registers, a: u8, n: Number) -> Stepped
+    requires { ⌜ Sane (length (now memory)) r ⌝ }
+    requires { ⌜ r .next < 65536 ⌝ }
+    ensures { λ o. ⌜ ((c : Given) (out : List ℕ) → c .sheet ≡ (now (s .entry)) → Does watched c (now (memory .entry)) (now (memory .exit)) out out r o (array-into (r .base - r .used) a (innerIn (now (s .entry)) pr a) n)) ⌝ }
+{
+    match n {
+        Number::Is(x) => {
+            if (x as usize) < r.base - r.used {
+                return make_array(s, pr, memory, r, a, x);
+            }
+            Stepped::Halt(17)
+        }
+        Number::Halt(k) => Stepped::Halt(k),
+    }
+}
+
+// The same where there is room.
+fn make_array(s: &[u8], pr: u32, memory: &mut [u64], r: Registers, a: u8, n: u32) -> Stepped
+    requires { ⌜ Sane (length (now memory)) r ⌝ }
+    requires { ⌜ r .next < 65536 ⌝ }
+    requires { ⌜ n < r .base - r .used ⌝ }
+    ensures { λ o. ⌜ ((c : Given) (out : List ℕ) → c .sheet ≡ (now (s .entry)) → Does watched c (now (memory .entry)) (now (memory .exit)) out out r o (array-into (r .base - r .used) a (innerIn (now (s .entry)) pr a) (Is n))) ⌝ }
+{
+    let stop = array_made_as(s, pr, a);
+    if stop == 0 {
+        let head = array_word(n, declared_element(s, pr, a));
+        let name = object_word(r.used as u32, declared_rights(s, pr, a));
+        return Stepped::Go(allot(memory, r, a, head, n, name));
+    }
+    Stepped::Halt(stop)
+}
+
+pub fn new_array(s: &[u8], pr: u32, memory: &mut [u64], r: Registers, a: u8, b: u8) -> Stepped
+    requires { ⌜ Sane (length (now memory)) r ⌝ }
+    requires { ⌜ r .next < 65536 ⌝ }
+    requires { ⌜ PlaceOf (now s) r pr ⌝ }
+    ensures { λ o. ⌜ ((input out : List ℕ) → Performs watched (now (s .entry)) input (now (memory .entry)) (now (memory .exit)) out out r o (Op.NewArray a b)) ⌝ }
+{
+    let base = r.base;
+    let end = base + r.variables;
+    let n = sized(s, pr, &memory[base..end], a, b);
+    give_array(s, pr, memory, r, a, n)
+}
+
+// A new record of the owner's type, of n slots, where there is room for it, bound to variable a.
+fn make_record(s: &[u8], pr: u32, memory: &mut [u64], r: Registers, a: u8, n: u32) -> Stepped
+    requires { ⌜ Sane (length (now memory)) r ⌝ }
+    requires { ⌜ r .next < 65536 ⌝ }
+    requires { ⌜ n < r .base - r .used ⌝ }
+    ensures { λ o. ⌜ ((c : Given) (out : List ℕ) → c .sheet ≡ (now (s .entry)) → Does watched c (now (memory .entry)) (now (memory .exit)) out out r o (record-into (r .base - r .used) a (innerIn (now (s .entry)) pr a) (ownerAt (now (s .entry)) pr) (namedOf (now (s .entry)) (ownerAt (now (s .entry)) pr)) n)) ⌝ }
+{
+    let stop = record_made_as(s, pr, a);
+    if stop == 0 {
+        let head = record_word(n, byte(s, pr as usize, 2));
+        let name = object_word(r.used as u32, declared_rights(s, pr, a));
+        return Stepped::Go(allot(memory, r, a, head, n, name));
+    }
+    Stepped::Halt(stop)
+}
+
+pub fn new_record(s: &[u8], pr: u32, memory: &mut [u64], r: Registers, a: u8) -> Stepped
+    requires { ⌜ Sane (length (now memory)) r ⌝ }
+    requires { ⌜ r .next < 65536 ⌝ }
+    requires { ⌜ PlaceOf (now s) r pr ⌝ }
+    ensures { λ o. ⌜ ((input out : List ℕ) → Performs watched (now (s .entry)) input (now (memory .entry)) (now (memory .exit)) out out r o (Op.NewRecord a)) ⌝ }
+{
+    let n = byte(s, type_at(byte(s, pr as usize, 2)), 3) as u32;
+    if (n as usize) < r.base - r.used {
+        return make_record(s, pr, memory, r, a, n);
+    }
+    Stepped::Halt(17)
+}

@@ -1,0 +1,222 @@
+// Call and return, with every binding. A stop may leave words between the objects and the frames: nothing stands there.
+use binding::actual_word;
+use binding::bind_word;
+use binding::result_word;
+use frames::keep;
+use frames::kept_at;
+use frames::open;
+use frames::waiting;
+use order::inner_of;
+use sheet::bytes::byte;
+use sheet::places::instruction_at;
+use words::Moved;
+use words::Number;
+use words::read;
+use writers::Registers;
+use writers::Stepped;
+ghost use mathlib.Core.Path.{_≡_};
+ghost use mathlib.Core.List.{List};
+ghost use mathlib.Core.Option.{none, some};
+ghost use Prim.Native.Nat.{ℕ, _+_, _-_, _^_, _≤_, _<_};
+ghost use lib.ListN.{length, take};
+ghost use Rattle.model.specs.Program.{Program};
+ghost use Rattle.model.specs.Modes.{watched};
+ghost use Rattle.model.specs.Machine.{Cell, View, moved, actual};
+ghost use Rattle.model.specs.declared.Operation.the-variants as Op;
+ghost use Rattle.sheet.specs.Layout.{proceduresOf, procedureAt};
+ghost use Rattle.sheet.specs.Meaning.{qualOf, innerIn, programOf};
+ghost use Rattle.words.specs.Word.{cell, slot-in, as-cell};
+ghost use Rattle.words.specs.Answers.{IsCell, MovedOk};
+ghost use Rattle.binding.specs.Kinds.{Heads, moved-cell};
+ghost use Rattle.writers.specs.Memory.{Sane};
+ghost use Rattle.frames.specs.Performs.{Loaded, Performs, Returns};
+ghost use Rattle.watched_step.specs.Watched.{PlaceOf};
+ghost use Rattle.watched_step.specs.Calls.{SeesIn, Callee, Binds, hands, handed-as, HandedOk};
+
+// Actual j of a call of the procedure at pr with variables from b on.
+fn actual_in(s: &[u8], pr: u32, memory: &[u64], r: Registers, b: u8, j: u8) -> Moved
+    requires { ⌜ Sane (length (now memory)) r ⌝ }
+    ensures { λ m. ⌜ MovedOk m ⌝ }
+    ensures { λ m. ⌜ ((v : View watched) (k : ℕ) → procedureAt (now (s .entry)) k ≡ pr → SeesIn (now (s .entry)) v (now (memory .entry)) r → moved-cell (qualOf (now (s .entry))) m ≡ actual watched (programOf (now (s .entry))) v k b j) ⌝ }
+{
+    let base = r.base;
+    let end = base + r.variables;
+    let used = r.used;
+    let w = read(&memory[base..end], (b as usize) + (j as usize));
+    actual_word(s, &memory[..used], pr, j, w)
+}
+
+// The f actuals, each bound in turn and written from `at` on; or the number of the first stop.
+fn bind_actuals(
+    s: &[u8],
+    pr: u32,
+    memory: &mut [u64],
+    r: Registers,
+    b: u8,
+    at: usize,
+    f: u8,
+) -> Number
+    requires { ⌜ Sane (length (now memory)) r ⌝ }
+    requires { ⌜ (r .used ≤ at) × (at + f ≤ r .base) ⌝ }
+    ensures { λ n. ⌜ ((k : ℕ) → procedureAt (now (s .entry)) k ≡ pr → Binds (now (s .entry)) (now (memory .entry)) (now (memory .exit)) r k b at f n) ⌝ }
+{
+    let mut j: u8 = 0;
+    while j < f {
+        match actual_in(s, pr, memory, r, b, j) {
+            Moved::To(w) => {
+                memory[at + (j as usize)] = w;
+            }
+            Moved::Halt(k) => {
+                return Number::Halt(k);
+            }
+        }
+        j += 1;
+    }
+    Number::Is(0)
+}
+
+// A call of procedure k, whose PR stands at pr: 18 for a result that is kept and not there, 17, then what each actual gives.
+fn call_at(s: &[u8], pr: u32, memory: &mut [u64], r: Registers, a: u8, b: u8, k: u16) -> Stepped
+    requires { ⌜ Sane (length (now memory)) r ⌝ }
+    requires { ⌜ (r .next < 65536) × (r .first < 2 ^ 32) ⌝ }
+    requires { ⌜ Callee (now s) k pr ⌝ }
+    ensures { λ o. ⌜ ((input out : List ℕ) → Performs watched (now (s .entry)) input (now (memory .entry)) (now (memory .exit)) out out r o (Op.Call a b k)) ⌝ }
+{
+    let place = pr as usize;
+    if (a != 255) & (byte(s, place, 5) == 255) {
+        return Stepped::Halt(18);
+    }
+    let v = byte(s, place, 4) as usize;
+    if r.base - r.used < v + 2 {
+        return Stepped::Halt(17);
+    }
+    let f = byte(s, place, 3);
+    match bind_actuals(s, pr, memory, r, b, r.base - (v + 2), f) {
+        Number::Is(_) => {
+            let first = instruction_at(s, pr, 0);
+            Stepped::Enter(open(memory, r, k as usize, first, v, f))
+        }
+        Number::Halt(n) => Stepped::Halt(n),
+    }
+}
+
+pub fn call(
+    s: &[u8],
+    table: &[u32; 65],
+    memory: &mut [u64],
+    r: Registers,
+    a: u8,
+    b: u8,
+    k: u16,
+) -> Stepped
+    requires { ⌜ Loaded (now s) (now table) ⌝ }
+    requires { ⌜ Sane (length (now memory)) r ⌝ }
+    requires { ⌜ (r .next < 65536) × (r .first < 2 ^ 32) ⌝ }
+    requires { ⌜ k < proceduresOf (now s) ⌝ }
+    ensures { λ o. ⌜ ((input out : List ℕ) → Performs watched (now (s .entry)) input (now (memory .entry)) (now (memory .exit)) out out r o (Op.Call a b k)) ⌝ }
+{
+    call_at(s, table[k as usize], memory, r, a, b, k)
+}
+
+// What a return hands over: nothing, the word of a filled cell, or the number of the stop.
+enum Handed {
+    Nothing,
+    Is(u64),
+    Halt(u8),
+}
+
+// A return of variable a from the procedure at pr, which has a result exactly if a is not 255; else 18.
+fn handed_by(s: &[u8], pr: u32, memory: &[u64], r: Registers, a: u8) -> Handed
+    requires { ⌜ Sane (length (now memory)) r ⌝ }
+    ensures { λ h. ⌜ HandedOk h ⌝ }
+    ensures { λ h. ⌜ ((v : View watched) → procedureAt (now (s .entry)) (v .procedure) ≡ pr → SeesIn (now (s .entry)) v (now (memory .entry)) r → handed-as (qualOf (now (s .entry))) h ≡ hands (programOf (now (s .entry))) v a) ⌝ }
+{
+    let none = byte(s, pr as usize, 5) == 255;
+    if a == 255 {
+        if none {
+            return Handed::Nothing;
+        }
+        return Handed::Halt(18);
+    }
+    if none {
+        return Handed::Halt(18);
+    }
+    let base = r.base;
+    let end = base + r.variables;
+    let used = r.used;
+    let w = read(&memory[base..end], a as usize);
+    match result_word(s, &memory[..used], pr, w) {
+        Moved::To(x) => Handed::Is(x),
+        Moved::Halt(k) => Handed::Halt(k),
+    }
+}
+
+// The frame that waits runs on with nothing: 18 where its call keeps a result.
+fn resume_without(s: &[u8], memory: &[u64], r: Registers) -> Stepped
+    requires { ⌜ proceduresOf (now s) ≤ 64 ⌝ }
+    requires { ⌜ Sane (length (now memory)) r ⌝ }
+    ensures { λ o. ⌜ ((out : List ℕ) → Returns watched (now (s .entry)) (now (memory .entry)) (now (memory .entry)) out r o none) ⌝ }
+{
+    if memory.len() <= r.base + (r.variables + 2) {
+        return Stepped::Done;
+    }
+    let back = waiting(memory, r);
+    if kept_at(s, back) == 255 {
+        return Stepped::Enter(back);
+    }
+    Stepped::Halt(18)
+}
+
+// The word of a cell, bound to variable a of the procedure at pr; the objects end at `used`.
+fn bind_kept(s: &[u8], pr: u32, memory: &[u64], used: usize, a: u8, w: u64) -> Moved
+    requires { ⌜ used ≤ length (now memory) ⌝ }
+    ensures { λ m. ⌜ MovedOk m ⌝ }
+    ensures { λ m. ⌜ ((g : Program) (v : View watched) (c : Cell watched) → Heads (now (s .entry)) v (take used (now (memory .entry))) → slot-in watched (qualOf (now (s .entry))) w ≡ cell c → moved-cell (qualOf (now (s .entry))) m ≡ moved watched g v (innerIn (now (s .entry)) pr a) c) ⌝ }
+{
+    bind_word(s, &memory[..used], inner_of(s, pr, a), w)
+}
+
+// The frame that waits runs on with a value, which the variable that its call keeps is bound to.
+fn resume_with(s: &[u8], table: &[u32; 65], memory: &mut [u64], r: Registers, w: u64) -> Stepped
+    requires { ⌜ Loaded (now s) (now table) ⌝ }
+    requires { ⌜ Sane (length (now memory)) r ⌝ }
+    requires { ⌜ IsCell w ⌝ }
+    ensures { λ o. ⌜ ((out : List ℕ) → Returns watched (now (s .entry)) (now (memory .entry)) (now (memory .exit)) out r o (some (as-cell (slot-in watched (qualOf (now (s .entry))) w)))) ⌝ }
+{
+    if memory.len() <= r.base + (r.variables + 2) {
+        return Stepped::Done;
+    }
+    let back = waiting(memory, r);
+    let kept = kept_at(s, back);
+    if kept == 255 {
+        return Stepped::Enter(back);
+    }
+    let p = back.procedure;
+    match bind_kept(s, table[p], memory, r.used, kept, w) {
+        Moved::To(x) => {
+            keep(memory, back, kept, x);
+            Stepped::Enter(back)
+        }
+        Moved::Halt(k) => Stepped::Halt(k),
+    }
+}
+
+pub fn give_back(
+    s: &[u8],
+    table: &[u32; 65],
+    pr: u32,
+    memory: &mut [u64],
+    r: Registers,
+    a: u8,
+) -> Stepped
+    requires { ⌜ Loaded (now s) (now table) ⌝ }
+    requires { ⌜ Sane (length (now memory)) r ⌝ }
+    requires { ⌜ PlaceOf (now s) r pr ⌝ }
+    ensures { λ o. ⌜ ((input out : List ℕ) → Performs watched (now (s .entry)) input (now (memory .entry)) (now (memory .exit)) out out r o (Op.Return a)) ⌝ }
+{
+    match handed_by(s, pr, memory, r, a) {
+        Handed::Nothing => resume_without(s, memory, r),
+        Handed::Is(w) => resume_with(s, table, memory, r, w),
+        Handed::Halt(k) => Stepped::Halt(k),
+    }
+}
