@@ -19,7 +19,7 @@ use Rattle.model.specs.declared.Operation.the-variants.{Set, Add, Subtra
 use Rattle.model.proofs.Rights.{within-refl}
 use Rattle.model.specs.Outcome.{past-end, input-ended, output-full, memory-full, Res, _>>=_}
 use Rattle.model.specs.Modes.{plain, watched, fits, array-kind, record-kind}
-use Rattle.model.specs.Machine.{Value, word, object, Cell, filled, Head, kind-at, View, Effect, write, take, put, jump, skip, new-array, new-record, store, call, resume, over, as-integer, moved, give, integers, one-integer, plan-array, plan-record, plan-fetch, plan-store, plan-size, plan-get, plan-set, actual, actuals, plan-call, handed, into-caller, to-caller, plan-return, gives, branch, plan, returns-well, keeps-well}
+use Rattle.model.specs.Machine.{Value, word, object, Cell, filled, Head, kind-at, View, Effect, write, take, put, jump, skip, new-array, new-record, store, call, resume, finish, as-integer, moved, give, integers, one-integer, plan-array, plan-record, plan-fetch, plan-store, plan-size, plan-get, plan-set, actual, actuals, plan-call, handed, into-caller, to-caller, plan-return, gives, branch, plan, returns-well, keeps-well}
 use Rattle.model.specs.Claim.{Formed, Formed-at}
 use Rattle.model.proofs.Allowed.{Facts, Moves, Raised, Kept, Returned, Allowed}
 use Rattle.model.proofs.Fits.{not-object, new-array-fits, new-record-fits}
@@ -60,7 +60,7 @@ pub data EffectRel (g : Program) (h : ℕ → Head watched) (p i : ℕ) (caller 
       {a b k : ℕ} {cs : List (Cell watched)} {cs′ : List (Cell plain)} → suc i < g .instructions p → k < g .procedures → g .operation p i ≡ Call a b k →
       length cs ≡ g .formals k → Row h (g .inner k) cs cs′ → EffectRel g h p i caller (call k cs) (call k cs′)
   resumes : {w : Option (ℕ × Cell watched)} {w′ : Option (ℕ × Cell plain)} → Handed g h caller w w′ → EffectRel g h p i caller (resume w) (resume w′)
-  overs : EffectRel g h p i caller over over
+  overs : EffectRel g h p i caller finish finish
 
 -- the frame that waits stands behind a call of the running procedure
 pub data Caller (g : Program) (k : ℕ) : Option (ℕ × ℕ) → Type 0 where

@@ -1,6 +1,6 @@
 -- How a run can end, of any program, accepted or not, and in either mode: from what a plan comes to, over one step, to the whole run.
 use Prim.Native.Nat.{ℕ, zero, suc, _+_, _-_, _<_, _≤_}
-use mathlib.Core.Path.{_≡_}
+use mathlib.Core.Path.{_≡_, refl}
 use mathlib.Core.Bool.{Bool, true, false, cond}
 use mathlib.Core.List.{List, [], _∷_, _++_}
 use native.Mathlib.Omega.{arith}
@@ -9,17 +9,13 @@ use lib.ListN.{length, length-append}
 use Rattle.model.specs.Program.{Program}
 use Rattle.model.specs.Outcome.{Stop, done, fuel-spent, blank, past-end, input-ended, output-full, memory-full, wrong-kind, missing-right, Res}
 use Rattle.model.specs.Modes.{Mode}
-use Rattle.model.specs.Machine.{frame, State, state, view, Effect, write, take, put, jump, skip, new-array, new-record, store, call, resume, over, Next, go, finished, apply, step}
-use Rattle.model.specs.Run.{End, stopped, stuck-at, no-room, settle, run-from, opened, run}
+use Rattle.model.specs.Machine.{frame, State, state, view, Effect, write, take, put, jump, skip, new-array, new-record, store, call, resume, finish, Next, go, finished, apply, step}
+use Rattle.model.specs.Run.{End, stopped, stuck-at, words-put, Snapshot, snapshot, Moment, running, over, settle, end-of, advance, opened, start, trace, run}
 use Rattle.model.proofs.Plans.{Unwatched, Stops, Comes, goes, stops, sticks, and-with, Room, plan-comes}
 
 abbrev pub steps-of : End → ℕ
 steps-of (stopped x n out p i) = n
 steps-of (stuck-at n out p i) = n
-
-abbrev pub put-of : End → List ℕ
-put-of (stopped x n out p i) = out
-put-of (stuck-at n out p i) = out
 
 -- ---- One step
 
@@ -47,7 +43,7 @@ apply-keeps g output (state (frame p i vs) fs os input out) (store a j c) r = λ
 apply-keeps g output (state (frame p i vs) fs os input out) (call k cs) r = λ l. l
 apply-keeps g output (state (frame p i vs) [] os input out) (resume w) r = tt
 apply-keeps g output (state (frame p i vs) (frame q j us ∷ fs) os input out) (resume w) r = λ l. l
-apply-keeps g output (state (frame p i vs) fs os input out) over r = tt
+apply-keeps g output (state (frame p i vs) fs os input out) finish r = tt
 
 step-comes : (m : Mode) (g : Program) (memory output : ℕ) (s : State m) → Comes m (Keeps output s) (step g memory output s)
 unfolding step
@@ -57,15 +53,21 @@ step-comes m g memory output (state (frame p i vs) fs os input out) =
 
 -- ---- The run
 
--- fuel is spent only when all of it is counted, and only a machine that is not watched is stuck
-abbrev pub Way : (m : Mode) (fuel : ℕ) → End → Type 0
-Way m fuel (stopped x n out p i) = Stops m (n ≡ fuel) x
-Way m fuel (stuck-at n out p i) = Unwatched m
+-- only a machine that is not watched is stuck; F holds where the fuel is spent
+abbrev pub Way : (m : Mode) (F : Type 0) → End → Type 0
+Way m F (stopped x n out p i) = Stops m F x
+Way m F (stuck-at n out p i) = Unwatched m
 
-pub record Ended (m : Mode) (fuel output : ℕ) (e : End) : Type 0 where
-  pub steps : steps-of e ≤ fuel
-  pub fit : length (put-of e) ≤ output
-  pub way : Way m fuel e
+-- an end, with at most so many steps counted
+pub record Ended (m : Mode) (F : Type 0) (steps output : ℕ) (e : End) : Type 0 where
+  pub within : steps-of e ≤ steps
+  pub fit : length (words-put e) ≤ output
+  pub way : Way m F e
+
+-- where a run stands after n steps: n of them are counted, or it ended before, and not for want of fuel
+data Stands (m : Mode) (output n : ℕ) : Moment m → Type 0 where
+  on-its-way : {s : State m} → length (words s) ≤ output → Stands m output n (running n s)
+  is-over : {e : End} {x : Snapshot m} → Ended m ⊥ n output e → Stands m output n (over e x)
 
 -- a stop of an instruction is one of the run
 also : (m : Mode) (F : Type 0) (x : Stop) → Stops m ⊥ x → Stops m F x
@@ -79,25 +81,40 @@ also m F memory-full c = c
 also m F wrong-kind c = c
 also m F missing-right c = c
 
-module _ (m : Mode) (g : Program) (memory output fuel : ℕ) where
-  settle-ended :
-      (n : ℕ) (s : State m) {more : State m → End} {r : Res (Next m)} → n < fuel → length (words s) ≤ output → Comes m (Keeps output s) r →
-      ((t : State m) → length (words t) ≤ output → Ended m fuel output (more t)) → Ended m fuel output (settle n s more r)
+also-way : (m : Mode) (F : Type 0) (e : End) → Way m ⊥ e → Way m F e
+also-way m F (stopped x n out p i) w = also m F x w
+also-way m F (stuck-at n out p i) w = w
+
+module _ (m : Mode) (g : Program) (memory output : ℕ) where
+  settle-stands :
+      (n : ℕ) (s : State m) {r : Res (Next m)} → length (words s) ≤ output → Comes m (Keeps output s) r → Stands m output (suc n) (settle n s r)
   unfolding settle
-  settle-ended n s l w (goes {a = go t} e) h = h t (e w)
-  settle-ended n (state (frame p i vs) fs os input out) l w (goes {a = finished} e) h = record { steps = l; fit = w; way = tt }
-  settle-ended n (state (frame p i vs) fs os input out) l w (stops {x} c) h = record { steps = omega arith; fit = w; way = also m (n ≡ fuel) x c }
-  settle-ended n (state (frame p i vs) fs os input out) l w (sticks u) h = record { steps = omega arith; fit = w; way = u }
+  settle-stands n s w (goes {a = go t} e) = on-its-way (e w)
+  settle-stands n (state (frame p i vs) fs os input out) w (goes {a = finished} e) = is-over {e = stopped done (suc n) out p i} (record { within = omega arith; fit = w; way = tt })
+  settle-stands n (state (frame p i vs) fs os input out) w (stops {x} c) = is-over {e = stopped x n out p i} (record { within = omega arith; fit = w; way = c })
+  settle-stands n (state (frame p i vs) fs os input out) w (sticks u) = is-over {e = stuck-at n out p i} (record { within = omega arith; fit = w; way = u })
 
-  run-from-ended : (k n : ℕ) (s : State m) → n + k ≡ fuel → length (words s) ≤ output → Ended m fuel output (run-from m g memory output k n s)
-  unfolding run-from
-  run-from-ended zero n (state (frame p i vs) fs os input out) e w = record { steps = omega arith; fit = w; way = omega arith }
-  run-from-ended (suc k) n s e w = settle-ended n s (omega arith) w (step-comes m g memory output s) λ t. run-from-ended k (suc n) t (omega arith)
+  later : {n : ℕ} {e : End} → Ended m ⊥ n output e → Ended m ⊥ (suc n) output e
+  later d = let l = d .within in record { within = omega arith; fit = d .fit; way = d .way }
 
-  pub run-ended : (input : List ℕ) → Ended m fuel output (run m g memory output input fuel)
-  unfolding run opened
-  run-ended input = room (leb (g .variables 0 + 2) memory) (run-from-ended fuel 0 (opened m g memory output input) (omega arith) (omega arith))
+  advance-stands : (n : ℕ) {a : Moment m} → Stands m output n a → Stands m output (suc n) (advance m g memory output a)
+  unfolding advance
+  advance-stands n (on-its-way {s} w) = settle-stands n s w (step-comes m g memory output s)
+  advance-stands n (is-over d) = is-over (later d)
+
+  trace-stands : (input : List ℕ) (n : ℕ) → Stands m output n (trace m g memory output input n)
+  unfolding trace start opened
+  trace-stands input zero = room (leb (g .variables 0 + 2) memory)
     where
-      room : (b : Bool) {e : End} → Ended m fuel output e → Ended m fuel output (cond b e no-room)
-      room true h = h
-      room false h = record { steps = omega arith; fit = omega arith; way = tt }
+      room : (b : Bool) → Stands m output 0 (cond b (running 0 (opened m g memory output input)) (over (stopped memory-full 0 [] 0 0) (snapshot [] [])))
+      room true = on-its-way {s = opened m g memory output input} (omega arith)
+      room false = is-over {e = stopped memory-full 0 [] 0 0} (record { within = omega arith; fit = omega arith; way = tt })
+  trace-stands input (suc n) = advance-stands n (trace-stands input n)
+
+  end-stands : (n : ℕ) {a : Moment m} → Stands m output n a → Ended m (steps-of (end-of a) ≡ n) n output (end-of a)
+  end-stands n (on-its-way {s = state (frame p i vs) fs os input out} w) = record { within = omega arith; fit = w; way = refl }
+  end-stands n (is-over {e} d) = record { within = d .within; fit = d .fit; way = also-way m (steps-of e ≡ n) e (d .way) }
+
+  pub run-ended : (input : List ℕ) (fuel : ℕ) → Ended m (steps-of (run m g memory output input fuel) ≡ fuel) fuel output (run m g memory output input fuel)
+  unfolding run
+  run-ended input fuel = end-stands fuel (trace-stands input fuel)

@@ -14,4 +14,3 @@ pub mod Open
 pub mod Plans
 pub mod Ends
 pub mod AnyProgram
-pub mod Sample

@@ -14,7 +14,7 @@ use Rattle.model.specs.declared.Operation.{Operation}
 use Rattle.model.specs.declared.Operation.the-variants.{Set, Add, Subtract, Less, JumpZero, Bind, Take, Put, NewArray, Fetch, Store, Size, NewRecord, GetSlot, SetSlot, Call, Return}
 use Rattle.model.specs.Outcome.{Stop, done, fuel-spent, blank, past-end, input-ended, output-full, memory-full, wrong-kind, missing-right, Res, ok, stop, stuck, _>>=_, _>>_, ensure, found}
 use Rattle.model.specs.Modes.{Mode, plain, watched, Carried, ElementInfo, TypeInfo, Kind, amiss, demand, licence, is-of, fits, bind, is-record-of, raise-if, raise, bind-element, bind-result}
-use Rattle.model.specs.Machine.{Value, word, object, Cell, empty, filled, Head, array-head, record-head, no-head, View, Effect, write, take, put, jump, skip, new-array, new-record, store, call, resume, over, held, as-integer, array-head-of, record-head-of, array-at, record-at, moved, give, integers, one-integer, plan-array, plan-record, plan-fetch, plan-store, plan-size, slot-there, plan-get, plan-set, actual, actuals, plan-call, handed, into-caller, to-caller, plan-return, gives, branch, plan}
+use Rattle.model.specs.Machine.{Value, word, object, Cell, empty, filled, Head, array-head, record-head, no-head, View, Effect, write, take, put, jump, skip, new-array, new-record, store, call, resume, finish, held, as-integer, array-head-of, record-head-of, array-at, record-at, moved, give, integers, one-integer, plan-array, plan-record, plan-fetch, plan-store, plan-size, slot-there, plan-get, plan-set, actual, actuals, plan-call, handed, into-caller, to-caller, plan-return, gives, branch, plan}
 
 -- ---- What a result may be
 
@@ -165,7 +165,7 @@ Room free (new-record a t n r) = Unit {0}
 Room free (store a j c) = Unit {0}
 Room free (call k cs) = Unit {0}
 Room free (resume w) = Unit {0}
-Room free over = Unit {0}
+Room free finish = Unit {0}
 
 module _ (m : Mode) (g : Program) (v : View m) where
   array-comes : (x : Value) → Comes m Any (array-at m g v x)

@@ -1,18 +1,18 @@
 -- From one step to the whole run: condition 3.
 use Prim.Native.Nat.{ℕ, zero, suc, _+_, min}
-use mathlib.Core.Path.{_≡_, refl, subst}
+use mathlib.Core.Path.{_≡_, refl, subst, ap}
 use mathlib.Core.Bool.{Bool, true, false, cond}
 use mathlib.Core.List.{List, []}
 use lib.Dec.{leb}
-use lib.ListN.{length-replicate}
+use lib.ListN.{length, length-replicate}
 use Rattle.model.specs.Program.{Program}
 use Rattle.model.specs.Refusal.{verdict}
 use Rattle.model.specs.Rules.{access-rules}
 use Rattle.model.specs.declared.Verdict.the-variants.{Accepted}
-use Rattle.model.specs.Outcome.{Stop, done, fuel-spent, Res}
+use Rattle.model.specs.Outcome.{Stop, done, fuel-spent, memory-full, Res}
 use Rattle.model.specs.Modes.{plain, watched}
 use Rattle.model.specs.Machine.{empty, Object, State, Next}
-use Rattle.model.specs.Run.{End, stuck-at, end-in, no-room, settle, Snapshot, snapshot, shot, follow, run-from, after, opened, run, state-after}
+use Rattle.model.specs.Run.{End, stopped, stuck-at, words-put, end-in, Snapshot, snapshot, shot, finished-shot, Moment, running, over, settle, end-of, left-by, advance, opened, start, trace, run, state-after, written}
 use Rattle.model.specs.Claim.{Formed, heads, Regular-stop, Regular, Typed, Condition3}
 use Rattle.model.proofs.Allowed.{facts}
 use Rattle.model.proofs.Relate.{row-blank, Objects, objects-nil, bottom, StateRel, states, NextRel, nexts, ends}
@@ -21,7 +21,7 @@ use Rattle.model.proofs.Cases.{Sound}
 use Rattle.model.proofs.Steps.{step-ok}
 use Rattle.model.proofs.Typing.{none-typed, state-typed}
 
--- ---- The run
+-- ---- The trace
 
 -- the same end, and a regular one
 record Same (e e′ : End) : Type 0 where
@@ -31,71 +31,91 @@ record Same (e e′ : End) : Type 0 where
 end-same : {g : Program} (x : Stop) → Regular-stop x → (n : ℕ) {t : State watched} {t′ : State plain} → StateRel g t t′ → Same (end-in x n t) (end-in x n t′)
 end-same x c n (states l v st ob) = record { same = refl; regular = c }
 
+-- what is left at an end: related states still, or the objects alone
+data Left (g : Program) : Snapshot watched → Type 0 where
+  live : {t : State watched} {t′ : State plain} → StateRel g t t′ → Left g (shot t)
+  none-live : {os : List (Object watched)} {os′ : List (Object plain)} → Objects g (heads os) os os′ → Left g (snapshot [] os)
+
+-- two runs on their way in related states with as many steps counted, or over with the same end
+data MomentRel (g : Program) : Moment watched → Moment plain → Type 0 where
+  both-running : {n : ℕ} {t : State watched} {t′ : State plain} → StateRel g t t′ → MomentRel g (running n t) (running n t′)
+  both-over : {e e′ : End} {x : Snapshot watched} {x′ : Snapshot plain} → Same e e′ → Left g x → MomentRel g (over e x) (over e′ x′)
+
+finished-left : {g : Program} {t : State watched} {t′ : State plain} → StateRel g t t′ → Left g (finished-shot t)
+finished-left (states l v st ob) = none-live ob
+
 settle-ok :
-    {g : Program} (n : ℕ) {t : State watched} {t′ : State plain} {f : State watched → End} {f′ : State plain → End} {r : Res (Next watched)} {r′ : Res (Next plain)} →
-    StateRel g t t′ → ((u : State watched) (u′ : State plain) → StateRel g u u′ → Same (f u) (f′ u′)) → Agree (NextRel g) r r′ → Same (settle n t f r) (settle n t′ f′ r′)
+    {g : Program} (n : ℕ) {t : State watched} {t′ : State plain} {r : Res (Next watched)} {r′ : Res (Next plain)} →
+    StateRel g t t′ → Agree (NextRel g) r r′ → MomentRel g (settle n t r) (settle n t′ r′)
 unfolding settle
-settle-ok n h k (both (nexts r)) = k _ _ r
-settle-ok n h k (both ends) = end-same done tt (suc n) h
-settle-ok n h k (halt {s = x} c) = end-same x c n h
+settle-ok n h (both (nexts r)) = both-running r
+settle-ok n h (both ends) = both-over (end-same done tt (suc n) h) (finished-left h)
+settle-ok n h (halt {s = x} c) = both-over (end-same x c n h) (live h)
+
+end-ok : {g : Program} {a : Moment watched} {b : Moment plain} → MomentRel g a b → Same (end-of a) (end-of b)
+end-ok (both-running {n} h) = end-same fuel-spent tt n h
+end-ok (both-over e l) = e
+
+left-ok : {g : Program} {a : Moment watched} {b : Moment plain} → MomentRel g a b → Left g (left-by a)
+left-ok (both-running h) = live h
+left-ok (both-over e l) = l
 
 module _ (g : Program) (s : Sound g) (memory output : ℕ) where
-  run-from-ok : (k n : ℕ) {t : State watched} {t′ : State plain} → StateRel g t t′ → Same (run-from watched g memory output k n t) (run-from plain g memory output k n t′)
-  unfolding run-from
-  run-from-ok zero n h = end-same fuel-spent tt n h
-  run-from-ok (suc k) n h = settle-ok n h (λ u u′ r. run-from-ok k (suc n) r) (step-ok g s memory output h)
+  advance-ok : {a : Moment watched} {b : Moment plain} → MomentRel g a b → MomentRel g (advance watched g memory output a) (advance plain g memory output b)
+  unfolding advance
+  advance-ok (both-running {n} h) = settle-ok n h (step-ok g s memory output h)
+  advance-ok (both-over e l) = both-over e l
 
-  opened-ok : (input : List ℕ) → StateRel g (opened watched g memory output input) (opened plain g memory output input)
-  unfolding opened
-  opened-ok input =
-      states (s .formed .begins 0 (s .formed .main))
-      (record { procedure = s .formed .main; size = length-replicate (g .variables 0) empty; row = row-blank (g .inner 0) (g .variables 0) }) bottom objects-nil
+  start-ok : (input : List ℕ) → MomentRel g (start watched g memory output input) (start plain g memory output input)
+  unfolding start opened
+  start-ok input = room (leb (g .variables 0 + 2) memory)
+    where
+      opened-ok : StateRel g (opened watched g memory output input) (opened plain g memory output input)
+      opened-ok =
+          states (s .formed .begins 0 (s .formed .main))
+          (record { procedure = s .formed .main; size = length-replicate (g .variables 0) empty; row = row-blank (g .inner 0) (g .variables 0) }) bottom objects-nil
+
+      room : (b : Bool) →
+          MomentRel g
+          (cond b (running 0 (opened watched g memory output input)) (over (stopped memory-full 0 [] 0 0) (snapshot [] [])))
+          (cond b (running 0 (opened plain g memory output input)) (over (stopped memory-full 0 [] 0 0) (snapshot [] [])))
+      room true = both-running opened-ok
+      room false = both-over (record { same = refl; regular = tt }) (none-live {os = []} {os′ = []} objects-nil)
+
+  trace-ok : (input : List ℕ) (n : ℕ) → MomentRel g (trace watched g memory output input n) (trace plain g memory output input n)
+  unfolding trace
+  trace-ok input zero = start-ok input
+  trace-ok input (suc n) = advance-ok (trace-ok input n)
 
   run-ok : (input : List ℕ) (fuel : ℕ) → Same (run watched g memory output input fuel) (run plain g memory output input fuel)
   unfolding run
-  run-ok input fuel = room (leb (g .variables 0 + 2) memory) (run-from-ok fuel 0 (opened-ok input))
-    where
-      room : (b : Bool) {e e′ : End} → Same e e′ → Same (cond b e no-room) (cond b e′ no-room)
-      room true r = r
-      room false r = record { same = refl; regular = tt }
+  run-ok input fuel = end-ok (trace-ok input fuel)
 
   -- what holds of every related state, and of the objects that are left at the end, holds after every number of steps
-  module _
-      (P : Snapshot watched → Type 0) (live : (t : State watched) (t′ : State plain) → StateRel g t t′ → P (shot t))
-      (left : (os : List (Object watched)) (os′ : List (Object plain)) → Objects g (heads os) os os′ → P (snapshot [] os)) where
-    follow-ok :
-        {t : State watched} {t′ : State plain} {f : State watched → Snapshot watched} {r : Res (Next watched)} {r′ : Res (Next plain)} →
-        StateRel g t t′ → ((u : State watched) (u′ : State plain) → StateRel g u u′ → P (f u)) → Agree (NextRel g) r r′ → P (follow t f r)
-    unfolding follow
-    follow-ok h k (both (nexts r)) = k _ _ r
-    follow-ok (states {os} l v st ob) k (both ends) = left os _ ob
-    follow-ok h k (halt c) = live _ _ h
-
-    after-ok : (k : ℕ) {t : State watched} {t′ : State plain} → StateRel g t t′ → P (after watched g memory output k t)
-    unfolding after
-    after-ok zero h = live _ _ h
-    after-ok (suc k) h = follow-ok h (λ u u′ r. after-ok k r) (step-ok g s memory output h)
-
-    pub state-after-ok : (input : List ℕ) (fuel n : ℕ) → P (state-after watched g memory output input fuel n)
-    unfolding state-after
-    state-after-ok input fuel n = room (leb (g .variables 0 + 2) memory) (after-ok (min n fuel) (opened-ok input))
-      where
-        room : (b : Bool) {t : Snapshot watched} → P t → P (cond b t (snapshot [] []))
-        room true r = r
-        room false r = left [] [] objects-nil
+  pub state-after-ok :
+      (P : Snapshot watched → Type 0) → ((t : State watched) (t′ : State plain) → StateRel g t t′ → P (shot t)) →
+      ((os : List (Object watched)) (os′ : List (Object plain)) → Objects g (heads os) os os′ → P (snapshot [] os)) →
+      (input : List ℕ) (fuel n : ℕ) → P (state-after watched g memory output input fuel n)
+  unfolding state-after
+  state-after-ok P in-states in-objects input fuel n = of-left (left-ok (trace-ok input (min n fuel)))
+    where
+      of-left : {x : Snapshot watched} → Left g x → P x
+      of-left (live h) = in-states _ _ h
+      of-left (none-live ob) = in-objects _ _ ob
 
 regular-not-stuck : (e : End) → Regular e → (n : ℕ) (put : List ℕ) (p i : ℕ) → e ≡ stuck-at n put p i → ⊥
 regular-not-stuck e r n put p i h = subst Regular h r
 
 pub condition3 :
-    (g : Program) → Formed g → verdict (access-rules g) ≡ Accepted → (memory output : ℕ) (input : List ℕ) (fuel : ℕ) →
-    Condition3 g memory output input fuel
-condition3 g f a memory output input fuel =
+    (g : Program) → Formed g → verdict (access-rules g) ≡ Accepted → (memory : ℕ) (input output : List ℕ) (fuel : ℕ) →
+    Condition3 g memory input output fuel
+condition3 g f a memory input output fuel =
     let s : Sound g = record { formed = f; facts = facts g a } in
-    let z = run-ok g s memory output input fuel in
+    let z = run-ok g s memory (length output) input fuel in
     record {
       not-stuck = regular-not-stuck _ (subst Regular (z .same) (z .regular));
       agree = z .same;
+      same-output = ap (λ (e : End). written output (words-put e)) (z .same);
       regular = z .regular;
-      typed = state-after-ok g s memory output (Typed g) (λ t t′. state-typed g) (λ os os′. none-typed g os) input fuel;
+      typed = state-after-ok g s memory (length output) (Typed g) (λ t t′. state-typed g) (λ os os′. none-typed g os) input fuel;
     }

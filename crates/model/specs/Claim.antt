@@ -4,7 +4,7 @@ use mathlib.Core.Path.{_≡_}
 use mathlib.Core.Bool.{true, false}
 use mathlib.Core.List.{List}
 use mathlib.Core.Option.{some}
-use lib.ListN.{getD, getElem?}
+use lib.ListN.{length, getD, getElem?}
 use Rattle.model.specs.Rights.{has, open-right}
 use Rattle.model.specs.Qualified.{Qual, rights}
 use Rattle.model.specs.Program.{Program}
@@ -13,7 +13,7 @@ use Rattle.model.specs.declared.Operation.the-variants.{Set, Add, Subtra
 use Rattle.model.specs.Outcome.{Stop, done, fuel-spent, blank, past-end, input-ended, output-full, memory-full, wrong-kind, missing-right}
 use Rattle.model.specs.Modes.{plain, watched, Kind, record-kind, fits}
 use Rattle.model.specs.Machine.{Value, Cell, empty, filled, Object, array-of, record-of, Frame, frame, find, cells-of, Head, head-of, kind-at}
-use Rattle.model.specs.Run.{End, stopped, stuck-at, Snapshot, snapshot, run, state-after}
+use Rattle.model.specs.Run.{End, stopped, stuck-at, words-put, Snapshot, snapshot, run, state-after, written}
 
 -- ---- What the machines lean on beside the access rules: parts of the layout (refusals 1 to 5)
 
@@ -91,16 +91,18 @@ abbrev pub Regular : End → Type 0
 Regular (stopped x n put p i) = Regular-stop x
 Regular (stuck-at n put p i) = ⊥
 
--- ---- the claim, on a program, with a memory of so many words, an output of so many words, an input and a fuel
-pub record Condition3 (g : Program) (memory output : ℕ) (input : List ℕ) (fuel : ℕ) : Type 0 where
+-- ---- the claim, on a program, with a memory of so many words, an input, an output as it was before the run, and a fuel
+pub record Condition3 (g : Program) (memory : ℕ) (input output : List ℕ) (fuel : ℕ) : Type 0 where
   -- (a) "the plain machine is never stuck"
-  pub not-stuck : (n : ℕ) (put : List ℕ) (p i : ℕ) → run plain g memory output input fuel ≡ stuck-at n put p i → ⊥
-  -- (b) "the watched machine ends with the same stop, steps, words put, place and report"
-  pub agree : run watched g memory output input fuel ≡ run plain g memory output input fuel
+  pub not-stuck : (n : ℕ) (put : List ℕ) (p i : ℕ) → run plain g memory (length output) input fuel ≡ stuck-at n put p i → ⊥
+  -- (b) "the watched machine ends with the same stop, steps, words put, place .."
+  pub agree : run watched g memory (length output) input fuel ≡ run plain g memory (length output) input fuel
+  -- ".. and report": "the reports are equal in all their words"
+  pub same-output : written output (words-put (run watched g memory (length output) input fuel)) ≡ written output (words-put (run plain g memory (length output) input fuel))
   -- (c)
-  pub regular : Regular (run watched g memory output input fuel)
+  pub regular : Regular (run watched g memory (length output) input fuel)
   -- (d) "after every number of steps"
-  pub typed : (n : ℕ) → Typed g (state-after watched g memory output input fuel n)
+  pub typed : (n : ℕ) → Typed g (state-after watched g memory (length output) input fuel n)
 
 -- ---- Open cannot leave its module (document 01, rule 6: "Open may stand only in an inner QT whose base is the procedure's owner")
 

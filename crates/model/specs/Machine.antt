@@ -137,7 +137,7 @@ pub data Effect (m : Mode) : Type 0 where
   -- a frame of procedure k with these first variables; the caller goes on, with a variable that becomes a cell, or the run is over
   call : (k : ℕ) → List (Cell m) → Effect m
   resume : Option (ℕ × Cell m) → Effect m
-  over : Effect m
+  finish : Effect m
 
 -- a value that is read or moved is there: 13
 unfoldable pub held : {m : Mode} → Cell m → Res (Value × Carried m)
@@ -362,7 +362,7 @@ module _ (m : Mode) (g : Program) (v : View m) where
     ok (resume (some (a, d)))
 
   unfoldable pub to-caller : Option (ℕ × ℕ) → Option (Cell m) → Res (Effect m)
-  to-caller none c = ok over
+  to-caller none c = ok finish
   to-caller (some place) c = into-caller (place .0) (kept (g .operation (place .0) (pred (place .1)))) c
 
   unfoldable pub plan-return : Option ℕ → Res (Effect m)
@@ -450,7 +450,7 @@ apply g (state (frame p i vs) fs os input out) (store a j c) = go (state (frame 
 apply g (state (frame p i vs) fs os input out) (call k cs) =
     go (state (frame k 0 (cs ++ replicate (g .variables k - g .formals k) empty)) (frame p (suc i) vs ∷ fs) os input out)
 apply g (state (frame p i vs) fs os input out) (resume w) = given-back w fs os input out
-apply g (state (frame p i vs) fs os input out) over = finished
+apply g (state (frame p i vs) fs os input out) finish = finished
 
 abbrev pub operation-in : {m : Mode} → Program → State m → Operation
 operation-in g (state (frame p i vs) fs os input out) = g .operation p i

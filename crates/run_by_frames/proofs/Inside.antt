@@ -5,7 +5,7 @@ use mathlib.Core.Option.{Option, none, some}
 use Rattle.model.specs.Outcome.{Stop, Res, ok, stop, stuck, _>>=_, _>>_}
 use Rattle.model.specs.Program.{Program}
 use Rattle.model.specs.Modes.{Mode, plain, watched, amiss}
-use Rattle.model.specs.Machine.{Cell, Object, Frame, frame, State, state, View, view, Next, go, finished, Effect, write, take, put, jump, skip, new-array, new-record, store, call, resume, over, plan-array, plan-record, plan-fetch, plan-store, plan-size, plan-get, plan-set, plan-call, into-caller, to-caller, plan-return, gives, branch, plan, apply, step}
+use Rattle.model.specs.Machine.{Cell, Object, Frame, frame, State, state, View, view, Next, go, finished, Effect, write, take, put, jump, skip, new-array, new-record, store, call, resume, finish, plan-array, plan-record, plan-fetch, plan-store, plan-size, plan-get, plan-set, plan-call, into-caller, to-caller, plan-return, gives, branch, plan, apply, step}
 use Rattle.model.specs.Run.{opened}
 use Rattle.model.specs.Claim.{Formed, Formed-at}
 use Rattle.model.specs.declared.Operation.{Operation}
@@ -61,7 +61,7 @@ module _ (m : Mode) (g : Program) where
   Stays p i (store a j c) = suc i < g .instructions p
   Stays p i (call k cs) = (k < g .procedures) × (suc i < g .instructions p)
   Stays p i (resume w) = Unit {0}
-  Stays p i over = Unit {0}
+  Stays p i finish = Unit {0}
 
   module _ (p i : ℕ) (v : View m) where
     gives-stay : suc i < g .instructions p → (a n : ℕ) → Yields (Stays p i) (gives m g v a n)
@@ -121,7 +121,7 @@ module _ (m : Mode) (g : Program) where
         (record { procedure = h .0; instruction = formed .begins k (h .0) }, waits (record { procedure = a .procedure; instruction = h .1 }) ws)
     apply-inside vs os input out a bottom (resume w) h = tt
     apply-inside vs os input out a (waits b ws) (resume w) h = (b, ws)
-    apply-inside vs os input out a ws over h = tt
+    apply-inside vs os input out a ws finish h = tt
 
     pub step-inside : (memory output : ℕ) (t : State m) → Inside g t → Yields (Next-inside g) (step g memory output t)
     unfolding step
