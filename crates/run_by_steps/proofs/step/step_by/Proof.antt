@@ -1,4 +1,4 @@
--- `stepping::step::step_by` meets its contract: a walk of its MIR, by hand. The registers are held in a local, which is lent to `step_lent` for a lifetime that is made for the call, and comes back at its last value.
+-- `run_by_steps::step::step_by` meets its contract: a walk of its MIR, by hand. The registers are held in a local, which is lent to `step_lent` for a lifetime that is made for the call, and comes back at its last value.
 -- Its parameters are plain, so that covered code calls it. All that the proof knows of `step_lent` is that it meets its contract.
 -- Assumes nothing.
 use mathlib.Core.List.{List, [], _∷_}
@@ -200,4 +200,4 @@ step-by-spec 𝓤 H 𝓜 𝓖 𝓡 =
     entered 𝓤 H (tripleOf 𝓤 H (𝓖 .A) me.signature (me.spec 𝓤 H (𝓖 .A) (𝓜 .mem) (𝓡 .run)))
     (tables 𝓤 H 𝓜 𝓡 code.env .C) (tables 𝓤 H 𝓜 𝓡 code.env .Λ) #me code.function (code.unfolded 𝓤 H 𝓜 𝓡)
     (meets 𝓤 H (𝓖 .A) (givenOf 𝓤 H 𝓜 𝓖) (𝓜 .mem) (𝓡 .run) (tablesOf 𝓤 H 𝓜 (tables 𝓤 H 𝓜 𝓡 code.env))
-    (cited 𝓤 H (Callee 𝓤 H (𝓖 .A) (𝓜 .mem) (𝓡 .run)) 𝓜 𝓡 code.env #callee callee-def.routine code.calls-stepping·step·step-lent (callee-thm.met 𝓤 H 𝓜 𝓖 𝓡)))
+    (cited 𝓤 H (Callee 𝓤 H (𝓖 .A) (𝓜 .mem) (𝓡 .run)) 𝓜 𝓡 code.env #callee callee-def.routine code.calls-run-by-steps·step·step-lent (callee-thm.met 𝓤 H 𝓜 𝓖 𝓡)))

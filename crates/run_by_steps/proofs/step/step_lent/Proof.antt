@@ -1,4 +1,4 @@
--- `stepping::step::step_lent` meets its contract: a walk of its MIR, by hand. The borrow of the registers is opened, their value is copied and passed to `step_counted`, the answer's registers are stored where it has any, and the borrow is closed.
+-- `run_by_steps::step::step_lent` meets its contract: a walk of its MIR, by hand. The borrow of the registers is opened, their value is copied and passed to `step_counted`, the answer's registers are stored where it has any, and the borrow is closed.
 -- Each `&mut` slice goes to the callee for good, at its own lifetime and name, and its last list comes back as a fact; of each `&` the callee has a copy. All that the proof knows of `step_counted` is that it meets its contract.
 -- Assumes nothing.
 use mathlib.Core.List.{List, [], _∷_}
@@ -250,4 +250,4 @@ step-lent-spec 𝓤 H 𝓜 𝓖 𝓡 =
     entered 𝓤 H (tripleOf 𝓤 H (𝓖 .A) me.signature (me.spec 𝓤 H (𝓖 .A) (𝓜 .mem) (𝓡 .run)))
     (tables 𝓤 H 𝓜 𝓡 code.env .C) (tables 𝓤 H 𝓜 𝓡 code.env .Λ) #me code.function (code.unfolded 𝓤 H 𝓜 𝓡)
     (meets 𝓤 H (𝓖 .A) (givenOf 𝓤 H 𝓜 𝓖) (𝓜 .mem) (𝓡 .run) (tablesOf 𝓤 H 𝓜 (tables 𝓤 H 𝓜 𝓡 code.env))
-    (cited 𝓤 H (Callee 𝓤 H (𝓖 .A) (𝓜 .mem) (𝓡 .run)) 𝓜 𝓡 code.env #callee callee-def.routine code.calls-stepping·step·step-counted (callee-thm.met 𝓤 H 𝓜 𝓖 𝓡)))
+    (cited 𝓤 H (Callee 𝓤 H (𝓖 .A) (𝓜 .mem) (𝓡 .run)) 𝓜 𝓡 code.env #callee callee-def.routine code.calls-run-by-steps·step·step-counted (callee-thm.met 𝓤 H 𝓜 𝓖 𝓡)))
