@@ -1,11 +1,9 @@
 -- What `check` says of any bytes: the first of refusals 1 to 9 in document 01's order, or accepted.
 use Prim.Native.Nat.{ℕ}
-use mathlib.Core.Path.{_≡_}
 use mathlib.Core.List.{List, _++_}
-use Rattle.model.specs.Refusal.{Tests, verdict}
+use Rattle.model.specs.Refusal.{Tests, Gives, verdict}
 use Rattle.model.specs.Rules.{access-rules}
 use Rattle.model.specs.declared.Verdict.{Verdict}
-use Rattle.model.specs.declared.Verdict.the-variants.{Accepted}
 use Rattle.sheet.specs.Meaning.{programOf}
 use Rattle.form.specs.WellFormed.{form-tests}
 
@@ -17,9 +15,6 @@ check-tests s = form-tests s ++ access-rules (programOf s)
 unfoldable pub check : List ℕ → Verdict
 check s = verdict (check-tests s)
 
--- none of 1 to 5, and none of 1 to 9
-unfoldable pub WellFormed : List ℕ → Type 0
-WellFormed s = verdict (form-tests s) ≡ Accepted
-
-unfoldable pub Acceptable : List ℕ → Type 0
-Acceptable s = check s ≡ Accepted
+-- "Check gives 1 to 9 or accepts"
+abbrev pub CheckNumbers : Type 0
+CheckNumbers = (sheet : List ℕ) → Gives 1 9 (check sheet)

@@ -1,3 +1,4 @@
 pub mod Laws
 pub mod Procedures
 pub mod WellFormed
+pub mod Numbers

@@ -3,13 +3,13 @@ use model::Verdict;
 use replies::put_at;
 use replies::put_reply;
 ghost use mathlib.Core.Path.{_≡_};
+ghost use mathlib.Core.Option.{some};
 ghost use lib.ListN.{set};
 ghost use Rattle.model.specs.Modes.{plain};
 ghost use Rattle.model.specs.Refusal.{verdict-number, verdict-place};
 ghost use Rattle.checking.specs.Check.{check};
-ghost use Rattle.run.specs.Run as def;
-ghost use Rattle.run.specs.Run.{memory-after, output-after};
-ghost use Rattle.replies.specs.Words.{reply-words};
+ghost use Rattle.run.specs.Run.{answer};
+ghost use Rattle.replies.specs.Words.{returned, to-c};
 
 // The number of the refusal, 0 where the sheet is accepted; its place goes to the first word of the reply, where there is one.
 #[no_mangle]
@@ -39,10 +39,7 @@ pub extern "C" fn wn_run(
     report: &mut [u32],
     reply: &mut [u64],
 ) -> u64
-    ensures { λ r. ⌜ r ≡ def.reply plain (now (sheet .entry)) (now (reads .entry)) fuel (now (bench .entry)) (now (report .entry)) .number ⌝ }
-    ensures { λ r. ⌜ now (bench .exit) ≡ memory-after plain (now (sheet .entry)) (now (reads .entry)) fuel (now (bench .entry)) (now (report .entry)) ⌝ }
-    ensures { λ r. ⌜ now (report .exit) ≡ output-after plain (now (sheet .entry)) (now (reads .entry)) fuel (now (bench .entry)) (now (report .entry)) ⌝ }
-    ensures { λ r. ⌜ now (reply .exit) ≡ reply-words (now (reply .entry)) (def.reply plain (now (sheet .entry)) (now (reads .entry)) fuel (now (bench .entry)) (now (report .entry))) ⌝ }
+    ensures { λ r. ⌜ to-c (now (reply .entry)) (answer plain (now (sheet .entry)) (now (reads .entry)) fuel (now (bench .entry)) (now (report .entry))) ≡ some (returned r (now (reply .exit)) (now (bench .exit)) (now (report .exit))) ⌝ }
 {
     let r = run::run(sheet, reads, fuel, bench, report);
     put_reply(reply, r);

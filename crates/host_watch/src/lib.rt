@@ -1,10 +1,10 @@
 // The watched machine for a host written in C, in a library of its own: there the flag that tells the machines apart is a constant.
 use replies::put_reply;
 ghost use mathlib.Core.Path.{_≡_};
+ghost use mathlib.Core.Option.{some};
 ghost use Rattle.model.specs.Modes.{watched};
-ghost use Rattle.run.specs.Run as def;
-ghost use Rattle.run.specs.Run.{memory-after, output-after};
-ghost use Rattle.replies.specs.Words.{reply-words};
+ghost use Rattle.run.specs.Run.{answer};
+ghost use Rattle.replies.specs.Words.{returned, to-c};
 
 // Runs a sheet on the watched machine: the number; the reply has the rest.
 #[no_mangle]
@@ -16,10 +16,7 @@ pub extern "C" fn wn_watch(
     report: &mut [u32],
     reply: &mut [u64],
 ) -> u64
-    ensures { λ r. ⌜ r ≡ def.reply watched (now (sheet .entry)) (now (reads .entry)) fuel (now (bench .entry)) (now (report .entry)) .number ⌝ }
-    ensures { λ r. ⌜ now (bench .exit) ≡ memory-after watched (now (sheet .entry)) (now (reads .entry)) fuel (now (bench .entry)) (now (report .entry)) ⌝ }
-    ensures { λ r. ⌜ now (report .exit) ≡ output-after watched (now (sheet .entry)) (now (reads .entry)) fuel (now (bench .entry)) (now (report .entry)) ⌝ }
-    ensures { λ r. ⌜ now (reply .exit) ≡ reply-words (now (reply .entry)) (def.reply watched (now (sheet .entry)) (now (reads .entry)) fuel (now (bench .entry)) (now (report .entry))) ⌝ }
+    ensures { λ r. ⌜ to-c (now (reply .entry)) (answer watched (now (sheet .entry)) (now (reads .entry)) fuel (now (bench .entry)) (now (report .entry))) ≡ some (returned r (now (reply .exit)) (now (bench .exit)) (now (report .exit))) ⌝ }
 {
     let r = run::watch(sheet, reads, fuel, bench, report);
     put_reply(reply, r);

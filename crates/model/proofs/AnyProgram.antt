@@ -44,6 +44,10 @@ pub plain-not-missing-right :
     (g : Program) (memory output : ℕ) (input : List ℕ) (fuel n : ℕ) (put : List ℕ) (p i : ℕ) → run plain g memory output input fuel ≡ stopped missing-right n put p i → ⊥
 plain-not-missing-right g memory output input fuel n put p i e = subst (Way plain _) e (run-ended plain g memory output input fuel .way)
 
+abbrev pub IsOver : {m : Mode} → Moment m → Type 0
+IsOver (running n s) = ⊥
+IsOver (over e x) = Unit {0}
+
 module _ (m : Mode) (g : Program) (memory output : ℕ) (input : List ℕ) where
   -- ---- A run that is over stays as it ended
 
@@ -51,6 +55,12 @@ module _ (m : Mode) (g : Program) (memory output : ℕ) (input : List ℕ) where
   unfolding trace advance
   over-stays e x n h zero = let z : 0 + n ≡ n = omega arith in rw z h
   over-stays e x n h (suc k) = let z : suc k + n ≡ suc (k + n) = omega arith in rw (z, over-stays e x n h k)
+
+  -- so that its end is the run's, whatever fuel is left
+  pub over-run : (n fuel : ℕ) (a : Moment m) → trace m g memory output input n ≡ a → IsOver a → n ≤ fuel → run m g memory output input fuel ≡ end-of a
+  unfolding run
+  over-run n fuel (running k s) h o l = absurd o
+  over-run n fuel (over e x) h o l = let z : fuel ≡ (fuel - n) + n = omega arith in rw (z, over-stays e x n h (fuel - n))
 
   -- ---- "A step that stops changes nothing and isn't counted": the run is over, with the steps counted so far, the words put and the place of the
   -- state in which it stops, and leaves the frames and objects of that state

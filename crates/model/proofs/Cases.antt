@@ -13,14 +13,14 @@ use borrow.Author.Tests.{lt-ltb}
 use Rattle.model.specs.Rights.{Rights, fetch-right, store-right, size-right, open-right}
 use Rattle.model.specs.Qualified.{Qual, rights, element, isInteger, integer, array, declared, alike}
 use Rattle.model.specs.Program.{Program}
-use Rattle.model.specs.Rules.{optional}
+use Rattle.model.specs.Rules.{keeps, optional}
 use Rattle.model.specs.declared.Operation.{Operation}
 use Rattle.model.specs.declared.Operation.the-variants.{Set, Add, Subtract, Less, JumpZero, Bind, Take, Put, NewArray, Fetch, Store, Size, NewRecord, GetSlot, SetSlot, Call, Return}
 use Rattle.model.proofs.Rights.{within-refl}
 use Rattle.model.specs.Outcome.{past-end, input-ended, output-full, memory-full, Res, _>>=_}
 use Rattle.model.specs.Modes.{plain, watched, fits, array-kind, record-kind}
-use Rattle.model.specs.Machine.{Value, word, object, Cell, filled, Head, kind-at, View, Effect, write, take, put, jump, skip, new-array, new-record, store, call, resume, finish, as-integer, moved, give, integers, one-integer, plan-array, plan-record, plan-fetch, plan-store, plan-size, plan-get, plan-set, actual, actuals, plan-call, handed, into-caller, to-caller, plan-return, gives, branch, plan, returns-well, keeps-well}
-use Rattle.model.specs.Claim.{Formed, Formed-at}
+use Rattle.model.specs.Machine.{Value, word, object, Cell, filled, Head, kind-at, View, Effect, write, take, put, jump, skip, new-array, new-record, store, call, resume, finish, as-integer, moved, give, integers, one-integer, plan-array, plan-record, plan-fetch, plan-store, plan-size, plan-get, plan-set, actual, actuals, plan-call, handed, into-caller, to-caller, plan-return, gives, branch, plan, returns-well}
+use Rattle.model.proofs.Formed.{Formed, Formed-at}
 use Rattle.model.proofs.Allowed.{Facts, Moves, Raised, Kept, Returned, Allowed}
 use Rattle.model.proofs.Fits.{not-object, new-array-fits, new-record-fits}
 use Rattle.model.proofs.Relate.{Fit, fit, Granted, granted, CellRel, values, Row, row-nil, row-cons, row-same, ArrayMade, RecordMade}
@@ -275,7 +275,8 @@ module _
         with-rel (actuals-ok to b (suc j) n (λ x l. m x (omega arith)) (λ x l. a x (omega arith))) λ cs cs′ ws.
         both (ap suc (ws .0), row-cons (rw (add-zero j) w) (row-same (ws .1) (λ x. ap (g .inner to) (omega arith))))
 
-    keeps-ok : (a : Option ℕ) (r : Option Qual) → Kept (g .inner p) a r → keeps-well a r ≡ true
+    keeps-ok : (a : Option ℕ) (r : Option Qual) → Kept (g .inner p) a r → keeps a r ≡ true
+    unfolding keeps
     keeps-ok none none m = refl
     keeps-ok none (some r) m = refl
     keeps-ok (some a) none m = absurd m

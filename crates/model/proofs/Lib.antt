@@ -1,3 +1,4 @@
+pub mod Formed
 pub mod Verdicts
 pub mod Rights
 pub mod Order
@@ -14,3 +15,4 @@ pub mod Open
 pub mod Plans
 pub mod Ends
 pub mod AnyProgram
+pub mod Numbers

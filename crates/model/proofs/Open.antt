@@ -16,7 +16,8 @@ use Rattle.model.specs.declared.Operation.{Operation}
 use Rattle.model.specs.Modes.{plain, watched}
 use Rattle.model.specs.Machine.{Cell, empty, Object, cells-of, State, Head}
 use Rattle.model.specs.Run.{snapshot, shot, state-after}
-use Rattle.model.specs.Claim.{Formed, Formed-at, heads, kind-in, Numbered, Opens, Shut, OpenStays}
+use Rattle.model.specs.Claim.{heads, kind-in, Opens, Shut, OpenStays}
+use Rattle.model.proofs.Formed.{Formed, Formed-at, Numbered}
 use Rattle.model.proofs.Allowed.{Owned, Closed, Facts, facts}
 use Rattle.model.proofs.Fits.{owned-kind}
 use Rattle.model.proofs.Relate.{fit, granted, CellRel, blanks, values, Row, row-nil, row-cons, ArrayMade, RecordMade, ObjectRel, arrays, records, Objects, Live, StateRel, states}

@@ -1,11 +1,13 @@
--- Equality of qualified types is the equality of trees, so an equivalence; the order is reflexive and transitive.
+-- Equality of qualified types is the equality of trees, so an equivalence; the order is reflexive and transitive, and it is what check asks of a movement.
 use Prim.Native.Nat.{ℕ}
 use mathlib.Core.Path.{_≡_, refl, sym, ap₂, subst, _∙_}
-use mathlib.Core.Bool.{Bool, true, false, false≢true, _&&_}
+use mathlib.Core.Bool.{Bool, true, false, false≢true, _&&_, cond}
 use lib.Dec.{eqb}
 use borrow.Author.Tests.{eqb-true, eq-eqb}
 use Rattle.model.specs.Rights.{within}
 use Rattle.model.specs.Qualified.{Qual, integer, array, declared, rights, same, alike, order}
+use Rattle.model.specs.Refusal.{refusal-number, type-mismatch, insufficient-rights, failure}
+use Rattle.model.specs.Rules.{moves}
 use Rattle.model.proofs.Verdicts.{both-true}
 use Rattle.model.proofs.Rights.{within-refl, within-trans}
 
@@ -70,3 +72,13 @@ order-trans a b c h k =
     let x = both-true (alike a b) (within (rights b) (rights a)) h in
     let y = both-true (alike b c) (within (rights c) (rights b)) k in
     both (alike a c) (within (rights c) (rights a)) (alike-trans a b c (x .0) (y .0)) (within-trans (rights c) (rights b) (rights a) (y .1) (x .1))
+
+-- "Each movement needs source ≥ destination": nothing refuses it exactly if that holds
+pub moves-order : (s d : Qual) → eqb (failure (moves s d)) 0 ≡ order s d
+unfolding moves failure order
+moves-order s d = go (alike s d) (within (rights d) (rights s))
+  where
+    go : (a b : Bool) → eqb (cond a (cond b 0 (refusal-number insufficient-rights)) (refusal-number type-mismatch)) 0 ≡ a && b
+    go true true = refl
+    go true false = refl
+    go false b = refl

@@ -13,7 +13,8 @@ use Rattle.model.specs.Outcome.{Stop, done, fuel-spent, memory-full, Res
 use Rattle.model.specs.Modes.{plain, watched}
 use Rattle.model.specs.Machine.{empty, Object, State, Next}
 use Rattle.model.specs.Run.{End, stopped, stuck-at, words-put, end-in, Snapshot, snapshot, shot, finished-shot, Moment, running, over, settle, end-of, left-by, advance, opened, start, trace, run, state-after, written}
-use Rattle.model.specs.Claim.{Formed, heads, Regular-stop, Regular, Typed, Condition3}
+use Rattle.model.specs.Claim.{heads, Regular-stop, Regular, Typed, Condition3}
+use Rattle.model.proofs.Formed.{Formed}
 use Rattle.model.proofs.Allowed.{facts}
 use Rattle.model.proofs.Relate.{row-blank, Objects, objects-nil, bottom, StateRel, states, NextRel, nexts, ends}
 use Rattle.model.proofs.Agree.{Agree, both, halt}

@@ -1,5 +1,5 @@
--- Condition 3 over a program (document 01, "Condition 3 is a single claim about the whole run"): what it says, and of which programs.
-use Prim.Native.Nat.{ℕ, suc, _+_, _<_, _≤_}
+-- Condition 3 over a program (document 01, "Condition 3 is a single claim about the whole run"): what it says.
+use Prim.Native.Nat.{ℕ, _≤_}
 use mathlib.Core.Path.{_≡_}
 use mathlib.Core.Bool.{true, false}
 use mathlib.Core.List.{List}
@@ -8,41 +8,10 @@ use lib.ListN.{length, getD, getElem?}
 use Rattle.model.specs.Rights.{has, open-right}
 use Rattle.model.specs.Qualified.{Qual, rights}
 use Rattle.model.specs.Program.{Program}
-use Rattle.model.specs.declared.Operation.{Operation}
-use Rattle.model.specs.declared.Operation.the-variants.{Set, Add, Subtract, Less, JumpZero, Bind, Take, Put, NewArray, Fetch, Store, Size, NewRecord, GetSlot, SetSlot, Call, Return}
 use Rattle.model.specs.Outcome.{Stop, done, fuel-spent, blank, past-end, input-ended, output-full, memory-full, wrong-kind, missing-right}
 use Rattle.model.specs.Modes.{plain, watched, Kind, record-kind, fits}
 use Rattle.model.specs.Machine.{Value, Cell, empty, filled, Object, array-of, record-of, Frame, frame, find, cells-of, Head, head-of, kind-at}
 use Rattle.model.specs.Run.{End, stopped, stuck-at, words-put, Snapshot, snapshot, run, state-after, written}
-
--- ---- What the machines lean on beside the access rules: parts of the layout (refusals 1 to 5)
-
-module _ (g : Program) where
-  -- after an instruction that goes on to the next there is one: "The last IN of a procedure is a return"; a jump's, a call's and a slot's number is there
-  abbrev pub Formed-at : (p i : ℕ) → Operation → Type 0
-  Formed-at p i (Set a k) = suc i < g .instructions p
-  Formed-at p i (Add a b c) = suc i < g .instructions p
-  Formed-at p i (Subtract a b c) = suc i < g .instructions p
-  Formed-at p i (Less a b c) = suc i < g .instructions p
-  Formed-at p i (JumpZero a k) = (k < g .instructions p) × (suc i < g .instructions p)
-  Formed-at p i (Bind a b) = suc i < g .instructions p
-  Formed-at p i (Take a) = suc i < g .instructions p
-  Formed-at p i (Put a) = suc i < g .instructions p
-  Formed-at p i (NewArray a b) = suc i < g .instructions p
-  Formed-at p i (Fetch a b c) = suc i < g .instructions p
-  Formed-at p i (Store a b c) = suc i < g .instructions p
-  Formed-at p i (Size a b) = suc i < g .instructions p
-  Formed-at p i (NewRecord a) = (2 ≤ g .owner p) × (suc i < g .instructions p)
-  Formed-at p i (GetSlot a b k) = (2 ≤ g .owner p) × (k < g .slots (g .owner p)) × (suc i < g .instructions p)
-  Formed-at p i (SetSlot a b k) = (2 ≤ g .owner p) × (k < g .slots (g .owner p)) × (suc i < g .instructions p)
-  Formed-at p i (Call a b k) = (k < g .procedures) × (suc i < g .instructions p)
-  Formed-at p i (Return a) = Unit {0}
-
-  pub record Formed : Type 0 where
-    pub main : 0 < g .procedures
-    pub begins : (p : ℕ) → p < g .procedures → 0 < g .instructions p
-    pub formals : (p : ℕ) → p < g .procedures → g .formals p ≤ g .variables p
-    pub operations : (p i : ℕ) → p < g .procedures → i < g .instructions p → Formed-at p i (g .operation p i)
 
 -- ---- (d) "each filled variable, cell and slot of the watched machine holds a value of its declared type with exactly its declared rights"
 
@@ -105,12 +74,6 @@ pub record Condition3 (g : Program) (memory : ℕ) (input output : List ℕ) (fu
   pub typed : (n : ℕ) → Typed g (state-after watched g memory (length output) input fuel n)
 
 -- ---- Open cannot leave its module (document 01, rule 6: "Open may stand only in an inner QT whose base is the procedure's owner")
-
--- What that leans on beside Formed, also parts of the layout: a variable named is below v, an inner QT is one of the QTs, an owner is one of the declared types
-pub record Numbered (g : Program) : Type 0 where
-  pub new-array : (p i a b : ℕ) → p < g .procedures → i < g .instructions p → g .operation p i ≡ NewArray a b → a < g .variables p
-  pub inner-qual : (p x : ℕ) → p < g .procedures → x < g .variables p → (j : ℕ) × (j < g .quals) × (g .inner p x ≡ g .qual j)
-  pub owner-type : (p : ℕ) → p < g .procedures → 2 ≤ g .owner p → g .owner p < 2 + g .types
 
 -- a variable of a frame whose procedure has this owner: where it carries open it holds a record of the owner's type
 abbrev pub Opens : List (Object watched) → (owner : ℕ) → Cell watched → Type 0

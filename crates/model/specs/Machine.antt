@@ -9,7 +9,7 @@ use lib.ListN.{length, getD, getElem?, set, replicate}
 use Rattle.model.specs.Rights.{fetch-right, store-right, size-right, open-right, array-rights, record-rights}
 use Rattle.model.specs.Qualified.{Qual, integer, element, isArray}
 use Rattle.model.specs.Program.{Program}
-use Rattle.model.specs.Rules.{optional}
+use Rattle.model.specs.Rules.{optional, keeps}
 use Rattle.model.specs.declared.Operation.{Operation}
 use Rattle.model.specs.declared.Operation.the-variants.{Set, Add, Subtract, Less, JumpZero, Bind, Take, Put, NewArray, Fetch, Store, Size, NewRecord, GetSlot, SetSlot, Call, Return}
 use Rattle.model.specs.Outcome.{Stop, blank, past-end, input-ended, output-full, memory-full, Res, ok, stop, stuck, _>>=_, _>>_, ensure, found}
@@ -198,11 +198,6 @@ returns-well (some a) (some q) = true
 returns-well none (some q) = false
 returns-well (some a) none = false
 
-abbrev pub keeps-well : Option ℕ → Option Qual → Bool
-keeps-well none q = true
-keeps-well (some a) (some q) = true
-keeps-well (some a) none = false
-
 -- b − c and b + c modulo 2^32; 1 where the test holds, else 0
 unfoldable pub plus : ℕ → ℕ → ℕ
 plus x y = (x + y) % 2 ^ 32
@@ -340,7 +335,7 @@ module _ (m : Mode) (g : Program) (v : View m) where
 
   unfoldable pub plan-call : (a b k : ℕ) → Res (Effect m)
   plan-call a b k = do
-    demand m (keeps-well (optional a) (g .result k))
+    demand m (keeps (optional a) (g .result k))
     ensure memory-full (leb (g .variables k + 2) (v .room))
     cs ← actuals k b 0 (g .formals k)
     ok (call k cs)

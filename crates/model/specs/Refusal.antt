@@ -1,5 +1,5 @@
 -- Refusals, and how a list of tests gives a verdict: the first test that fails is the refusal (document 01, "What check, run and watch say").
-use Prim.Native.Nat.{ℕ, zero, suc}
+use Prim.Native.Nat.{ℕ, zero, suc, _≤_}
 use mathlib.Core.Bool.{Bool, true, false, _&&_, cond}
 use mathlib.Core.List.{List, [], _∷_, _++_}
 use Rattle.model.specs.declared.Verdict.{Verdict}
@@ -30,6 +30,11 @@ verdict-number (Refused n at) = n
 abbrev pub verdict-place : Verdict → ℕ
 verdict-place Accepted = 0
 verdict-place (Refused n at) = at
+
+-- accepted, or refused with a number from m to n
+abbrev pub Gives : (m n : ℕ) → Verdict → Type 0
+Gives m n Accepted = Unit {0}
+Gives m n (Refused k at) = (m ≤ k) × (k ≤ n)
 
 -- a test that must hold, and what is said where it does not
 pub data Test : Type 0 where

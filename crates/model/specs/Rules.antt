@@ -69,7 +69,7 @@ return-rule none (some r) = test type-mismatch false ∷ []
 return-rule (some v) none = test type-mismatch false ∷ []
 
 -- "a call keeps one only then"; "a kept result last"
-unfoldable pub keeps : Option Qual → Option Qual → Bool
+unfoldable pub keeps : {A : Type 0} → Option A → Option Qual → Bool
 keeps none r = true
 keeps (some a) (some r) = true
 keeps (some a) none = false

@@ -2,12 +2,12 @@
 use Prim.Native.Nat.{ℕ, _≤_, _<_, _^_}
 use mathlib.Core.Path.{_≡_}
 use mathlib.Core.List.{List}
-use lib.ListN.{length, getD}
-use Rattle.model.specs.Modes.{plain}
-use Rattle.model.specs.Outcome.{stop-number}
+use mathlib.Core.Option.{some}
+use lib.ListN.{length, getD, replicate}
+use Rattle.model.specs.Modes.{Mode, plain}
 use Rattle.model.specs.Refusal.{verdict}
 use Rattle.model.specs.Rules.{access-rules}
-use Rattle.model.specs.Run.{End, stopped, run, written}
+use Rattle.model.specs.Run.{End, stopped, run}
 use Rattle.model.specs.declared.Verdict.the-variants.{Accepted}
 use Rattle.sheet.specs.Meaning.{programOf}
 use Rattle.form.specs.WellFormed.{form-tests}
@@ -17,23 +17,14 @@ use Rattle.theorem.proofs.Condition3.{condition3-holds}
 use Rattle.run_by_frames.specs.Reply.{EndedIs, ended}
 use Rattle.run_by_frames.specs.Turn.{Never-stuck}
 use Rattle.run_by_frames.specs.declared.Ended.{Ended}
-use Rattle.run.specs.Run.{reply-of, words-put}
+use Rattle.run.specs.Run.{answered, stopped-at, ends}
 use Rattle.run.specs.declared.Reply.{Reply}
 
-abbrev pub reply-in : Ended → Reply
-reply-in e =
-    record { number = e .number; place = 0; steps = e .steps; put = e .put; procedure = e .procedure; instruction = e .instruction }
-
-pub record Replies (e : Ended) (before output : List ℕ) (x : End) : Type 0 where
-  pub reply : reply-in e ≡ reply-of x
-  pub written-is : output ≡ written before (words-put x)
-
-pub replies : (e : Ended) (before output : List ℕ) (x : End) → EndedIs e before output x → Replies e before output x
-replies e before output (stopped x n put p i) (ended a b c d f o) =
-    record {
-      reply = λ k. record { number = a k; place = 0; steps = b k; put = c k; procedure = d k; instruction = f k };
-      written-is = o;
-    }
+-- what is answered at an end that the machine's answer is
+pub answers : {m : Mode} {sheet input : List ℕ} {fuel : ℕ} {memory output output′ : List ℕ} (e : Ended) (r : Reply) (zeros : List ℕ) (x : End)
+    → r ≡ stopped-at (e .number) (e .steps) (e .put) (e .procedure) (e .instruction) → zeros ≡ replicate (length memory) 0 → EndedIs e output output′ x
+    → ends m sheet input fuel memory output x ≡ some (answered r zeros output′)
+answers e r zeros (stopped x n put p i) q z (ended a b c d f o) = rw (q, z, a, b, c, d, f, o)
 
 pub formed-sheet : (s : List ℕ) → check s ≡ Accepted → verdict (form-tests s) ≡ Accepted
 unfolding check check-tests

@@ -2,13 +2,13 @@
 -- They are one definition: the mode tells which machine runs, and what is refused first.
 use Prim.Native.Nat.{ℕ}
 use mathlib.Core.Bool.{Bool, cond}
-use mathlib.Core.List.{List, []}
+use mathlib.Core.List.{List}
+use mathlib.Core.Option.{Option, none, some}
 use lib.Dec.{leb}
 use lib.ListN.{length, replicate}
 use Rattle.model.specs.Modes.{Mode, plain, watched}
 use Rattle.model.specs.Outcome.{stop-number}
 use Rattle.model.specs.Refusal.{big-memory, verdict, refusal-number}
-
 use Rattle.model.specs.Run.{End, stopped, stuck-at, run, written}
 use Rattle.model.specs.declared.Verdict.{Verdict}
 use Rattle.model.specs.declared.Verdict.the-variants.{Accepted, Refused}
@@ -17,19 +17,22 @@ use Rattle.form.specs.WellFormed.{form-tests}
 use Rattle.checking.specs.Check.{check}
 use Rattle.run.specs.declared.Reply.{Reply}
 
+-- what is said, and the memory and the output afterwards
+pub record Answer : Type 0 where
+  pub reply : Reply
+  pub memory : List ℕ
+  pub output : List ℕ
+
+abbrev pub answered : Reply → (memory output : List ℕ) → Answer
+answered r memory output = record { reply = r; memory = memory; output = output }
+
 -- "1 to 10 are refusals, with the byte at which the record starts"
 abbrev pub refused : (number place : ℕ) → Reply
 refused n at = record { number = n; place = at; steps = 0; put = 0; procedure = 0; instruction = 0 }
 
--- "11 to 19 are stops, with steps, words put, procedure and instruction"; condition 3 says that no accepted sheet is stuck, and the watched machine never is
-abbrev pub reply-of : End → Reply
-reply-of (stopped x n put p i) =
-    record { number = stop-number x; place = 0; steps = n; put = length put; procedure = p; instruction = i }
-reply-of (stuck-at n put p i) = record { number = 18; place = 0; steps = n; put = length put; procedure = p; instruction = i }
-
-abbrev pub words-put : End → List ℕ
-words-put (stopped x n put p i) = put
-words-put (stuck-at n put p i) = put
+-- "11 to 19 are stops, with steps, words put, procedure and instruction"
+abbrev pub stopped-at : (number steps put procedure instruction : ℕ) → Reply
+stopped-at k n w p i = record { number = k; place = 0; steps = n; put = w; procedure = p; instruction = i }
 
 -- "run an accepted one on the plain machine; watch a well-formed one on the watched machine": "watch all but 6 to 9"
 abbrev pub verdict-before : Mode → List ℕ → Verdict
@@ -45,25 +48,19 @@ module _ (m : Mode) (sheet input : List ℕ) (fuel : ℕ) (memory output : List 
   unfoldable pub memory-fits : Bool
   memory-fits = leb (length memory) 65536
 
-  abbrev pub reply-by : Verdict → Reply
-  reply-by (Refused n at) = refused n at
-  reply-by Accepted = cond memory-fits (reply-of end) (refused (refusal-number big-memory) 0)
+  -- a refusal: "bench and report untouched"
+  abbrev pub refuses : (number place : ℕ) → Option Answer
+  refuses n at = some (answered (refused n at) memory output)
 
-  -- "memory ends all zero"; "untouched by every refusal"
-  abbrev pub memory-by : Verdict → List ℕ
-  memory-by (Refused n at) = memory
-  memory-by Accepted = cond memory-fits (replicate (length memory) 0) memory
+  -- a stop: "memory ends all zero"; "the output holds the words put, in order from its first word, and keeps its other words".
+  -- A stuck end has no answer and no number: condition 3 shows that it is never asked for.
+  abbrev pub ends : End → Option Answer
+  ends (stopped x n put p i) = some (answered (stopped-at (stop-number x) n (length put) p i) (replicate (length memory) 0) (written output put))
+  ends (stuck-at n put p i) = none
 
-  -- "the output holds the words put, in order from its first word, and keeps its other words"
-  abbrev pub output-by : Verdict → List ℕ
-  output-by (Refused n at) = output
-  output-by Accepted = cond memory-fits (written output (words-put end)) output
+  abbrev pub answer-by : Verdict → Option Answer
+  answer-by (Refused n at) = refuses n at
+  answer-by Accepted = cond memory-fits (ends end) (refuses (refusal-number big-memory) 0)
 
-  unfoldable pub reply : Reply
-  reply = reply-by (verdict-before m sheet)
-
-  unfoldable pub memory-after : List ℕ
-  memory-after = memory-by (verdict-before m sheet)
-
-  unfoldable pub output-after : List ℕ
-  output-after = output-by (verdict-before m sheet)
+  unfoldable pub answer : Option Answer
+  answer = answer-by (verdict-before m sheet)

@@ -7,6 +7,7 @@ use run_by_frames::Ended;
 use run_by_frames::run::run_in;
 use words::clear;
 ghost use mathlib.Core.Path.{_≡_};
+ghost use mathlib.Core.Option.{some};
 ghost use Prim.Native.Nat.{_≤_};
 ghost use lib.ListN.{length};
 ghost use Rattle.model.specs.Modes.{plain, watched};
@@ -14,7 +15,7 @@ ghost use Rattle.model.specs.Refusal.{verdict};
 ghost use Rattle.model.specs.declared.Verdict.the-variants.{Accepted};
 ghost use Rattle.form.specs.WellFormed.{form-tests};
 ghost use Rattle.run_by_frames.specs.Turn.{mode-of, Never-stuck};
-ghost use Rattle.run.specs.Run.{refused, end, reply-by, memory-by, output-by, reply, memory-after, output-after};
+ghost use Rattle.run.specs.Run.{answered, refused, stopped-at, end, answer-by, answer};
 
 // What a run says: the number and place of a refusal; or the number of the stop, steps, words put, procedure and instruction.
 pub struct Reply {
@@ -40,7 +41,7 @@ fn refusal(number: u8, place: usize) -> Reply
 }
 
 fn stop(e: Ended) -> Reply
-    ensures { λ r. ⌜ r ≡ record { number = e .number; place = 0; steps = e .steps; put = e .put; procedure = e .procedure; instruction = e .instruction } ⌝ }
+    ensures { λ r. ⌜ r ≡ stopped-at (e .number) (e .steps) (e .put) (e .procedure) (e .instruction) ⌝ }
 {
     Reply {
         number: e.number as u64,
@@ -63,9 +64,7 @@ fn run_lent(
 ) -> Reply
     requires { ⌜ verdict (form-tests (now sheet)) ≡ Accepted ⌝ }
     requires { ⌜ (length (now memory) ≤ 65536 → Never-stuck (end (mode-of watch) (now sheet) (now input) fuel (now memory) (now output))) ⌝ }
-    ensures { λ r. ⌜ r ≡ reply-by (mode-of watch) (now (sheet .entry)) (now (input .entry)) fuel (now (memory .entry)) (now (output .entry)) Accepted ⌝ }
-    ensures { λ r. ⌜ now (memory .exit) ≡ memory-by (mode-of watch) (now (sheet .entry)) (now (input .entry)) fuel (now (memory .entry)) (now (output .entry)) Accepted ⌝ }
-    ensures { λ r. ⌜ now (output .exit) ≡ output-by (mode-of watch) (now (sheet .entry)) (now (input .entry)) fuel (now (memory .entry)) (now (output .entry)) Accepted ⌝ }
+    ensures { λ r. ⌜ answer-by (mode-of watch) (now (sheet .entry)) (now (input .entry)) fuel (now (memory .entry)) (now (output .entry)) Accepted ≡ some (answered r (now (memory .exit)) (now (output .exit))) ⌝ }
 {
     if 65536 < memory.len() {
         return refusal(10, 0);
@@ -78,9 +77,7 @@ fn run_lent(
 
 // Refuses with 1 to 10 and touches neither memory nor output, or runs and stops with 11 to 17.
 pub fn run(sheet: &[u8], input: &[u32], fuel: u64, memory: &mut [u64], output: &mut [u32]) -> Reply
-    ensures { λ r. ⌜ r ≡ reply plain (now (sheet .entry)) (now (input .entry)) fuel (now (memory .entry)) (now (output .entry)) ⌝ }
-    ensures { λ r. ⌜ now (memory .exit) ≡ memory-after plain (now (sheet .entry)) (now (input .entry)) fuel (now (memory .entry)) (now (output .entry)) ⌝ }
-    ensures { λ r. ⌜ now (output .exit) ≡ output-after plain (now (sheet .entry)) (now (input .entry)) fuel (now (memory .entry)) (now (output .entry)) ⌝ }
+    ensures { λ r. ⌜ answer plain (now (sheet .entry)) (now (input .entry)) fuel (now (memory .entry)) (now (output .entry)) ≡ some (answered r (now (memory .exit)) (now (output .exit))) ⌝ }
 {
     match check(sheet) {
         Verdict::Refused(number, place) => refusal(number, place),
@@ -96,9 +93,7 @@ pub fn watch(
     memory: &mut [u64],
     output: &mut [u32],
 ) -> Reply
-    ensures { λ r. ⌜ r ≡ reply watched (now (sheet .entry)) (now (input .entry)) fuel (now (memory .entry)) (now (output .entry)) ⌝ }
-    ensures { λ r. ⌜ now (memory .exit) ≡ memory-after watched (now (sheet .entry)) (now (input .entry)) fuel (now (memory .entry)) (now (output .entry)) ⌝ }
-    ensures { λ r. ⌜ now (output .exit) ≡ output-after watched (now (sheet .entry)) (now (input .entry)) fuel (now (memory .entry)) (now (output .entry)) ⌝ }
+    ensures { λ r. ⌜ answer watched (now (sheet .entry)) (now (input .entry)) fuel (now (memory .entry)) (now (output .entry)) ≡ some (answered r (now (memory .exit)) (now (output .exit))) ⌝ }
 {
     let table = places(sheet);
     match well_formed(sheet, &table) {

@@ -7,7 +7,7 @@ use Rattle.model.specs.Program.{Program}
 use Rattle.model.specs.Modes.{Mode, plain, watched, amiss}
 use Rattle.model.specs.Machine.{Cell, Object, Frame, frame, State, state, View, view, Next, go, finished, Effect, write, take, put, jump, skip, new-array, new-record, store, call, resume, finish, plan-array, plan-record, plan-fetch, plan-store, plan-size, plan-get, plan-set, plan-call, into-caller, to-caller, plan-return, gives, branch, plan, apply, step}
 use Rattle.model.specs.Run.{opened}
-use Rattle.model.specs.Claim.{Formed, Formed-at}
+use Rattle.model.proofs.Formed.{Formed, Formed-at}
 use Rattle.model.specs.declared.Operation.{Operation}
 use Rattle.model.specs.declared.Operation.the-variants.{Set, Add, Subtract, Less, JumpZero, Bind, Take, Put, NewArray, Fetch, Store, Size, NewRecord, GetSlot, SetSlot, Call, Return}
 use Rattle.run_by_frames.specs.Inside.{At, Waiting, bottom, waits, Inside}

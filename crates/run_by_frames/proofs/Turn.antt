@@ -1,7 +1,6 @@
 -- One turn of a run, from registers that stand for a state inside the program.
 use Prim.Native.Nat.{ℕ, zero, suc, _+_, _-_, _≤_, _<_}
 use native.Mathlib.Omega.{arith}
-use native.Mathlib.Nat.{sub-zero}
 use native.Mathlib.Numerals.{add-one}
 use mathlib.Core.Path.{_≡_, refl, sym, ap, subst, _∙_}
 use mathlib.Core.List.{List}
@@ -12,7 +11,8 @@ use Rattle.model.specs.Refusal.{verdict}
 use Rattle.model.specs.Program.{Program}
 use Rattle.model.specs.Modes.{Mode}
 use Rattle.model.specs.Machine.{frame, State, state, Next, go, finished, view, plan, step}
-use Rattle.model.specs.Run.{End, end-in, stuck-in, settle, run-from, opened, run}
+use Rattle.model.specs.Run.{End, end-in, stuck-in, running, settle, end-of, advance, opened, start, trace, run}
+use Rattle.model.proofs.AnyProgram.{IsOver, over-run}
 use Rattle.model.specs.declared.Verdict.the-variants.{Accepted}
 use Rattle.sheet.specs.Layout.{variablesAt, instructionAt, procedureAt}
 use Rattle.sheet.specs.Decode.{operationAt}
@@ -33,7 +33,7 @@ use Rattle.run_by_frames.specs.Reply.{EndedIs, ended}
 use Rattle.run_by_frames.specs.Inside.{Inside}
 use Rattle.run_by_frames.specs.declared.Paused.{Paused}
 use Rattle.run_by_frames.specs.declared.Paused.the-variants as P
-use Rattle.run_by_frames.specs.Turn.{Never-stuck, begun, Going, Begun, PausedIs}
+use Rattle.run_by_frames.specs.Turn.{Never-stuck, whole-run, Going, Begun, PausedIs}
 use Rattle.run_by_frames.proofs.Inside.{yielded, step-inside, opened-inside}
 
 -- what is told at a stop
@@ -77,19 +77,19 @@ module _ (m : Mode) (c : Given) (words out : List ℕ) (r : Registers) where
 
   -- a step that the definition is not stuck at
   module _ (words′ out′ : List ℕ) where
-    module _ (n : ℕ) (more : State m → End) (t : State m) (s : StandsFor m c words out r t) where
+    module _ (n : ℕ) (t : State m) (s : StandsFor m c words out r t) where
       halted : (k : ℕ) (q : Res (Next m)) → (q ≡ stuck → ⊥) → After m c words′ out out′ r (S.Halt k) q
-          → EndedIs (told r k n) (c .output) out′ (settle n t more q)
+          → IsOver (settle n t q) × EndedIs (told r k n) (c .output) out′ (end-of (settle n t q))
       unfolding settle
       halted k (ok x) free h = absurd h
-      halted k (stop x) free h = ends t s x k n out′ (h .0) (h .1)
+      halted k (stop x) free h = (tt, ends t s x k n out′ (h .0) (h .1))
       halted k stuck free h = absurd (free refl)
 
       finishes : (q : Res (Next m)) → (q ≡ stuck → ⊥) → After m c words′ out out′ r S.Done q
-          → EndedIs (told r 11 (n + 1)) (c .output) out′ (settle n t more q)
+          → IsOver (settle n t q) × EndedIs (told r 11 (n + 1)) (c .output) out′ (end-of (settle n t q))
       unfolding settle
       finishes (ok (go u)) free h = absurd h
-      finishes (ok finished) free h = rw add-one (ends t s done 11 (suc n) out′ refl h)
+      finishes (ok finished) free h = (tt, rw add-one (ends t s done 11 (suc n) out′ refl h))
       finishes (stop x) free h = absurd h
       finishes stuck free h = absurd (free refl)
 
@@ -108,36 +108,34 @@ module _ (m : Mode) (c : Given) (words out : List ℕ) (r : Registers) where
     entered q (stop x) free h = absurd h
     entered q stuck free h = absurd (free refl)
 
-module _ (m : Mode) (g : Program) (memory output fuel n : ℕ) (t : State m) (h : n < fuel) where
-  one-more : (u : State m) → step g memory output t ≡ ok (go u)
-      → run-from m g memory output (fuel - n) n t ≡ run-from m g memory output (fuel - (n + 1)) (n + 1) u
-  unfolding run-from settle
-  one-more u e =
-      let left : fuel - n ≡ suc (fuel - (n + 1)) = omega arith in
-      rw (left, e, add-one)
+-- a run that stands at a state after n steps, and has fuel for one more
+module _ (m : Mode) (g : Program) (memory output : ℕ) (input : List ℕ) (fuel n : ℕ) (t : State m) (at : trace m g memory output input n ≡ running n t) (h : n < fuel) where
+  settles : trace m g memory output input (suc n) ≡ settle n t (step g memory output t)
+  unfolding trace advance
+  settles = rw at
 
-  one-stuck : step g memory output t ≡ stuck → run-from m g memory output (fuel - n) n t ≡ stuck-in n t
-  unfolding run-from settle
-  one-stuck e =
-      let left : fuel - n ≡ suc (fuel - (n + 1)) = omega arith in
-      rw (left, e)
+  one-more : (u : State m) → step g memory output t ≡ ok (go u) → trace m g memory output input (n + 1) ≡ running (n + 1) u
+  unfolding settle
+  one-more u e = rw add-one (settles ∙ rw e)
 
-not-stuck-in : (m : Mode) (n : ℕ) (t : State m) (x : End) → Never-stuck x → stuck-in n t ≡ x → ⊥
-not-stuck-in m n (state (frame p i vs) fs os input put) x free e = free n put p i (sym e)
+  ends-there : IsOver (settle n t (step g memory output t)) → run m g memory output input fuel ≡ end-of (settle n t (step g memory output t))
+  ends-there o = over-run m g memory output input (suc n) fuel _ settles o (omega arith)
+
+  one-stuck : step g memory output t ≡ stuck → run m g memory output input fuel ≡ stuck-in n t
+  unfolding settle
+  one-stuck e = rw e at (ends-there (rw e tt))
+
+not-stuck-in : (m : Mode) (n : ℕ) (t : State m) (x : End) → Never-stuck x → x ≡ stuck-in n t → ⊥
+not-stuck-in m n (state (frame p i vs) fs os input put) x free e = free n put p i e
 
 -- ---- one turn
-
--- with room for main's frame a run is that from the open frame on
-pub run-is : (m : Mode) (c : Given) (memory fuel : ℕ) → variablesAt (c .sheet) (procedureAt (c .sheet) 0) + 2 ≤ memory
-    → run m (programOf (c .sheet)) memory (length (c .output)) (c .input) fuel ≡ begun m c memory fuel
-unfolding run
-run-is m c memory fuel h = rw (le-leb _ _ h)
 
 pub starts : (m : Mode) (c : Given) (memory : ℕ) (words : List ℕ) (r : Registers) (fuel : ℕ) → verdict (form-tests (c .sheet)) ≡ Accepted
     → variablesAt (c .sheet) (procedureAt (c .sheet) 0) + 2 ≤ memory → length words ≡ memory
     → StandsFor m c words (c .output) r (opened m (programOf (c .sheet)) memory (length (c .output)) (c .input))
     → Never-stuck (run m (programOf (c .sheet)) memory (length (c .output)) (c .input) fuel)
     → Going m c memory fuel 0 words (c .output) r
+unfolding trace start
 starts m c memory words r fuel wf room long S free =
     record {
       now = opened m (programOf (c .sheet)) memory (length (c .output)) (c .input);
@@ -145,16 +143,18 @@ starts m c memory words r fuel wf room long S free =
       inside = opened-inside m (programOf (c .sheet)) (formed (c .sheet) wf) memory (length (c .output)) (c .input);
       long = long;
       put-long = refl;
-      rest = rw sub-zero;
-      free = subst Never-stuck (run-is m c memory fuel room) free;
+      reached = rw (le-leb _ _ room);
+      paid = omega arith;
+      free = free;
     }
 
 pub spent : (m : Mode) (c : Given) (memory fuel n : ℕ) (words out : List ℕ) (r : Registers) → Going m c memory fuel n words out r → fuel ≤ n
-    → EndedIs (told r 12 n) (c .output) out (begun m c memory fuel)
-unfolding run-from
+    → EndedIs (told r 12 n) (c .output) out (whole-run m c memory fuel)
+unfolding run
 spent m c memory fuel n words out r G h =
-    let e : fuel - n ≡ zero = omega arith in
-    rw (← G .rest, e) (ends m c words out r (G .now) (G .stands) fuel-spent 12 n out refl refl)
+    let l = G .paid in
+    let e : fuel ≡ n = omega arith in
+    rw (e, G .reached) (ends m c words out r (G .now) (G .stands) fuel-spent 12 n out refl refl)
 
 -- every run of this sheet and input that stood there after `made` steps stands here after n
 abbrev pub Kept : (m : Mode) → (s input : List ℕ) → (memory fuel made : ℕ) → (words out : List ℕ) → Registers → (n : ℕ) → (words′ out′ : List ℕ) → Registers → Type 0
@@ -183,9 +183,6 @@ module _ (m : Mode) (s input : List ℕ) (wf : verdict (form-tests s) ≡ Accept
   )
 
   module _ (words′ out′ : List ℕ) (o : Stepped) (h : n < fuel) (performs : Performs m s input words words′ out out′ r o (operationAt s (place-in r))) where
-    left : fuel - n ≡ suc (fuel - (n + 1))
-    left = omega arith
-
     taken : After m c words′ out out′ r o (step (programOf (c .sheet)) memory (length (c .output)) (G .now))
     taken =
         rw (← G .long, ← G .put-long, ← same-step m c words out r (G .now) (G .stands))
@@ -195,16 +192,20 @@ module _ (m : Mode) (s input : List ℕ) (wf : verdict (form-tests s) ≡ Accept
 
     never : step (programOf (c .sheet)) memory (length (c .output)) (G .now) ≡ stuck → ⊥
     never e =
-        not-stuck-in m n (G .now) (begun m c memory fuel) (G .free)
-        (sym (one-stuck m (programOf (c .sheet)) memory (length (c .output)) fuel n (G .now) h e) ∙ G .rest)
+        not-stuck-in m n (G .now) (whole-run m c memory fuel) (G .free)
+        (one-stuck m (programOf (c .sheet)) memory (length (c .output)) (c .input) fuel n (G .now) (G .reached) h e)
 
-    pub halts : (k : ℕ) → o ≡ S.Halt k → EndedIs (told r k n) (c .output) out′ (begun m c memory fuel)
-    unfolding run-from
-    halts k e = rw (← G .rest, left) (halted m c words out r words′ out′ n _ (G .now) (G .stands) k _ never (rw e at taken))
+    ended-as : (e : Ended)
+        → IsOver (settle n (G .now) (step (programOf (c .sheet)) memory (length (c .output)) (G .now)))
+        × EndedIs e (c .output) out′ (end-of (settle n (G .now) (step (programOf (c .sheet)) memory (length (c .output)) (G .now))))
+        → EndedIs e (c .output) out′ (whole-run m c memory fuel)
+    ended-as e a = rw (ends-there m (programOf (c .sheet)) memory (length (c .output)) (c .input) fuel n (G .now) (G .reached) h (a .0)) (a .1)
 
-    pub completes : o ≡ S.Done → EndedIs (told r 11 (n + 1)) (c .output) out′ (begun m c memory fuel)
-    unfolding run-from
-    completes e = rw (← G .rest, left) (finishes m c words out r words′ out′ n _ (G .now) (G .stands) _ never (rw e at taken))
+    pub halts : (k : ℕ) → o ≡ S.Halt k → EndedIs (told r k n) (c .output) out′ (whole-run m c memory fuel)
+    halts k e = ended-as _ (halted m c words out r words′ out′ n (G .now) (G .stands) k _ never (rw e at taken))
+
+    pub completes : o ≡ S.Done → EndedIs (told r 11 (n + 1)) (c .output) out′ (whole-run m c memory fuel)
+    completes e = ended-as _ (finishes m c words out r words′ out′ n (G .now) (G .stands) _ never (rw e at taken))
 
     module _ (lw : length words′ ≡ length words) (lo : length out′ ≡ length out) where
       reaches : (q : Registers) → (t : State m) × ((step (programOf (c .sheet)) memory (length (c .output)) (G .now) ≡ ok (go t)) × StandsFor m c words′ out′ q t)
@@ -216,7 +217,8 @@ module _ (m : Mode) (s input : List ℕ) (wf : verdict (form-tests s) ≡ Accept
             inside = yielded (rw (a .1 .0) at (step-inside m (programOf (c .sheet)) (formed (c .sheet) well) memory (length (c .output)) (G .now) (G .inside)));
             long = lw ∙ G .long;
             put-long = lo ∙ G .put-long;
-            rest = sym (one-more m (programOf (c .sheet)) memory (length (c .output)) fuel n (G .now) h (a .0) (a .1 .0)) ∙ G .rest;
+            reached = one-more m (programOf (c .sheet)) memory (length (c .output)) (c .input) fuel n (G .now) (G .reached) h (a .0) (a .1 .0);
+            paid = omega arith;
             free = G .free;
           }
 
@@ -251,5 +253,5 @@ module _ {m : Mode} {c : Given} {memory fuel n : ℕ} {words out : List ℕ} {r 
   pub enters-frame : (q : Registers) (k : ℕ) → p ≡ P.Enter q k → (n < k) × ((k ≤ fuel) × Going m c memory fuel k words′ out′ q)
   enters-frame q k e = subst (λ (z : ℕ). PausedIs m c z fuel n words′ out′ (P.Enter q k)) (G .long) (rw e at (paused (begins-frame G)))
 
-  pub ends-frame : (e : Ended) → p ≡ P.End e → EndedIs e (c .output) out′ (begun m c memory fuel)
+  pub ends-frame : (e : Ended) → p ≡ P.End e → EndedIs e (c .output) out′ (whole-run m c memory fuel)
   ends-frame e is = subst (λ (z : ℕ). PausedIs m c z fuel n words′ out′ (P.End e)) (G .long) (rw is at (paused (begins-frame G)))

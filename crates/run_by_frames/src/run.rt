@@ -22,7 +22,7 @@ ghost use Rattle.writers.specs.Memory.{Given, Sane, StandsFor};
 ghost use Rattle.frames.specs.Performs.{Loaded, Performs};
 ghost use Rattle.frames.specs.Fetch.{Fetchable, place-in};
 ghost use Rattle.run_by_frames.specs.Reply.{EndedIs};
-ghost use Rattle.run_by_frames.specs.Turn.{mode-of, Never-stuck, Going, Begun, PausedIs, begun};
+ghost use Rattle.run_by_frames.specs.Turn.{mode-of, Never-stuck, Going, Begun, PausedIs, whole-run};
 
 // Main's frame, at the end of the memory; no frame waits for it.
 pub fn open_main(s: &[u8], table: &[u32; 65], memory: &mut [u64], v: usize) -> Registers
@@ -146,7 +146,7 @@ fn run_frames(
 ) -> Ended
     requires { ⌜ Loaded (now s) (now table) ⌝ }
     requires { ⌜ Going (mode-of watch) (record { sheet = now s; input = now input; output = now output }) (length (now memory)) fuel 0 (now memory) (now output) start ⌝ }
-    ensures { λ e. ⌜ EndedIs e (now (output .entry)) (now (output .exit)) (begun (mode-of watch) (record { sheet = now (s .entry); input = now (input .entry); output = now (output .entry) }) (length (now (memory .entry))) fuel) ⌝ }
+    ensures { λ e. ⌜ EndedIs e (now (output .entry)) (now (output .exit)) (whole-run (mode-of watch) (record { sheet = now (s .entry); input = now (input .entry); output = now (output .entry) }) (length (now (memory .entry))) fuel) ⌝ }
 {
     let mut r = start;
     let mut n: u64 = 0;

@@ -12,7 +12,7 @@ use Rattle.writers.specs.Memory.{Given}
 use Rattle.frames.specs.Performs.{Loaded, Performs}
 use Rattle.frames.specs.Fetch.{place-in}
 use Rattle.run_by_frames.specs.Reply.{EndedIs}
-use Rattle.run_by_frames.specs.Turn.{begun, Going}
+use Rattle.run_by_frames.specs.Turn.{whole-run, Going}
 use Rattle.run_by_frames.proofs.Turn.{told, ready, halts, completes, goes, enters}
 use Rattle.run_by_steps.specs.declared.Counted.{Counted}
 use Rattle.run_by_steps.specs.declared.Turn.{Turn}
@@ -45,20 +45,20 @@ module _ (m : Mode) (c : Given) (table : List ℕ) (loaded : Loaded (c .sheet) t
     abbrev Did : Stepped → Type 0
     Did x = Performs m (c .sheet) (c .input) words words′ out out′ (r .registers) x (operationAt (c .sheet) (place-in (r .registers)))
 
-    halts-at : (x : Stepped) → Did x → (k : ℕ) → Halt k ≡ turned r x → EndedIs (told (r .registers) k (r .steps)) (c .output) out′ (begun m c memory fuel)
+    halts-at : (x : Stepped) → Did x → (k : ℕ) → Halt k ≡ turned r x → EndedIs (told (r .registers) k (r .steps)) (c .output) out′ (whole-run m c memory fuel)
     halts-at (S.Go q) did k e = absurd (let z = ap kind e in omega arith)
     halts-at (S.Enter q) did k e = absurd (let z = ap kind e in omega arith)
     halts-at (S.Halt j) did k e =
-        subst (λ (n : ℕ). EndedIs (told (r .registers) n (r .steps)) (c .output) out′ (begun m c memory fuel)) (sym (ap stop-of e))
+        subst (λ (n : ℕ). EndedIs (told (r .registers) n (r .steps)) (c .output) out′ (whole-run m c memory fuel)) (sym (ap stop-of e))
         (halts m (c .sheet) (c .input) (loaded .formed) c refl refl memory fuel (r .steps) words out (r .registers) G words′ out′ (S.Halt j) h did j refl)
     halts-at S.Done did k e = absurd (let z = ap kind e in omega arith)
 
-    done-at : (x : Stepped) → Did x → (q : Counted) → Done q ≡ turned r x → EndedIs (told (q .registers) 11 (q .steps)) (c .output) out′ (begun m c memory fuel)
+    done-at : (x : Stepped) → Did x → (q : Counted) → Done q ≡ turned r x → EndedIs (told (q .registers) 11 (q .steps)) (c .output) out′ (whole-run m c memory fuel)
     done-at (S.Go p) did q e = absurd (let z = ap kind e in omega arith)
     done-at (S.Enter p) did q e = absurd (let z = ap kind e in omega arith)
     done-at (S.Halt j) did q e = absurd (let z = ap kind e in omega arith)
     done-at S.Done did q e =
-        subst (λ (n : Counted). EndedIs (told (n .registers) 11 (n .steps)) (c .output) out′ (begun m c memory fuel)) (sym (ap (after-turn r) e))
+        subst (λ (n : Counted). EndedIs (told (n .registers) 11 (n .steps)) (c .output) out′ (whole-run m c memory fuel)) (sym (ap (after-turn r) e))
         (completes m (c .sheet) (c .input) (loaded .formed) c refl refl memory fuel (r .steps) words out (r .registers) G words′ out′ S.Done h did refl)
 
     module _ (lw : length words′ ≡ length words) (lo : length out′ ≡ length out) where
@@ -73,10 +73,10 @@ module _ (m : Mode) (c : Given) (table : List ℕ) (loaded : Loaded (c .sheet) t
       goes-to S.Done did q e = absurd (let z = ap kind e in omega arith)
 
     module _ (o : Turn) (t : TurnIs m (c .sheet) (c .input) words words′ out out′ r o) where
-      pub turn-halts : (k : ℕ) → o ≡ Halt k → EndedIs (told (r .registers) k (r .steps)) (c .output) out′ (begun m c memory fuel)
+      pub turn-halts : (k : ℕ) → o ≡ Halt k → EndedIs (told (r .registers) k (r .steps)) (c .output) out′ (whole-run m c memory fuel)
       turn-halts k e = halts-at (t .stepped) (t .performs) k (sym e ∙ t .counts)
 
-      pub turn-done : (q : Counted) → o ≡ Done q → EndedIs (told (q .registers) 11 (q .steps)) (c .output) out′ (begun m c memory fuel)
+      pub turn-done : (q : Counted) → o ≡ Done q → EndedIs (told (q .registers) 11 (q .steps)) (c .output) out′ (whole-run m c memory fuel)
       turn-done q e = done-at (t .stepped) (t .performs) q (sym e ∙ t .counts)
 
       pub turn-goes : length words′ ≡ length words → length out′ ≡ length out → (q : Counted) → o ≡ Go q

@@ -14,7 +14,7 @@ ghost use Rattle.model.specs.Run.{run};
 ghost use Rattle.sheet.specs.Meaning.{programOf};
 ghost use Rattle.frames.specs.Performs.{Loaded};
 ghost use Rattle.run_by_frames.specs.Reply.{EndedIs};
-ghost use Rattle.run_by_frames.specs.Turn.{Never-stuck, Going, begun};
+ghost use Rattle.run_by_frames.specs.Turn.{Never-stuck, Going, whole-run};
 
 // From main's open frame on.
 fn run_turns(
@@ -28,7 +28,7 @@ fn run_turns(
 ) -> Ended
     requires { ⌜ Loaded (now s) (now table) ⌝ }
     requires { ⌜ Going plain (record { sheet = now s; input = now input; output = now output }) (length (now memory)) fuel 0 (now memory) (now output) start ⌝ }
-    ensures { λ e. ⌜ EndedIs e (now (output .entry)) (now (output .exit)) (begun plain (record { sheet = now (s .entry); input = now (input .entry); output = now (output .entry) }) (length (now (memory .entry))) fuel) ⌝ }
+    ensures { λ e. ⌜ EndedIs e (now (output .entry)) (now (output .exit)) (whole-run plain (record { sheet = now (s .entry); input = now (input .entry); output = now (output .entry) }) (length (now (memory .entry))) fuel) ⌝ }
 {
     let mut r = Counted {
         registers: start,

@@ -26,7 +26,7 @@ module _ (s : List ℕ) (h : check s ≡ Accepted) where
 
 pub condition3-holds : Claim
 condition3-holds s h memory small input output words fuel =
-    condition3 (programOf s) (formed s (form-holds s h)) (access-holds s h) memory (length output) input fuel
+    condition3 (programOf s) (formed s (form-holds s h)) (access-holds s h) memory input output fuel
 
 pub open-stays-holds : OpenClaim
 open-stays-holds s h memory input output fuel n =

@@ -1,5 +1,2 @@
 pub mod Formed
 pub mod Condition3
-pub mod Computing
-pub mod Exhibit
-pub mod Vectors

@@ -14,7 +14,7 @@ use Rattle.checking.specs.Check.{check}
 
 -- "For every accepted worksheet, whatever the reads, fuel, report, and memory up to 65,536 words"
 -- (reads and report words have 32 bits): (a) the plain machine is never stuck; (b) the watched machine ends with the same stop, steps, words put and place,
--- and so the same report; (c) never with 18 or 19; (d) after every number of steps each filled variable, cell and slot holds a value of its declared type
+-- and with the same report, in all its words; (c) never with 18 or 19; (d) after every number of steps each filled variable, cell and slot holds a value of its declared type
 -- with exactly its declared rights
 abbrev pub Claim : Type 0
 Claim =
@@ -22,7 +22,7 @@ Claim =
     (memory : ℕ) → memory ≤ 65536 →
     (input output : List ℕ) → ((k : ℕ) → getD input k 0 < 2 ^ 32) →
     (fuel : ℕ) →
-    Condition3 (programOf sheet) memory (length output) input fuel
+    Condition3 (programOf sheet) memory input output fuel
 
 -- open does not leave its module: after every number of steps a place that carries it is a variable of a frame whose procedure is owned by that type
 abbrev pub OpenClaim : Type 0

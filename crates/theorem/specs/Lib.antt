@@ -1,3 +1,1 @@
 pub mod Condition3
-pub mod Exhibit
-pub mod Vectors

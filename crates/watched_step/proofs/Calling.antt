@@ -9,12 +9,12 @@ use borrow.Author.Tests.{le-leb, lt-leb}
 use lib.Dec.{eqb}
 use lib.ListN.{length, take, drop, set, length-set, length-drop}
 use lib.Seq.{take-set-le, drop-set-lt, drop-set-add, take-suc-set}
-use Rattle.model.specs.Rules.{optional}
+use Rattle.model.specs.Rules.{optional, keeps}
 use Rattle.model.specs.Outcome.{wrong-kind, memory-full, Res, ok, stop, stuck, ensure, _>>=_, _>>_}
 use Rattle.model.specs.Program.{Program}
 use Rattle.model.specs.Modes.{watched, demand}
 use Rattle.model.specs.Machine as M
-use Rattle.model.specs.Machine.{Cell, frame, state, View, view, apply, actual, actuals, plan, plan-call, keeps-well}
+use Rattle.model.specs.Machine.{Cell, frame, state, View, view, apply, actual, actuals, plan, plan-call}
 use Rattle.model.specs.declared.Operation.the-variants.{Call}
 use Rattle.sheet.specs.Layout.{formalsAt, variablesAt, instructionAt, resultAt}
 use Rattle.sheet.specs.Meaning.{qualOf, programOf, resultIn}
@@ -130,22 +130,22 @@ bound-all {s} {words} {words′} {r} {k} {b} {at} {f} B v S =
 -- ---- the call
 
 -- a result is kept and is not there
-keeps-is : (s : List ℕ) (pr a : ℕ) → keeps-well (optional a) (resultIn s pr) ≡ not (not (eqb a 255) && eqb (resultAt s pr) 255)
-unfolding optional resultIn
+keeps-is : (s : List ℕ) (pr a : ℕ) → keeps (optional a) (resultIn s pr) ≡ not (not (eqb a 255) && eqb (resultAt s pr) 255)
+unfolding keeps optional resultIn
 keeps-is s pr a = go (eqb a 255) (eqb (resultAt s pr) 255) refl refl
   where
     go : (x y : Bool) → eqb a 255 ≡ x → eqb (resultAt s pr) 255 ≡ y
-        → keeps-well (optional a) (resultIn s pr) ≡ not (not (eqb a 255) && eqb (resultAt s pr) 255)
+        → keeps (optional a) (resultIn s pr) ≡ not (not (eqb a 255) && eqb (resultAt s pr) 255)
     go true y p q = rw p
     go false true p q = rw (p, q)
     go false false p q = rw (p, q)
 
 module _ (g : Program) (v : View watched) (a b k : ℕ) where
-  plan-unkept : keeps-well (optional a) (g .result k) ≡ false → plan watched g v (Call a b k) ≡ stop wrong-kind
+  plan-unkept : keeps (optional a) (g .result k) ≡ false → plan watched g v (Call a b k) ≡ stop wrong-kind
   unfolding plan plan-call demand ensure _>>_
   plan-unkept e = rw e
 
-  module _ (kept : keeps-well (optional a) (g .result k) ≡ true) where
+  module _ (kept : keeps (optional a) (g .result k) ≡ true) where
     plan-full : v .room < g .variables k + 2 → plan watched g v (Call a b k) ≡ stop memory-full
     unfolding plan plan-call demand ensure _>>_
     plan-full h = rw (kept, lt-leb (g .variables k + 2) (v .room) h)
@@ -156,7 +156,7 @@ module _ (g : Program) (v : View watched) (a b k : ℕ) where
     plan-bound h x e = rw (kept, le-leb (g .variables k + 2) (v .room) h, e)
 
 module _ (s words : List ℕ) (r : Registers) (a b k pr : ℕ) (C : Callee s k pr) {t : ℕ} (result : t ≡ resultAt s pr) where
-  keeps-told : {x : Bool} → not (eqb a 255) && eqb t 255 ≡ x → keeps-well (optional a) (programOf s .result k) ≡ not x
+  keeps-told : {x : Bool} → not (eqb a 255) && eqb t 255 ≡ x → keeps (optional a) (programOf s .result k) ≡ not x
   keeps-told e = rw (C .place) (keeps-is s pr a ∙ rw (← result, e))
 
   pub call-unkept : not (eqb a 255) && eqb t 255 ≡ true → (input out : List ℕ) → Performs watched s input words words out out r (Halt 18) (Call a b k)

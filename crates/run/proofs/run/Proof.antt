@@ -1,7 +1,7 @@
 -- What check refuses is refused; an accepted sheet is never stuck, by condition 3.
 use mathlib.Core.Path.{sym, _∙_}
 use denote.Ref.{now}
-use Rattle.run.specs.Run.{reply, memory-after, output-after, end}
+use Rattle.run.specs.Run.{answer, end}
 use Rattle.run.proofs.Laws.{formed-sheet, never-stuck}
 use borrow.Author.Needs.{needs}
 use Rattle.run.proofs.run.Statement.{statement}
@@ -25,9 +25,9 @@ run-lent-requires c κs =
     let a = sym (c .before .before .before .before .check .ensures) ∙ c .before .before .enum-told .given .1 in (formed-sheet _ a, λ h. never-stuck _ a _ h _ (now (c .before .before .before .before .before .before .before .before .before .args .output)) (λ k. c .before .before .before .before .before .before .before .shared-slice-known2 .given k .fits) _)
 
 returns : tie.Need-returns
-unfolding reply memory-after output-after
+unfolding answer
 returns c =
-    let e = sym (c .before .before .before .before .check .ensures) ∙ c .before .before .number .given .1 in (rw e (c .refusal .ensures), (rw e, rw e))
+    let e = sym (c .before .before .before .before .check .ensures) ∙ c .before .before .number .given .1 in rw (e, c .refusal .ensures)
 
 same-length : tie.Need-same-length
 same-length c = search needs
@@ -36,9 +36,9 @@ same-length-2 : tie.Need-same-length-2
 same-length-2 c = search needs
 
 returns-2 : tie.Need-returns-2
-unfolding reply memory-after output-after
+unfolding answer
 returns-2 c =
-    let a = sym (c .before .before .before .before .before .before .before .before .before .check .ensures) ∙ c .before .before .before .before .before .before .before .enum-told .given .1 in (rw a (c .before .before .before .before .run-lent .ensures .0), (rw a (c .before .before .before .before .run-lent .ensures .1 .0), rw a (c .before .before .before .before .run-lent .ensures .1 .1)))
+    let a = sym (c .before .before .before .before .before .before .before .before .before .check .ensures) ∙ c .before .before .before .before .before .before .before .enum-told .given .1 in rw a (c .before .before .before .before .run-lent .ensures)
 
 pub run-spec : {M : Type 1} → statement M
 run-spec =

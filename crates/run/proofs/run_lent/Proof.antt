@@ -4,7 +4,7 @@ use Prim.Native.Nat.{ℕ}
 use lib.ListN.{replicate}
 use borrow.Author.Tests.{lt-leb, le-leb}
 use Rattle.run.specs.Run.{memory-fits, end}
-use Rattle.run.proofs.Laws.{replies}
+use Rattle.run.proofs.Laws.{answers}
 use borrow.Author.Needs.{needs}
 use Rattle.run.proofs.run_lent.Statement.{statement}
 use Rattle.run.proofs.run_lent.Tie as tie
@@ -15,7 +15,7 @@ refusal-requires c κs = search needs
 returns : tie.Need-returns
 unfolding memory-fits
 returns c =
-    let f = lt-leb _ _ (c .before .if1 .taken) in (rw f (c .refusal .ensures), (rw f, rw f))
+    let f = lt-leb _ _ (c .before .if1 .taken) in rw (f, c .refusal .ensures)
 
 places-requires : tie.Need-places-requires
 places-requires c κs = search needs
@@ -40,7 +40,10 @@ same-length-2 c = search needs
 returns-2 : tie.Need-returns-2
 unfolding memory-fits end
 returns-2 c =
-    let f = le-leb _ _ (c .before .before .before .before .before .before .before .before .before .before .before .before .before .before .if1 .left) in let z = replies _ _ _ _ (c .before .before .before .before .before .before .before .before .before .run-in .ensures) in (rw f (c .stop .ensures ∙ z .reply), (rw f (c .before .before .before .clear .ensures ∙ ap (λ (n : ℕ). replicate n 0) (c .before .before .before .before .before .before .before .before .before .run-in .kept .1 .1 .1 .1 .0)), rw f (z .written-is)))
+    let f = le-leb _ _ (c .before .before .before .before .before .before .before .before .before .before .before .before .before .before .if1 .left) in
+    let run-in = c .before .before .before .before .before .before .before .before .before .run-in in
+    let zeros = c .before .before .before .clear .ensures ∙ ap (λ (n : ℕ). replicate n 0) (run-in .kept .1 .1 .1 .1 .0) in
+    rw f (answers _ _ _ _ (c .stop .ensures) zeros (run-in .ensures))
 
 pub run-lent-spec : {M : Type 1} → statement M
 run-lent-spec =

@@ -1,7 +1,7 @@
 -- What is not well-formed is refused; the watched machine is never stuck.
 use mathlib.Core.Path.{sym, _∙_}
 use Rattle.model.proofs.AnyProgram.{watched-not-stuck}
-use Rattle.run.specs.Run.{reply, memory-after, output-after, end}
+use Rattle.run.specs.Run.{answer, end}
 use borrow.Author.Needs.{needs}
 use Rattle.run.proofs.watch.Statement.{statement}
 use Rattle.run.proofs.watch.Tie as tie
@@ -27,9 +27,9 @@ run-lent-requires c κs =
     let a = sym (c .before .before .before .before .well-formed .ensures) ∙ c .before .before .enum-told .given .1 in (a, λ h. watched-not-stuck _ _ _ _ _)
 
 returns : tie.Need-returns
-unfolding reply memory-after output-after
+unfolding answer
 returns c =
-    let e = sym (c .before .before .before .before .well-formed .ensures) ∙ c .before .before .number .given .1 in (rw e (c .refusal .ensures), (rw e, rw e))
+    let e = sym (c .before .before .before .before .well-formed .ensures) ∙ c .before .before .number .given .1 in rw (e, c .refusal .ensures)
 
 same-length : tie.Need-same-length
 same-length c = search needs
@@ -38,9 +38,9 @@ same-length-2 : tie.Need-same-length-2
 same-length-2 c = search needs
 
 returns-2 : tie.Need-returns-2
-unfolding reply memory-after output-after
+unfolding answer
 returns-2 c =
-    let a = sym (c .before .before .before .before .before .before .before .before .before .well-formed .ensures) ∙ c .before .before .before .before .before .before .before .enum-told .given .1 in (rw a (c .before .before .before .before .run-lent .ensures .0), (rw a (c .before .before .before .before .run-lent .ensures .1 .0), rw a (c .before .before .before .before .run-lent .ensures .1 .1)))
+    let a = sym (c .before .before .before .before .before .before .before .before .before .well-formed .ensures) ∙ c .before .before .before .before .before .before .before .enum-told .given .1 in rw a (c .before .before .before .before .run-lent .ensures)
 
 pub watch-spec : {M : Type 1} → statement M
 watch-spec =

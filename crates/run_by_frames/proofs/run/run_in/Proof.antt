@@ -10,7 +10,7 @@ use Rattle.sheet.specs.Bytes.{byteAt}
 use Rattle.sheet.specs.Layout.{variablesAt, procedureAt}
 use Rattle.form.proofs.Laws.{placed, procedure-small}
 use Rattle.run_by_frames.specs.Reply.{ended}
-use Rattle.run_by_frames.proofs.Turn.{run-is, starts, begins-frame}
+use Rattle.run_by_frames.proofs.Turn.{starts, begins-frame}
 use borrow.Author.Needs.{needs}
 use Rattle.run_by_frames.proofs.run.run_in.Statement.{statement}
 use Rattle.run_by_frames.proofs.run.run_in.Tie as tie
@@ -67,11 +67,9 @@ same-length-2 c = search needs
 
 returns-2 : tie.Need-returns-2
 returns-2 c =
-    let args = c .before .before .before .before .before .before .before .before .before .before .before .before .before .before .before .before .before .before .args in
     let open-main = c .before .before .before .before .before .before .before .before .before .open-main in
     let run-frames = c .before .before .before .before .run-frames in
-    let h : variablesAt (args .s .now) (procedureAt (args .s .now) 0) + 2 ≤ length (args .memory .now) = omega (arith, main-variables (c .before .before .before .before .before .before .before .before .before .before .before .before), c .before .before .before .before .before .before .before .before .before .before .before .if1 .left) in
-    rw (run-is _ (record { sheet = now (args .s); input = now (args .input); output = now (args .output) }) _ (args .fuel) h) (rw (open-main .kept .1 .1 .0) at (run-frames .ensures))
+    rw (open-main .kept .1 .1 .0) at (run-frames .ensures)
 
 pub run-in-spec : {M : Type 1} → statement M
 run-in-spec =

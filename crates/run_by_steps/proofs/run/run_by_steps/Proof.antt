@@ -11,7 +11,7 @@ use Rattle.sheet.specs.Bytes.{byteAt}
 use Rattle.sheet.specs.Layout.{variablesAt, procedureAt}
 use Rattle.form.proofs.Laws.{placed, procedure-small}
 use Rattle.run_by_frames.specs.Reply.{ended}
-use Rattle.run_by_frames.proofs.Turn.{run-is, starts, begins-frame}
+use Rattle.run_by_frames.proofs.Turn.{starts, begins-frame}
 use borrow.Author.Needs.{needs}
 use Rattle.run_by_steps.proofs.run.run_by_steps.Statement.{statement}
 use Rattle.run_by_steps.proofs.run.run_by_steps.Tie as tie
@@ -68,11 +68,9 @@ same-length-2 c = search needs
 
 returns-2 : tie.Need-returns-2
 returns-2 c =
-    let args = c .before .before .before .before .before .before .before .before .before .before .before .before .before .before .before .before .before .before .args in
     let open-main = c .before .before .before .before .before .before .before .before .before .open-main in
     let run-turns = c .before .before .before .before .run-turns in
-    let h : variablesAt (args .s .now) (procedureAt (args .s .now) 0) + 2 ≤ length (args .memory .now) = omega (arith, main-variables (c .before .before .before .before .before .before .before .before .before .before .before .before), c .before .before .before .before .before .before .before .before .before .before .before .if1 .left) in
-    rw (run-is plain (record { sheet = now (args .s); input = now (args .input); output = now (args .output) }) _ (args .fuel) h) (rw (open-main .kept .1 .1 .0) at (run-turns .ensures))
+    rw (open-main .kept .1 .1 .0) at (run-turns .ensures)
 
 pub run-by-steps-spec : {M : Type 1} → statement M
 run-by-steps-spec =

@@ -1,7 +1,7 @@
 -- By computation alone.
 use mathlib.Core.Path.{refl}
-use Rattle.theorem.specs.Exhibit.{counter, CounterRuns, amplified, CounterRaised, sorter, SorterRuns, edges, EdgesRun}
-use Rattle.theorem.proofs.Computing.{computing}
+use Rattle.cases.specs.Accepted.{counter, CounterRuns, amplified, CounterRaised, sorter, SorterRuns, edges, EdgesRun}
+use Rattle.cases.proofs.Computing.{computing}
 
 pub counter-runs : CounterRuns
 unfolding computing counter

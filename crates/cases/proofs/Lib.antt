@@ -1,0 +1,4 @@
+pub mod Computing
+pub mod Small
+pub mod Accepted
+pub mod Refused

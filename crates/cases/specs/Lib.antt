@@ -1,0 +1,4 @@
+pub mod Sheets
+pub mod Small
+pub mod Accepted
+pub mod Refused

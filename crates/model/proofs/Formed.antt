@@ -1,0 +1,39 @@
+-- What the proofs of condition 3 lean on beside the access rules: parts of the layout (refusals 1 to 5), which a well-formed sheet has.
+use Prim.Native.Nat.{ℕ, suc, _+_, _<_, _≤_}
+use mathlib.Core.Path.{_≡_}
+use Rattle.model.specs.Program.{Program}
+use Rattle.model.specs.declared.Operation.{Operation}
+use Rattle.model.specs.declared.Operation.the-variants.{Set, Add, Subtract, Less, JumpZero, Bind, Take, Put, NewArray, Fetch, Store, Size, NewRecord, GetSlot, SetSlot, Call, Return}
+
+module _ (g : Program) where
+  -- after an instruction that goes on to the next there is one: "The last IN of a procedure is a return"; a jump's, a call's and a slot's number is there
+  abbrev pub Formed-at : (p i : ℕ) → Operation → Type 0
+  Formed-at p i (Set a k) = suc i < g .instructions p
+  Formed-at p i (Add a b c) = suc i < g .instructions p
+  Formed-at p i (Subtract a b c) = suc i < g .instructions p
+  Formed-at p i (Less a b c) = suc i < g .instructions p
+  Formed-at p i (JumpZero a k) = (k < g .instructions p) × (suc i < g .instructions p)
+  Formed-at p i (Bind a b) = suc i < g .instructions p
+  Formed-at p i (Take a) = suc i < g .instructions p
+  Formed-at p i (Put a) = suc i < g .instructions p
+  Formed-at p i (NewArray a b) = suc i < g .instructions p
+  Formed-at p i (Fetch a b c) = suc i < g .instructions p
+  Formed-at p i (Store a b c) = suc i < g .instructions p
+  Formed-at p i (Size a b) = suc i < g .instructions p
+  Formed-at p i (NewRecord a) = (2 ≤ g .owner p) × (suc i < g .instructions p)
+  Formed-at p i (GetSlot a b k) = (2 ≤ g .owner p) × (k < g .slots (g .owner p)) × (suc i < g .instructions p)
+  Formed-at p i (SetSlot a b k) = (2 ≤ g .owner p) × (k < g .slots (g .owner p)) × (suc i < g .instructions p)
+  Formed-at p i (Call a b k) = (k < g .procedures) × (suc i < g .instructions p)
+  Formed-at p i (Return a) = Unit {0}
+
+  pub record Formed : Type 0 where
+    pub main : 0 < g .procedures
+    pub begins : (p : ℕ) → p < g .procedures → 0 < g .instructions p
+    pub formals : (p : ℕ) → p < g .procedures → g .formals p ≤ g .variables p
+    pub operations : (p i : ℕ) → p < g .procedures → i < g .instructions p → Formed-at p i (g .operation p i)
+
+-- what "open stays" leans on beside these: a variable named is below v, an inner QT is one of the QTs, an owner is one of the declared types
+pub record Numbered (g : Program) : Type 0 where
+  pub new-array : (p i a b : ℕ) → p < g .procedures → i < g .instructions p → g .operation p i ≡ NewArray a b → a < g .variables p
+  pub inner-qual : (p x : ℕ) → p < g .procedures → x < g .variables p → (j : ℕ) × (j < g .quals) × (g .inner p x ≡ g .qual j)
+  pub owner-type : (p : ℕ) → p < g .procedures → 2 ≤ g .owner p → g .owner p < 2 + g .types

@@ -1,0 +1,139 @@
+-- What the answers come to: from condition 3, from what any run ends with, and from the numbers of the tests.
+use Prim.Native.Nat.{ℕ, _≤_}
+use mathlib.Core.Path.{_≡_, refl, sym, _∙_}
+use mathlib.Core.Bool.{Bool, true, false, cond}
+use mathlib.Core.List.{List}
+use mathlib.Core.Logic.{_⊎_, inl, inr}
+use native.Mathlib.Omega.{arith}
+use borrow.Author.Tests.{leb-true}
+use lib.Dec.{leb}
+use lib.ListN.{length}
+use Rattle.model.specs.Modes.{Mode, plain, watched}
+use Rattle.model.specs.Outcome.{Stop, done, fuel-spent, blank, past-end, input-ended, output-full, memory-full, wrong-kind, missing-right, stop-number}
+use Rattle.model.specs.Refusal.{Gives, verdict, big-memory, refusal-number}
+use Rattle.model.specs.Run.{End, stopped, stuck-at, run}
+use Rattle.model.specs.declared.Verdict.{Verdict}
+use Rattle.model.specs.declared.Verdict.the-variants.{Accepted, Refused}
+use Rattle.model.proofs.Plans.{Stops, Watching}
+use Rattle.model.proofs.Ends.{Way, run-ended}
+use Rattle.model.proofs.Numbers.{verdict-range}
+use Rattle.sheet.specs.Meaning.{programOf}
+use Rattle.form.specs.WellFormed.{form-tests}
+use Rattle.form.proofs.Numbers.{form-range}
+use Rattle.checking.specs.Check.{check}
+use Rattle.checking.proofs.Numbers.{check-numbers}
+use Rattle.theorem.proofs.Condition3.{condition3-holds}
+use Rattle.run.specs.Run.{Answer, refuses, ends, end, memory-fits, verdict-before, answer-by, answer}
+use Rattle.run.specs.Promises.{WatchAsRun, Says, RunNumbers, WatchNumbers, Alike, AnyMemory, Words32}
+use Rattle.run.proofs.Laws.{formed-sheet}
+
+-- ---- watch says what run says
+
+-- the answer at an end is the same for both machines
+ends-same : (sheet input : List ℕ) (fuel : ℕ) (memory output : List ℕ) (e : End) → ends watched sheet input fuel memory output e ≡ ends plain sheet input fuel memory output e
+ends-same sheet input fuel memory output (stopped x n put p i) = refl
+ends-same sheet input fuel memory output (stuck-at n put p i) = refl
+
+pub watch-as-run : WatchAsRun
+unfolding answer
+watch-as-run sheet input fuel memory output a w = rw (a, formed-sheet sheet a) (fit (memory-fits plain sheet input fuel memory output) refl)
+  where
+    same-end : memory-fits plain sheet input fuel memory output ≡ true → end watched sheet input fuel memory output ≡ end plain sheet input fuel memory output
+    unfolding end memory-fits
+    same-end h = condition3-holds sheet a (length memory) (leb-true (length memory) 65536 h) input output w fuel .agree
+
+    fit : (b : Bool) → memory-fits plain sheet input fuel memory output ≡ b
+        → answer-by watched sheet input fuel memory output Accepted ≡ answer-by plain sheet input fuel memory output Accepted
+    unfolding memory-fits
+    fit true e = rw (e, same-end e) (ends-same sheet input fuel memory output (end plain sheet input fuel memory output))
+    fit false e = rw e
+
+-- ---- which numbers
+
+stop-plain : (F : Type 0) (x : Stop) → Stops plain F x → (1 ≤ stop-number x) × (stop-number x ≤ 17)
+stop-plain F done c = (omega arith, omega arith)
+stop-plain F fuel-spent c = (omega arith, omega arith)
+stop-plain F blank c = (omega arith, omega arith)
+stop-plain F past-end c = (omega arith, omega arith)
+stop-plain F input-ended c = (omega arith, omega arith)
+stop-plain F output-full c = (omega arith, omega arith)
+stop-plain F memory-full c = (omega arith, omega arith)
+stop-plain F wrong-kind c = absurd c
+stop-plain F missing-right c = absurd c
+
+stop-any : (x : Stop) → (10 ≤ stop-number x) × (stop-number x ≤ 19)
+stop-any done = (omega arith, omega arith)
+stop-any fuel-spent = (omega arith, omega arith)
+stop-any blank = (omega arith, omega arith)
+stop-any past-end = (omega arith, omega arith)
+stop-any input-ended = (omega arith, omega arith)
+stop-any output-full = (omega arith, omega arith)
+stop-any memory-full = (omega arith, omega arith)
+stop-any wrong-kind = (omega arith, omega arith)
+stop-any missing-right = (omega arith, omega arith)
+
+-- of an answer by a verdict, from what is known of its refusals and of its end
+module _ (m : Mode) (sheet input : List ℕ) (fuel : ℕ) (memory output : List ℕ) (P : ℕ → Type 0) where
+  says : (v : Verdict) → ((n at : ℕ) → v ≡ Refused n at → P n) → P 10
+      → (v ≡ Accepted → memory-fits m sheet input fuel memory output ≡ true → Says P (ends m sheet input fuel memory output (end m sheet input fuel memory output)))
+      → Says P (answer-by m sheet input fuel memory output v)
+  says (Refused n at) r t e = r n at refl
+  says Accepted r t e = fit (memory-fits m sheet input fuel memory output) refl
+    where
+      fit : (b : Bool) → memory-fits m sheet input fuel memory output ≡ b
+          → Says P (cond b (ends m sheet input fuel memory output (end m sheet input fuel memory output)) (refuses m sheet input fuel memory output (refusal-number big-memory) 0))
+      fit true h = e refl h
+      fit false h = t
+
+pub run-numbers : RunNumbers
+unfolding answer
+run-numbers sheet input fuel memory output w =
+    says plain sheet input fuel memory output (λ n. (1 ≤ n) × (n ≤ 17)) (check sheet)
+    (λ n at e. let g : Gives 1 9 (Refused n at) = rw e at (check-numbers sheet) in let l = g .0 in let h = g .1 in (omega arith, omega arith))
+    (omega arith, omega arith)
+    (λ a h. at-end a h (end plain sheet input fuel memory output) refl)
+  where
+    at-end : check sheet ≡ Accepted → memory-fits plain sheet input fuel memory output ≡ true → (e : End) → end plain sheet input fuel memory output ≡ e
+        → Says (λ n. (1 ≤ n) × (n ≤ 17)) (ends plain sheet input fuel memory output e)
+    unfolding end memory-fits
+    at-end a h (stopped x n put p i) q =
+        let z = run-ended plain (programOf sheet) (length memory) (length output) input fuel .way in
+        stop-plain _ x (rw q at z)
+    at-end a h (stuck-at n put p i) q =
+        condition3-holds sheet a (length memory) (leb-true (length memory) 65536 h) input output w fuel .not-stuck n put p i q
+
+pub watch-numbers : WatchNumbers
+unfolding answer
+watch-numbers sheet input fuel memory output =
+    says watched sheet input fuel memory output (λ n. ((1 ≤ n) × (n ≤ 5)) ⊎ ((10 ≤ n) × (n ≤ 19))) (verdict (form-tests sheet))
+    (λ n at e. let g : Gives 1 5 (Refused n at) = rw e at (verdict-range 1 5 (form-tests sheet) (form-range sheet)) in inl g)
+    (inr (omega arith, omega arith))
+    (λ a h. at-end (end watched sheet input fuel memory output) refl)
+  where
+    at-end : (e : End) → end watched sheet input fuel memory output ≡ e
+        → Says (λ n. ((1 ≤ n) × (n ≤ 5)) ⊎ ((10 ≤ n) × (n ≤ 19))) (ends watched sheet input fuel memory output e)
+    unfolding end
+    at-end (stopped x n put p i) q = inr (stop-any x)
+    at-end (stuck-at n put p i) q =
+        let z = run-ended watched (programOf sheet) (length memory) (length output) input fuel .way in
+        rw q at z
+
+-- ---- whatever the memory holds
+
+pub any-memory : AnyMemory
+unfolding answer memory-fits end
+any-memory m sheet input fuel memory memory′ output same = by (verdict-before m sheet)
+  where
+    ends-alike : (e : End) → Alike (ends m sheet input fuel memory output e) (ends m sheet input fuel memory′ output e)
+    ends-alike (stopped x n put p i) = (refl, refl)
+    ends-alike (stuck-at n put p i) = tt
+
+    fit : (b : Bool) (e : End)
+        → Alike (cond b (ends m sheet input fuel memory output e) (refuses m sheet input fuel memory output 10 0))
+        (cond b (ends m sheet input fuel memory′ output e) (refuses m sheet input fuel memory′ output 10 0))
+    fit true e = ends-alike e
+    fit false e = (refl, refl)
+
+    by : (v : Verdict) → Alike (answer-by m sheet input fuel memory output v) (answer-by m sheet input fuel memory′ output v)
+    by (Refused n at) = (refl, refl)
+    by Accepted = rw same (fit (leb (length memory′) 65536) (run m (programOf sheet) (length memory′) (length output) input fuel))
