@@ -1,4 +1,4 @@
--- Sheets to which condition 3 applies, and how they run, so that what it supposes is seen to be met. The first two use all seventeen codes.
+-- Accepted sheets, to which condition 3 applies, and how they run, so that what it supposes is seen to be met. The first two use all seventeen codes.
 -- Bytes in decimal, one record a line; 255 is none or unused.
 use Prim.Native.Nat.{ℕ}
 use mathlib.Core.Path.{_≡_}
