@@ -21,13 +21,14 @@ use Rattle.words.specs.Word.{low, payload, cell, slot-in}
 use Rattle.words.proofs.Laws.{blank-word, filled-word}
 use Rattle.writers.specs.declared.Registers.{Registers}
 use Rattle.writers.specs.declared.Stepped.the-variants.{Enter, Halt}
-use Rattle.writers.specs.Memory.{Given, slots, Stands}
+use Rattle.writers.specs.Memory.{Given, slots, GapOnly, Stands, StandsFor}
 use Rattle.writers.specs.Steps.{After}
+use Rattle.writers.proofs.Effects.{stopped-after, gap-kept}
 use Rattle.writers.proofs.View.{room-is, variable-is}
 use Rattle.frames.specs.Performs.{performed, Performs}
-use Rattle.frames.specs.Frames.{Copies, Opened}
-use Rattle.frames.proofs.Copied.{copied-before, copied-after, copied-there}
-use Rattle.frames.proofs.Opening.{gap-kept, actual-slots}
+use Rattle.frames.specs.Frames.{copied, Copies, Opened}
+use Rattle.frames.proofs.Copied.{length-copied, copied-before, copied-after, copied-there}
+use Rattle.frames.proofs.Opening.{actual-slots}
 
 -- ---- what the definition asks for
 
@@ -96,10 +97,10 @@ module _ (g : Program) (v : View plain) (k b : ℕ) where
 -- ---- what the code makes of it
 
 -- a stop that was planned
-stopped : (c : Given) (words out s : List ℕ) (r : Registers) (t : State plain) (x : Stop) (e : Res (Effect plain)) → e ≡ stop x
-    → After plain c words out out r (Halt (stop-number x)) (performed s t e)
+stopped : (c : Given) (words out s : List ℕ) (r : Registers) (t : State plain) → StandsFor plain c words out r t → (x : Stop) (e : Res (Effect plain)) → e ≡ stop x
+    → After plain c words out out r t (Halt (stop-number x)) (performed s t e)
 unfolding _>>=_
-stopped c words out s r t x e is = rw is (refl, refl)
+stopped c words out s r t S x e is = rw is (stopped-after plain c words out r t S (stop-number x) x refl)
 
 -- the first variable that is copied, where there are formals
 abbrev pub Picked : (b f from : ℕ) → Type 0
@@ -118,9 +119,9 @@ module _ (s words : List ℕ) (r : Registers) (b k v f : ℕ) (many : v ≡ vari
   pub call-without-room : r .base - r .used < v + 2
       → (a : ℕ) (input out : List ℕ) → Performs plain s input words words out out r (Halt 17) (Call a b k)
   call-without-room h a input out c t same from S =
-      stopped c words out s r t memory-full _ (call-full (programOf s) (view (length words) (length out) t) k b a (omega (arith, room-is plain c words out r t S)))
+      stopped c words out s r t S memory-full _ (call-full (programOf s) (view (length words) (length out) t) k b a (omega (arith, room-is plain c words out r t S)))
 
-  module _ (room : v + 2 ≤ r .base - r .used) (from : ℕ) (picked : Picked b f from) (fits : from + f ≤ r .variables) where
+  module _ (room : v + 2 ≤ r .base - r .used) (few : f ≤ v) (from : ℕ) (picked : Picked b f from) (fits : from + f ≤ r .variables) where
     picked-from : (j : ℕ) → j < f → from ≡ b
     picked-from j h = ⊎-elim (λ w. let x = w .0 in absurd (omega arith)) (λ w. w .1) picked
 
@@ -147,12 +148,28 @@ module _ (s words : List ℕ) (r : Registers) (b k v f : ℕ) (many : v ≡ vari
         ∙ sym (getD-take (r .variables) (drop (r .base) words) (b + j) 0 (omega arith) ∙ getD-drop (r .base) words (b + j) 0) in
         ap (slot-in plain (qualOf (c .sheet))) word ∙ variable-is S (b + j)
 
+    -- n of them copied below the running frame, among words of which nothing is said
+    copied-gap : {c : Given} {out : List ℕ} {p i : ℕ} {vs : List (Cell plain)} {fs : List (Frame plain)} {os : List (Object plain)} {input put : List ℕ}
+        → Stands plain c words out r p i vs fs os input put
+        → (words′ : List ℕ) (n : ℕ) → n ≤ f → words′ ≡ copied words (r .base + from) (r .base - (v + 2)) n → GapOnly words words′ r
+    copied-gap S words′ n h copy =
+        let at = r .base - (v + 2) in
+        let src = r .base + from in
+        let frame-fits = S .sane .frame in
+        let below : at + n ≤ src = omega arith in
+        let inside : src + n ≤ length words = omega arith in
+        record {
+          long = ap length copy ∙ length-copied words src at n below inside;
+          objects = ap (take (r .used)) copy ∙ copied-before words src at n below inside (r .used) (omega arith);
+          frames = ap (drop (r .base)) copy ∙ copied-after words src at n below inside (r .base) (omega arith);
+        }
+
     pub call-of-blank : (words′ : List ℕ) → Copies words words′ (r .base + from) (r .base - (v + 2)) f false
         → (a : ℕ) (input out : List ℕ) → Performs plain s input words words′ out out r (Halt 13) (Call a b k)
     call-of-blank words′ C a input out c (state (frame p i vs) fs os left put) same from′ S =
         let t = state (frame p i vs) fs os left put in
         let j = C .0 in
-        stopped c words′ out s r t blank _
+        stopped c words′ out s r t (gap-kept S words′ (copied-gap S words′ j (omega (arith, C .1)) (C .2))) blank _
         (call-blank (programOf s) (view (length words) (length out) t) k b a (omega (arith, room-is plain c words out r t S)) j (rw formals at (C .1))
         (blank-word plain (qualOf (c .sheet)) (getD words (r .base + from + j) 0) (looked-at S j (C .1)) (C .3)))
 
@@ -163,12 +180,11 @@ module _ (s words : List ℕ) (r : Registers) (b k v f : ℕ) (many : v ≡ vari
           let w = getD words (r .base + from + j) 0 in
           ⊎-elim (λ e. (M.word (low w), e)) (λ e. (M.object (payload w), e)) (filled-word plain (qualOf (c .sheet)) w (looked-at S j h) (C .1 j h))
 
-      pub call-goes : (words″ : List ℕ) (q : Registers) (first : ℕ) → f ≤ v → length words′ ≡ length words
-          → Opened plain words′ words″ r q k first v f
+      pub call-goes : (words″ : List ℕ) (q : Registers) (first : ℕ) → Opened plain words′ words″ r q k first v f
           → k < proceduresOf s → k < 64 → first ≡ instructionAt s (procedureAt s k) 0
           → (a : ℕ) (input out : List ℕ) → Performs plain s input words words″ out out r (Enter q) (Call a b k)
       unfolding _>>=_ apply
-      call-goes words″ q first few long P known small starts a input out c (state (frame p i vs) fs os left put) same from′ S =
+      call-goes words″ q first P known small starts a input out c (state (frame p i vs) fs os left put) same from′ S =
           let t = state (frame p i vs) fs os left put in
           let at = r .base - (v + 2) in
           let src = r .base + from in
@@ -176,9 +192,6 @@ module _ (s words : List ℕ) (r : Registers) (b k v f : ℕ) (many : v ≡ vari
           let frame-fits = S .sane .frame in
           let below : at + f ≤ src = omega arith in
           let inside : src + f ≤ length words = omega arith in
-          let S′ : Stands plain c words′ out r p i vs fs os left put =
-          gap-kept S words′ long (ap (take (r .used)) copy ∙ copied-before words src at f below inside (r .used) (omega arith))
-          (ap (drop (r .base)) copy ∙ copied-after words src at f below inside (r .base) (omega arith)) in
           let there : slots plain c (take f (drop at words′)) ≡ map cell (take f (drop from vs)) =
           ap (λ (l : List ℕ). slots plain c (take f (drop at l))) copy
           ∙ ap (slots plain c) (copied-there words src at f below inside)
@@ -190,4 +203,4 @@ module _ (s words : List ℕ) (r : Registers) (b k v f : ℕ) (many : v ≡ vari
             ← many,
             picked-cells vs (S .variables),
           )
-          (P c p i vs (take f (drop from vs)) fs os left put out S′ (rw same known) small (rw same starts) (rw same many) there)
+          (P c p i vs (take f (drop from vs)) fs os left put out (gap-kept S words′ (copied-gap S words′ f (omega arith) copy)) (rw same known) small (rw same starts) (rw same many) there)

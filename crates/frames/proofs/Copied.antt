@@ -5,7 +5,7 @@ use native.Mathlib.Numerals.{add-one}
 use mathlib.Core.Path.{_≡_, sym, ap, _∙_}
 use mathlib.Core.List.{List, _++_, append-assoc}
 use lib.ListN.{length, getD, set, take, drop, length-drop}
-use lib.Seq.{take-append-le, take-take, take-at, drop-at, drop-drop, getD-drop, length-take-le, getD-append-add, paste, length-paste-head, paste-suc, drop-paste}
+use lib.Seq.{take-append-le, take-take, take-at, drop-at, drop-drop, getD-drop, length-take-le, getD-append-add, paste, length-paste, length-paste-head, paste-suc, drop-paste}
 use Rattle.frames.specs.Frames.{copied}
 
 module _ (d : List ℕ) (from to n j : ℕ) (below : to + n ≤ from) (fits : from + n ≤ length d) (h : j < n) where
@@ -28,6 +28,11 @@ module _ (d : List ℕ) (from to n j : ℕ) (below : to + n ≤ from) (fits : fr
 -- ---- what is where after the copy
 
 module _ (d : List ℕ) (from to n : ℕ) (below : to + n ≤ from) (fits : from + n ≤ length d) where
+  pub length-copied : length (copied d from to n) ≡ length d
+  length-copied =
+      let l : length (drop from d) ≡ length d - from = length-drop from d in
+      ap length (sym (append-assoc (take to d) (take n (drop from d)) (drop (to + n) d))) ∙ length-paste d to (drop from d) n (omega arith) (omega arith)
+
   pub copied-before : (k : ℕ) → k ≤ to → take k (copied d from to n) ≡ take k d
   copied-before k h =
       let l : length (take to d) ≡ to = length-take-le to d (omega arith) in

@@ -6,7 +6,7 @@ use mathlib.Core.Path.{_≡_, refl, sym, ap, _∙_}
 use mathlib.Core.List.{List, [], _∷_, _++_, map, append-assoc, map-append}
 use lib.ListN.{length, getD, set, take, drop, replicate, length-append, length-map, length-drop, length-replicate, length-set}
 use borrow.Rule.Slice.PartMut.{midOf, putMid, postOf, mid-len, same-len-mid, post-is}
-use lib.Seq.{drop-cons, drop-set-add, drop-set-lt, set-at, take-set-le, take-append-le, take-take, take-add, drop-append-le, drop-at, drop-drop, length-take-le}
+use lib.Seq.{drop-cons, drop-set-add, set-at, take-set-le, take-append-le, take-take, take-add, drop-append-le, drop-at, drop-drop, length-take-le}
 use Rattle.model.specs.Modes.{Mode}
 use Rattle.model.specs.Qualified.{Qual}
 use Rattle.model.specs.Machine.{Cell, empty, Object, Frame, frame}
@@ -19,34 +19,8 @@ use Rattle.writers.specs.Memory.{Given, slots, Sane, Stands, AllSound, flat-fra
 use Rattle.writers.proofs.Change.{map-take, map-drop, map-replicate}
 use Rattle.frames.specs.Frames.{Opened}
 
--- ---- what is written between the objects and the frames
-
 module _ {m : Mode} {c : Given} {words out : List ℕ} {r : Registers} {p i : ℕ} {vs : List (Cell m)} {fs : List (Frame m)} {os : List (Object m)}
     {input put : List ℕ} (S : Stands m c words out r p i vs fs os input put) where
-  pub gap-kept : (words′ : List ℕ) → length words′ ≡ length words → take (r .used) words′ ≡ take (r .used) words → drop (r .base) words′ ≡ drop (r .base) words
-      → Stands m c words′ out r p i vs fs os input put
-  gap-kept words′ long before after =
-      let slot = slot-in m (qualOf (c .sheet)) in
-      record {
-        procedure = S .procedure;
-        next = S .next;
-        first = S .first;
-        variables = S .variables;
-        sane = rw long (S .sane);
-        running = S .running;
-        waiting = S .waiting;
-        objects = sym (map-take slot (r .used) words′) ∙ ap (map slot) before ∙ map-take slot (r .used) words ∙ S .objects;
-        frames = sym (map-drop slot (r .base) words′) ∙ ap (map slot) after ∙ map-drop slot (r .base) words ∙ S .frames;
-        input-left = S .input-left;
-        put-words = S .put-words;
-        output-is = S .output-is;
-        put-fits = S .put-fits;
-      }
-
-  -- one word
-  pub gap-set : (at w : ℕ) → r .used ≤ at → at < r .base → Stands m c (set words at w) out r p i vs fs os input put
-  gap-set at w h k = gap-kept (set words at w) (length-set words at w) (take-set-le (r .used) words at w h) (drop-set-lt (r .base) words at w k)
-
   -- n of the running frame's variables from b on, in its words
   pub actual-slots : (b n : ℕ) → b + n ≤ r .variables → slots m c (take n (drop (r .base + b) words)) ≡ map cell (take n (drop b vs))
   actual-slots b n h =

@@ -47,15 +47,15 @@ unless-map (ok a) P Q h k = k h
 unless-map (stop x) P Q h k = k h
 unless-map stuck P Q h k = tt
 
-module _ (m : Mode) (c : Given) (words before out : List ℕ) (r : Registers) where
-  after-stuck : (o : Stepped) → After m c words before out r o stuck
+module _ (m : Mode) (c : Given) (words before out : List ℕ) (r : Registers) (t : State m) where
+  after-stuck : (o : Stepped) → After m c words before out r t o stuck
   after-stuck (Go q) = tt
   after-stuck (Enter q) = tt
   after-stuck (Halt k) = tt
   after-stuck Done = tt
 
   after-plan : (o : Stepped) (f : Effect m → Res (Next m)) (p : Res (Effect m)) (P : Type 0) → Unless-stuck p P
-      → (P → After m c words before out r o (p >>= f)) → After m c words before out r o (p >>= f)
+      → (P → After m c words before out r t o (p >>= f)) → After m c words before out r t o (p >>= f)
   unfolding _>>=_
   after-plan o f (ok x) P h k = k h
   after-plan o f (stop x) P h k = k h
@@ -110,10 +110,10 @@ module _ (m : Mode) (s input words words′ before out : List ℕ) (r : Register
         → Performs m s input words words′ before out r o op
     performs-if planned c t q i S =
         let p = plan m (programOf s) (view (length words) (length before) t) op in
-        after-plan m c words′ before out r o (λ x. ok (apply (programOf s) t x)) p (Fine × (e (qualOf s) ≡ p)) (planned c t q i S)
+        after-plan m c words′ before out r t o (λ x. ok (apply (programOf s) t x)) p (Fine × (e (qualOf s) ≡ p)) (planned c t q i S)
         (λ w.
-        subst (λ (f : Res (Effect m)). After m c words′ before out r o (f >>= λ x. ok (apply (programOf s) t x))) (w .1)
-        (subst (λ (z : List ℕ). After m c words′ before out r o (e (qualOf z) >>= λ x. ok (apply (programOf z) t x))) q (does c (w .0) t S)))
+        subst (λ (f : Res (Effect m)). After m c words′ before out r t o (f >>= λ x. ok (apply (programOf s) t x))) (w .1)
+        (subst (λ (z : List ℕ). After m c words′ before out r t o (e (qualOf z) >>= λ x. ok (apply (programOf z) t x))) q (does c (w .0) t S)))
 
     -- a plan that leans on the running procedure, the variables and the objects alone
     pub performs-if-seeing :

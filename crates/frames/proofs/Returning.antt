@@ -28,7 +28,7 @@ use Rattle.writers.specs.declared.Stepped.{Stepped}
 use Rattle.writers.specs.declared.Stepped.the-variants.{Enter, Halt, Done}
 use Rattle.writers.specs.Memory.{Given, Sound, AllSound, Stands, StandsFor, flat-frames}
 use Rattle.writers.specs.Steps.{After}
-use Rattle.writers.proofs.Effects.{goes-on}
+use Rattle.writers.proofs.Effects.{stopped-after, goes-on}
 use Rattle.writers.proofs.View.{frames-are, view-sees, alone, waiting-place, waiting-more, waiting-frame}
 use Rattle.writers.proofs.Change.{put-word, length-put-word, put-word-before, put-word-frame, set-variable}
 use Rattle.frames.specs.Performs.{performed, Performs, Returns}
@@ -124,9 +124,9 @@ kept-is {b = b} {q} {k} s a same names B =
 -- ---- the return itself, in either machine
 
 -- an effect that was planned, by another way to write it
-planned : {m : Mode} (c : Given) (words out s : List ℕ) (r : Registers) (t : State m) (o : Stepped) (e d : Res (Effect m)) → e ≡ d
-    → After m c words out out r o (performed s t d) → After m c words out out r o (performed s t e)
-planned c words out s r t o e d is h = rw is h
+pub planned-as : {m : Mode} (c : Given) (words out s : List ℕ) (r : Registers) (t : State m) (o : Stepped) (e d : Res (Effect m)) → e ≡ d
+    → After m c words out out r t o (performed s t d) → After m c words out out r t o (performed s t e)
+planned-as c words out s r t o e d is h = rw is h
 
 -- main has no frame that waits
 pub returns-over : (m : Mode) (s words : List ℕ) (r : Registers) (value : Option (Cell m)) → length words ≤ r .base + (r .variables + 2)
@@ -151,7 +151,7 @@ module _ (m : Mode) (s words : List ℕ) (r b : Registers) (a : ℕ) (above : r 
       let t = state (frame p i vs) (frame q k us ∷ gs) os input put in
       let seen = view (length words) (length out) t in
       let B = W c p i q k vs us gs os input put out same S in
-      planned c words out s r t (Enter b) (to-caller m (programOf s) seen (some (q, k)) value) (ok (M.resume none))
+      planned-as c words out s r t (Enter b) (to-caller m (programOf s) seen (some (q, k)) value) (ok (M.resume none))
       (ap (λ (x : Option ℕ). into-caller m (programOf s) seen q x value) (kept-is s a same names B ∙ optional-none a e)) B
 
   module _ (n : a ≡ 255 → ⊥) where
@@ -180,7 +180,7 @@ module _ (m : Mode) (s words : List ℕ) (r b : Registers) (a : ℕ) (above : r 
 
     pub resumed : (w : ℕ) (words′ : List ℕ) → Keeps m words words′ b a w
         → (d : Cell m) (out : List ℕ) (c : Given) (t : State m) → c .sheet ≡ s → StandsFor m c words out r t → slot-in m (qualOf (c .sheet)) w ≡ cell d
-        → After m c words′ out out r (Enter b) (performed s t (ok (M.resume (some (a, d)))))
+        → After m c words′ out out r t (Enter b) (performed s t (ok (M.resume (some (a, d)))))
     unfolding _>>=_ apply
     resumed w words′ K d out c (state (frame p i vs) [] os input put) same S is = absurd (no-main S)
     resumed w words′ K d out c (state (frame p i vs) (frame q k us ∷ gs) os input put) same S is =
@@ -199,13 +199,13 @@ returns-kept : (s words : List ℕ) (r b : Registers) (a : ℕ) → r .base + (r
     → (w : ℕ) (words′ : List ℕ) → Keeps plain words words′ b a w
     → (value : Option (Cell plain)) (out : List ℕ) (c : Given) (t : State plain) → c .sheet ≡ s → StandsFor plain c words out r t
     → Value-of (qualOf (c .sheet)) w value
-    → After plain c words′ out out r (Enter b)
+    → After plain c words′ out out r t (Enter b)
     (performed s t (to-caller plain (programOf s) (view (length words) (length out) t) (view (length words) (length out) t .caller) value))
 unfolding moved held bind amiss _>>=_
 returns-kept s words r b a above W names n w words′ K none out c t same S is =
-    planned c words′ out s r t (Enter b) _ stuck (caller-lacks plain s words r b a above W names n out c t same S) tt
+    planned-as c words′ out s r t (Enter b) _ stuck (caller-lacks plain s words r b a above W names n out c t same S) tt
 returns-kept s words r b a above W names n w words′ K (some d) out c t same S is =
-    planned c words′ out s r t (Enter b) _ (ok (M.resume (some (a, d))))
+    planned-as c words′ out s r t (Enter b) _ (ok (M.resume (some (a, d))))
     (caller-binds plain s words r b a above W names n d out c t same S ∙ rw (is .1 .0))
     (resumed plain s words r b a above W names n w words′ K d out c t same S (is .1 .1))
 
@@ -251,8 +251,9 @@ module _ (s words : List ℕ) (r : Registers) (a w : ℕ) (word-is : w ≡ getD 
   pub gives-blank : w ≡ 0 → (a ≡ 255 → ⊥) → (input out : List ℕ) → Performs plain s input words words out out r (Halt 13) (Return a)
   unfolding _>>=_
   gives-blank z n input out c t same from S =
-      planned c words out s r t (Halt 13) _ (stop blank)
-      (return-blank (programOf s) (view (length words) (length out) t) a n (blank-word plain (qualOf (c .sheet)) w (variable-there c out t S) z)) (refl, refl)
+      planned-as c words out s r t (Halt 13) _ (stop blank)
+      (return-blank (programOf s) (view (length words) (length out) t) a n (blank-word plain (qualOf (c .sheet)) w (variable-there c out t S) z))
+      (stopped-after plain c words out r t S 13 blank refl)
 
   -- or there is a value to hand over, if any is asked for
   module _ (there : w ≡ 0 → a ≡ 255) where
@@ -283,17 +284,17 @@ module _ (s words : List ℕ) (r : Registers) (a w : ℕ) (word-is : w ≡ getD 
     pub gives-over : length words ≤ r .base + (r .variables + 2) → (input out : List ℕ) → Performs plain s input words words out out r Done (Return a)
     gives-over h input out c t same from S =
         let y = handed-over c out t S in
-        planned c words out s r t Done _ _ (y .1 .0) (returns-over plain s words r (y .0) h out c t same S)
+        planned-as c words out s r t Done _ _ (y .1 .0) (returns-over plain s words r (y .0) h out c t same S)
 
     module _ (b : Registers) (k : ℕ) (above : r .base + (r .variables + 2) < length words) (W : Waits plain s words r b)
         (names : optional k ≡ kept (operationAt s (b .first + 8 * pred (b .next)))) where
       pub gives-dropped : k ≡ 255 → (input out : List ℕ) → Performs plain s input words words out out r (Enter b) (Return a)
       gives-dropped e input out c t same from S =
           let y = handed-over c out t S in
-          planned c words out s r t (Enter b) _ _ (y .1 .0) (returns-dropped plain s words r b k above W names e (y .0) out c t same S)
+          planned-as c words out s r t (Enter b) _ _ (y .1 .0) (returns-dropped plain s words r b k above W names e (y .0) out c t same S)
 
       pub gives-kept : (k ≡ 255 → ⊥) → (words′ : List ℕ) → Keeps plain words words′ b k w
           → (input out : List ℕ) → Performs plain s input words words′ out out r (Enter b) (Return a)
       gives-kept n words′ K input out c t same from S =
           let y = handed-over c out t S in
-          planned c words′ out s r t (Enter b) _ _ (y .1 .0) (returns-kept s words r b k above W names n w words′ K (y .0) out c t same S (y .1 .1))
+          planned-as c words′ out s r t (Enter b) _ _ (y .1 .0) (returns-kept s words r b k above W names n w words′ K (y .0) out c t same S (y .1 .1))

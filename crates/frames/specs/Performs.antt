@@ -31,11 +31,11 @@ performed s t e = e >>= λ x. ok (apply (programOf s) t x)
 abbrev pub Performs : (m : Mode) → (s input words words′ before output : List ℕ) → Registers → Stepped → Operation → Type 0
 Performs m s input words words′ before output r o op =
     (c : Given) (t : State m) → c .sheet ≡ s → c .input ≡ input → StandsFor m c words before r t →
-    After m c words′ before output r o (performed s t (plan m (programOf s) (view (length words) (length before) t) op))
+    After m c words′ before output r t o (performed s t (plan m (programOf s) (view (length words) (length before) t) op))
 
 -- the return of a value, or of none, to the frame that waits
 abbrev pub Returns : (m : Mode) → (s words words′ out : List ℕ) → Registers → Stepped → Option (Cell m) → Type 0
 Returns m s words words′ out r o value =
     (c : Given) (t : State m) → c .sheet ≡ s → StandsFor m c words out r t →
-    After m c words′ out out r o
+    After m c words′ out out r t o
     (performed s t (to-caller m (programOf s) (view (length words) (length out) t) (view (length words) (length out) t .caller) value))

@@ -62,7 +62,7 @@ module _ (m : Mode) (c : Given) (words out : List ℕ) (r : Registers) where
       }
 
   -- the operation that is fetched is the one that the definition does
-  same-step : (t : State m) → StandsFor m c words out r t
+  pub same-step : (t : State m) → StandsFor m c words out r t
       → performed (c .sheet) t (plan m (programOf (c .sheet)) (view (length words) (length out) t) (operationAt (c .sheet) (place-in r)))
       ≡ step (programOf (c .sheet)) (length words) (length out) t
   unfolding step
@@ -78,14 +78,14 @@ module _ (m : Mode) (c : Given) (words out : List ℕ) (r : Registers) where
   -- a step that the definition is not stuck at
   module _ (words′ out′ : List ℕ) where
     module _ (n : ℕ) (t : State m) (s : StandsFor m c words out r t) where
-      halted : (k : ℕ) (q : Res (Next m)) → (q ≡ stuck → ⊥) → After m c words′ out out′ r (S.Halt k) q
+      halted : (k : ℕ) (q : Res (Next m)) → (q ≡ stuck → ⊥) → After m c words′ out out′ r t (S.Halt k) q
           → IsOver (settle n t q) × EndedIs (told r k n) (c .output) out′ (end-of (settle n t q))
       unfolding settle
       halted k (ok x) free h = absurd h
-      halted k (stop x) free h = (tt, ends t s x k n out′ (h .0) (h .1))
+      halted k (stop x) free h = (tt, ends t s x k n out′ (h .number) (h .output-kept))
       halted k stuck free h = absurd (free refl)
 
-      finishes : (q : Res (Next m)) → (q ≡ stuck → ⊥) → After m c words′ out out′ r S.Done q
+      finishes : (q : Res (Next m)) → (q ≡ stuck → ⊥) → After m c words′ out out′ r t S.Done q
           → IsOver (settle n t q) × EndedIs (told r 11 (n + 1)) (c .output) out′ (end-of (settle n t q))
       unfolding settle
       finishes (ok (go u)) free h = absurd h
@@ -94,19 +94,19 @@ module _ (m : Mode) (c : Given) (words out : List ℕ) (r : Registers) where
       finishes stuck free h = absurd (free refl)
 
     -- one that goes on gives the next state, in the same frame or in another
-    went : (q : Registers) (p : Res (Next m)) → (p ≡ stuck → ⊥) → After m c words′ out out′ r (S.Go q) p
+    went : (b : State m) (q : Registers) (p : Res (Next m)) → (p ≡ stuck → ⊥) → After m c words′ out out′ r b (S.Go q) p
         → (q ≡ onward r (q .next) (q .used) (q .taken) (q .put)) × ((t : State m) × ((p ≡ ok (go t)) × StandsFor m c words′ out′ q t))
-    went q (ok (go t)) free h = (h .0, (t, (refl, h .1)))
-    went q (ok finished) free h = absurd h
-    went q (stop x) free h = absurd h
-    went q stuck free h = absurd (free refl)
+    went b q (ok (go t)) free h = (h .0, (t, (refl, h .1)))
+    went b q (ok finished) free h = absurd h
+    went b q (stop x) free h = absurd h
+    went b q stuck free h = absurd (free refl)
 
-    entered : (q : Registers) (p : Res (Next m)) → (p ≡ stuck → ⊥) → After m c words′ out out′ r (S.Enter q) p
+    entered : (b : State m) (q : Registers) (p : Res (Next m)) → (p ≡ stuck → ⊥) → After m c words′ out out′ r b (S.Enter q) p
         → (t : State m) × ((p ≡ ok (go t)) × StandsFor m c words′ out′ q t)
-    entered q (ok (go t)) free h = (t, (refl, h))
-    entered q (ok finished) free h = absurd h
-    entered q (stop x) free h = absurd h
-    entered q stuck free h = absurd (free refl)
+    entered b q (ok (go t)) free h = (t, (refl, h))
+    entered b q (ok finished) free h = absurd h
+    entered b q (stop x) free h = absurd h
+    entered b q stuck free h = absurd (free refl)
 
 -- a run that stands at a state after n steps, and has fuel for one more
 module _ (m : Mode) (g : Program) (memory output : ℕ) (input : List ℕ) (fuel n : ℕ) (t : State m) (at : trace m g memory output input n ≡ running n t) (h : n < fuel) where
@@ -183,11 +183,11 @@ module _ (m : Mode) (s input : List ℕ) (wf : verdict (form-tests s) ≡ Accept
   )
 
   module _ (words′ out′ : List ℕ) (o : Stepped) (h : n < fuel) (performs : Performs m s input words words′ out out′ r o (operationAt s (place-in r))) where
-    taken : After m c words′ out out′ r o (step (programOf (c .sheet)) memory (length (c .output)) (G .now))
+    taken : After m c words′ out out′ r (G .now) o (step (programOf (c .sheet)) memory (length (c .output)) (G .now))
     taken =
         rw (← G .long, ← G .put-long, ← same-step m c words out r (G .now) (G .stands))
         (subst
-        (λ (z : List ℕ). After m c words′ out out′ r o (performed z (G .now) (plan m (programOf z) (view (length words) (length out) (G .now)) (operationAt z (place-in r)))))
+        (λ (z : List ℕ). After m c words′ out out′ r (G .now) o (performed z (G .now) (plan m (programOf z) (view (length words) (length out) (G .now)) (operationAt z (place-in r)))))
         (sym same) (performs c (G .now) same from (G .stands)))
 
     never : step (programOf (c .sheet)) memory (length (c .output)) (G .now) ≡ stuck → ⊥
@@ -224,7 +224,7 @@ module _ (m : Mode) (s input : List ℕ) (wf : verdict (form-tests s) ≡ Accept
 
       stays : (q : Registers) → o ≡ S.Go q → (q ≡ onward r (q .next) (q .used) (q .taken) (q .put)) × Going m c memory fuel (n + 1) words′ out′ q
       stays q is =
-          let a = went m c words out r words′ out′ q (step (programOf (c .sheet)) memory (length (c .output)) (G .now)) never (rw is at taken) in
+          let a = went m c words out r words′ out′ (G .now) q (step (programOf (c .sheet)) memory (length (c .output)) (G .now)) never (rw is at taken) in
           (a .0, reaches q (a .1))
 
       pub goes : (q : Registers) → o ≡ S.Go q → Going m c memory fuel (n + 1) words′ out′ q
@@ -238,7 +238,7 @@ module _ (m : Mode) (s input : List ℕ) (wf : verdict (form-tests s) ≡ Accept
           subst (λ (x : Registers). Going m c memory fuel (n + 1) words′ out′ x) (same-frame start r q e (a .0)) (a .1)
 
       pub enters : (q : Registers) → o ≡ S.Enter q → Going m c memory fuel (n + 1) words′ out′ q
-      enters q is = reaches q (entered m c words out r words′ out′ q _ never (rw is at taken))
+      enters q is = reaches q (entered m c words out r words′ out′ (G .now) q _ never (rw is at taken))
 
 -- ---- one frame
 

@@ -4,16 +4,20 @@ use native.Mathlib.Omega.{arith}
 use mathlib.Core.Path.{_≡_, refl, sym, ap, subst, _∙_}
 use mathlib.Core.List.{List}
 use lib.ListN.{length}
+use Rattle.model.specs.Outcome.{Stop, Res, ok, stop, stuck}
 use Rattle.model.specs.Modes.{Mode}
+use Rattle.model.specs.Machine.{State, Next, step}
 use Rattle.sheet.specs.Decode.{operationAt}
+use Rattle.sheet.specs.Meaning.{programOf}
 use Rattle.writers.specs.declared.Stepped.{Stepped}
 use Rattle.writers.specs.declared.Stepped.the-variants as S
-use Rattle.writers.specs.Memory.{Given}
+use Rattle.writers.specs.Memory.{Given, StandsFor}
+use Rattle.writers.specs.Steps.{Unchanged, After}
 use Rattle.frames.specs.Performs.{Loaded, Performs}
 use Rattle.frames.specs.Fetch.{place-in}
 use Rattle.run_by_frames.specs.Reply.{EndedIs}
 use Rattle.run_by_frames.specs.Turn.{whole-run, Going}
-use Rattle.run_by_frames.proofs.Turn.{told, ready, halts, completes, goes, enters}
+use Rattle.run_by_frames.proofs.Turn.{told, same-step, ready, halts, completes, goes, enters}
 use Rattle.run_by_steps.specs.declared.Counted.{Counted}
 use Rattle.run_by_steps.specs.declared.Turn.{Turn}
 use Rattle.run_by_steps.specs.declared.Turn.the-variants.{Go, Done, Halt}
@@ -33,6 +37,33 @@ abbrev stop-of : Turn → ℕ
 stop-of (Go q) = 0
 stop-of (Done q) = 0
 stop-of (Halt k) = k
+
+-- "A step that stops changes nothing": of the lent step, by the two parts of its contract, in every state that the memory stands for and in which the
+-- definition is not stuck. The registers are as they were, so that it is not counted; the output too; and the memory stands for the same state.
+pub stopped-unchanged : (m : Mode) (c : Given) (words words′ before output : List ℕ) (r r′ : Counted) (o : Turn) (k : ℕ) (t : State m)
+    → TurnIs m (c .sheet) (c .input) words words′ before output r o → r′ ≡ after-turn r o → o ≡ Halt k
+    → StandsFor m c words before (r .registers) t → (step (programOf (c .sheet)) (length words) (length before) t ≡ stuck → ⊥)
+    → (r′ ≡ r)
+    × ((x : Stop)
+    × ((step (programOf (c .sheet)) (length words) (length before) t ≡ stop x) × Unchanged m c words′ before output (r .registers) t k x))
+stopped-unchanged m c words words′ before output r r′ o k t T left is stands free =
+    (left ∙ ap (after-turn r) is, by (T .stepped) (T .performs) (sym is ∙ T .counts))
+  where
+    Stopped : ℕ → Type 0
+    Stopped j = (x : Stop) × ((step (programOf (c .sheet)) (length words) (length before) t ≡ stop x) × Unchanged m c words′ before output (r .registers) t j x)
+
+    stop-told : (j : ℕ) (p : Res (Next m)) → p ≡ step (programOf (c .sheet)) (length words) (length before) t
+        → After m c words′ before output (r .registers) t (S.Halt j) p → Stopped j
+    stop-told j (ok n) e h = absurd h
+    stop-told j (stop x) e h = (x, (sym e, h))
+    stop-told j stuck e h = absurd (free (sym e))
+
+    by : (x : Stepped) → Performs m (c .sheet) (c .input) words words′ before output (r .registers) x (operationAt (c .sheet) (place-in (r .registers)))
+        → Halt k ≡ turned r x → Stopped k
+    by (S.Go q) did e = absurd (let z = ap kind e in omega arith)
+    by (S.Enter q) did e = absurd (let z = ap kind e in omega arith)
+    by (S.Halt j) did e = subst Stopped (sym (ap stop-of e)) (stop-told j _ (same-step m c words before (r .registers) t stands) (did c t refl refl stands))
+    by S.Done did e = absurd (let z = ap kind e in omega arith)
 
 module _ (m : Mode) (c : Given) (table : List ℕ) (loaded : Loaded (c .sheet) table) (memory fuel : ℕ) (words out : List ℕ) (r : Counted)
     (G : Stands-at m c memory fuel words out r) (h : r .steps < fuel) where

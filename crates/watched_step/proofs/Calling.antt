@@ -21,19 +21,19 @@ use Rattle.sheet.specs.Meaning.{qualOf, programOf, resultIn}
 use Rattle.words.specs.Word.{cell, slot-in, as-cell}
 use Rattle.words.specs.Sees.{Sees}
 use Rattle.words.specs.Answers.{halted, IsCell}
+use Rattle.words.specs.declared.Number.the-variants as N
 use Rattle.words.specs.declared.Moved.{Moved}
 use Rattle.words.specs.declared.Moved.the-variants as Mv
 use Rattle.binding.specs.Kinds.{moved-cell}
 use Rattle.writers.specs.declared.Registers.{Registers}
 use Rattle.writers.specs.declared.Stepped.the-variants.{Enter, Halt}
-use Rattle.writers.proofs.Effects.{halted-then, does-stop, does-halt}
+use Rattle.writers.proofs.Effects.{halted-then, does-stop, gap-kept, gap-stands}
 use Rattle.writers.proofs.View.{room-is}
 use Rattle.frames.specs.Performs.{Performs}
 use Rattle.frames.specs.Frames.{Opened}
 use Rattle.frames.proofs.Performs.{sees}
-use Rattle.frames.proofs.Opening.{gap-kept}
-use Rattle.watched_step.specs.Calls.{SeesIn, Callee, cells-at, before, Bound}
-use Rattle.watched_step.proofs.Laws.{performs-exactly}
+use Rattle.watched_step.specs.Calls.{SeesIn, Callee, cells-at, before, Bound, Binds}
+use Rattle.watched_step.proofs.Laws.{stopped-as, performs-exactly}
 
 -- ---- one actual after another
 
@@ -54,9 +54,7 @@ pub bound-none : (s words : List ℕ) (r : Registers) (k b at n : ℕ) → Bound
 bound-none s words r k b at n =
     let e : 0 + n ≡ n = omega arith in
     record {
-      long = refl;
-      objects = refl;
-      frames = refl;
+      gap = record { long = refl; objects = refl; frames = refl };
       cells = refl;
       planned = λ v S. rw e (before-none (actuals watched (programOf s) v k b 0 n));
     }
@@ -64,8 +62,8 @@ bound-none s words r k b at n =
 module _ {s words words′ : List ℕ} {r : Registers} {k b at j n : ℕ} (B : Bound s words words′ r k b at j n) where
   sees-still : (v : View watched) → SeesIn s v words r → SeesIn s v words′ r
   sees-still v S =
-      subst (λ (h : List ℕ). Sees watched (qualOf s) v (take (r .variables) (drop (r .base) words′)) h) (sym (B .objects))
-      (subst (λ (d : List ℕ). Sees watched (qualOf s) v (take (r .variables) d) (take (r .used) words)) (sym (B .frames)) S)
+      subst (λ (h : List ℕ). Sees watched (qualOf s) v (take (r .variables) (drop (r .base) words′)) h) (sym (B .gap .objects))
+      (subst (λ (d : List ℕ). Sees watched (qualOf s) v (take (r .variables) d) (take (r .used) words)) (sym (B .gap .frames)) S)
 
   module _ (m : Moved) (n′ : ℕ) (left : n ≡ suc n′)
       (is : (v : View watched) → SeesIn s v words′ r → moved-cell (qualOf s) m ≡ actual watched (programOf s) v k b j) where
@@ -92,7 +90,7 @@ module _ {s words words′ : List ℕ} {r : Registers} {k b at j n : ℕ} (B : B
     unfolding moved-cell _>>=_
     bound-more {w} e is-cell low high fits =
         let Q = qualOf s in
-        let long = B .long in
+        let long = B .gap .long in
         let l : length (drop at words′) ≡ length words′ - at = length-drop at words′ in
         let taken : take (j + 1) (drop at (set words′ (at + j) w)) ≡ take j (drop at words′) ++ (w ∷ []) =
         ap (take (j + 1)) (drop-set-add at words′ j w) ∙ rw add-one (take-suc-set (drop at words′) j w (omega arith)) in
@@ -102,9 +100,12 @@ module _ {s words words′ : List ℕ} {r : Registers} {k b at j n : ℕ} (B : B
         let many : j + 1 + n′ ≡ j + suc n′ = omega arith in
         let one : suc j ≡ j + 1 = omega arith in
         record {
-          long = length-set words′ (at + j) w ∙ B .long;
-          objects = take-set-le (r .used) words′ (at + j) w low ∙ B .objects;
-          frames = drop-set-lt (r .base) words′ (at + j) w high ∙ B .frames;
+          gap =
+              record {
+                long = length-set words′ (at + j) w ∙ B .gap .long;
+                objects = take-set-le (r .used) words′ (at + j) w low ∙ B .gap .objects;
+                frames = drop-set-lt (r .base) words′ (at + j) w high ∙ B .gap .frames;
+              };
           cells =
               ap (map (slot-in watched Q)) taken
               ∙ map-append (slot-in watched Q) (take j (drop at words′)) (w ∷ [])
@@ -161,7 +162,7 @@ module _ (s words : List ℕ) (r : Registers) (a b k pr : ℕ) (C : Callee s k p
 
   pub call-unkept : not (eqb a 255) && eqb t 255 ≡ true → (input out : List ℕ) → Performs watched s input words words out out r (Halt 18) (Call a b k)
   call-unkept e input out =
-      performs-exactly s input words words out out r (Halt 18) (Call a b k) (λ z. stop wrong-kind) (λ c q. does-stop watched c words words out r wrong-kind)
+      performs-exactly s input words words out out r (Halt 18) (Call a b k) (λ z. stop wrong-kind) (λ c q. does-stop watched c words out r wrong-kind)
       (λ c t q i S. sym (plan-unkept (programOf s) (view (length words) (length out) t) a b k (keeps-told e)))
 
   module _ (kept : not (eqb a 255) && eqb t 255 ≡ false) (v : ℕ) (many : v ≡ variablesAt s pr) where
@@ -171,7 +172,7 @@ module _ (s words : List ℕ) (r : Registers) (a b k pr : ℕ) (C : Callee s k p
     pub call-full : r .base - r .used < v + 2 → (input out : List ℕ) → Performs watched s input words words out out r (Halt 17) (Call a b k)
     call-full h input out =
         let n = variables-are in
-        performs-exactly s input words words out out r (Halt 17) (Call a b k) (λ z. stop memory-full) (λ c q. does-stop watched c words words out r memory-full)
+        performs-exactly s input words words out out r (Halt 17) (Call a b k) (λ z. stop memory-full) (λ c q. does-stop watched c words out r memory-full)
         (λ c t q i S.
         let room = room-is watched c words out r t S in
         sym (plan-full (programOf s) (view (length words) (length out) t) a b k (keeps-told kept) (omega arith)))
@@ -186,14 +187,13 @@ module _ (s words : List ℕ) (r : Registers) (a b k pr : ℕ) (C : Callee s k p
           let n = variables-are in
           plan-bound (programOf s) v′ a b k (keeps-told kept) (omega arith) x (ap (λ (j : ℕ). actuals watched (programOf s) v′ k b 0 j) formals-are ∙ e)
 
-      pub call-stops : (words′ : List ℕ) (x : ℕ)
-          → ((v′ : View watched) → SeesIn s v′ words r → actuals watched (programOf s) v′ k b 0 f ≡ halted watched x)
+      pub call-stops : (words′ : List ℕ) (x : ℕ) → Binds s words words′ r k b (r .base - (v + 2)) f (N.Halt x)
           → (input out : List ℕ) → Performs watched s input words words′ out out r (Halt x) (Call a b k)
-      call-stops words′ x stops input out =
-          performs-exactly s input words words′ out out r (Halt x) (Call a b k) (λ z. halted watched x) (λ c q. does-halt watched c words words′ out r x)
-          (λ c t q i S.
-          sym (call-is (view (length words) (length out) t) (room-is watched c words out r t S) (halted watched x)
-          (stops (view (length words) (length out) t) (sees watched c s words out r t q S)) ∙ halted-then watched x (λ cs. ok (M.call k cs))))
+      call-stops words′ x stops input out c t same from S =
+          let seen = view (length words) (length out) t in
+          stopped-as c words′ out s r t (gap-stands watched c words words′ out r (stops .0) t S) x _
+          (call-is seen (room-is watched c words out r t S) (halted watched x) (stops .1 seen (sees watched c s words out r t same S))
+          ∙ halted-then watched x (λ cs. ok (M.call k cs)))
 
       pub call-goes : (words′ words″ : List ℕ) (q : Registers) (first : ℕ) → Bound s words words′ r k b (r .base - (v + 2)) f 0
           → first ≡ instructionAt s pr 0 → Opened watched words′ words″ r q k first v f
@@ -208,5 +208,5 @@ module _ (s words : List ℕ) (r : Registers) (a b k pr : ℕ) (C : Callee s k p
           call-is seen (room-is watched c words out r t S) (ok cs) (bound-all B seen (sees watched c s words out r t same S)) in
           let place = C .place in
           rw (is, place, ← many, ← few)
-          (P c p i vs cs fs os left put out (gap-kept S words′ (B .long) (B .objects) (B .frames)) (rw same (C .known)) (C .small)
+          (P c p i vs cs fs os left put out (gap-kept S words′ (B .gap)) (rw same (C .known)) (C .small)
           (rw (same, place) starts) (rw (same, place) many) (rw same (B .cells)))

@@ -12,7 +12,7 @@ use Rattle.model.specs.Outcome.{Res, ok, stop, stuck, ensure, _>>=_, _>>_}
 use Rattle.model.specs.Program.{Program}
 use Rattle.model.specs.Modes.{watched, demand, amiss}
 use Rattle.model.specs.Machine as M
-use Rattle.model.specs.Machine.{Cell, frame, State, state, Effect, View, view, kept, moved, handed, to-caller, plan, plan-return}
+use Rattle.model.specs.Machine.{Cell, frame, State, state, View, view, kept, moved, handed, to-caller, plan, plan-return}
 use Rattle.model.specs.declared.Operation.the-variants.{Return}
 use Rattle.sheet.specs.Layout.{proceduresOf, resultAt, procedureAt}
 use Rattle.sheet.specs.Meaning.{qualOf, programOf, innerIn, resultIn}
@@ -26,20 +26,19 @@ use Rattle.writers.specs.declared.Registers.{Registers}
 use Rattle.writers.specs.declared.Stepped.{Stepped}
 use Rattle.writers.specs.declared.Stepped.the-variants.{Enter, Halt}
 use Rattle.writers.specs.Memory.{Given, StandsFor}
-use Rattle.writers.specs.Steps.{After}
-use Rattle.writers.proofs.Effects.{halted-then, halted-after}
+use Rattle.writers.proofs.Effects.{halted-then}
 use Rattle.writers.proofs.View.{alone}
-use Rattle.frames.specs.Performs.{Loaded, performed, Performs, Returns}
+use Rattle.frames.specs.Performs.{Loaded, Performs, Returns}
 use Rattle.frames.specs.Frames.{Waits, Keeps}
 use Rattle.frames.proofs.Performs.{runs, sees}
 use Rattle.frames.proofs.Table.{table-at}
 use Rattle.frames.proofs.Kept.{optional-none, optional-some}
-use Rattle.frames.proofs.Returning.{caller-binds, caller-lacks, resumed}
+use Rattle.frames.proofs.Returning.{planned-as, caller-binds, caller-lacks, resumed}
 use Rattle.watched_step.specs.declared.calls.Handed.{Handed}
 use Rattle.watched_step.specs.declared.calls.Handed.the-variants as H
 use Rattle.watched_step.specs.Watched.{PlaceOf}
 use Rattle.watched_step.specs.Calls.{SeesIn, hands, handed-as}
-use Rattle.watched_step.proofs.Laws.{at-place}
+use Rattle.watched_step.proofs.Laws.{stopped-as, at-place}
 
 -- ---- what is handed over
 
@@ -80,20 +79,11 @@ module _ (s : List ℕ) (v : View watched) (pr a : ℕ) (at : procedureAt s (v .
 
 -- ---- the frame that waits
 
--- an effect that was planned, by another way to write it
-planned-as : (c : Given) (words out s : List ℕ) (r : Registers) (t : State watched) (o : Stepped) (e d : Res (Effect watched)) → e ≡ d
-    → After watched c words out out r o (performed s t d) → After watched c words out out r o (performed s t e)
-planned-as c words out s r t o e d is h = rw is h
-
-stopped-as : (c : Given) (words out s : List ℕ) (r : Registers) (t : State watched) (k : ℕ) (e : Res (Effect watched)) → e ≡ halted watched k
-    → After watched c words out out r (Halt k) (performed s t e)
-stopped-as c words out s r t k e is = rw (is, halted-then watched k) (halted-after watched c words out r k)
-
 module _ (s words : List ℕ) (r b : Registers) (a : ℕ) (above : r .base + (r .variables + 2) < length words)
     (W : Waits watched s words r b) (names : optional a ≡ kept (operationAt s (b .first + 8 * pred (b .next)))) (n : a ≡ 255 → ⊥) where
   pub returns-lacking : (out : List ℕ) → Returns watched s words words out r (Halt 18) none
   unfolding halted
-  returns-lacking out c t same S = stopped-as c words out s r t 18 _ (caller-lacks watched s words r b a above W names n out c t same S)
+  returns-lacking out c t same S = stopped-as c words out s r t S 18 _ (caller-lacks watched s words r b a above W names n out c t same S)
 
   back-known : (c : Given) (out : List ℕ) (t : State watched) → c .sheet ≡ s → StandsFor watched c words out r t → b .procedure < proceduresOf s
   back-known c out (state (frame p i vs) [] os input put) same S = let l = alone S in absurd (omega arith)
@@ -116,11 +106,11 @@ module _ (s words : List ℕ) (r b : Registers) (a : ℕ) (above : r .base + (r 
         (sym (is (programOf s) v value (sees watched c s words out r t same S .head) (is-cell watched (qualOf s))
         ∙ ap (λ (p : ℕ). moved watched (programOf s) v (innerIn s p a) value) (table-at s table L (b .procedure) (back-known c out t same S))))
 
-    pub returns-refused : {k : ℕ} → m ≡ Mv.Halt k → (words′ : List ℕ) (out : List ℕ)
-        → Returns watched s words words′ out r (Halt k) (some (as-cell (slot-in watched (qualOf s) w)))
+    pub returns-refused : {k : ℕ} → m ≡ Mv.Halt k → (out : List ℕ)
+        → Returns watched s words words out r (Halt k) (some (as-cell (slot-in watched (qualOf s) w)))
     unfolding moved-cell
-    returns-refused {k} e words′ out c t same S =
-        stopped-as c words′ out s r t k _ (bound-kept out c t same S ∙ rw (e, halted-then watched k))
+    returns-refused {k} e out c t same S =
+        stopped-as c words out s r t S k _ (bound-kept out c t same S ∙ rw (e, halted-then watched k))
 
     pub returns-kept : {x : ℕ} → m ≡ Mv.To x → MovedOk m → (words′ : List ℕ) → Keeps watched words words′ b a x → (out : List ℕ)
         → Returns watched s words words′ out r (Enter b) (some (as-cell (slot-in watched (qualOf s) w)))
@@ -168,7 +158,7 @@ module _ (s words words′ : List ℕ) (r : Registers) (a pr : ℕ) (A : PlaceOf
       let v = view (length words) (length out) t in
       planned-as c words′ out s r t o _ (to-caller watched (programOf s) v (v .caller) (some (as-cell (slot-in watched (qualOf s) w)))) (return-is c out t same S ∙ rw e) (back out c t same S)
 
-  pub gives-halt : {k : ℕ} → h ≡ H.Halt k → (input out : List ℕ) → Performs watched s input words words′ out out r (Halt k) (Return a)
+  pub gives-halt : {k : ℕ} → h ≡ H.Halt k → (input out : List ℕ) → Performs watched s input words words out out r (Halt k) (Return a)
   unfolding handed-as
   gives-halt {k} e input out c t same i S =
-      stopped-as c words′ out s r t k _ (return-is c out t same S ∙ rw (e, halted-then watched k))
+      stopped-as c words out s r t S k _ (return-is c out t same S ∙ rw (e, halted-then watched k))

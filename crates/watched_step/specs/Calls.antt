@@ -3,7 +3,7 @@ use Prim.Native.Nat.{ℕ, _+_, _≤_, _<_}
 use mathlib.Core.Path.{_≡_}
 use mathlib.Core.List.{List, _++_, map}
 use mathlib.Core.Option.{Option, none, some}
-use lib.ListN.{length, take, drop}
+use lib.ListN.{take, drop}
 use Rattle.model.specs.Qualified.{Qual}
 use Rattle.model.specs.Program.{Program}
 use Rattle.model.specs.Rules.{optional}
@@ -18,6 +18,7 @@ use Rattle.words.specs.Answers.{halted, IsCell}
 use Rattle.words.specs.declared.Number.{Number}
 use Rattle.words.specs.declared.Number.the-variants as N
 use Rattle.writers.specs.declared.Registers.{Registers}
+use Rattle.writers.specs.Memory.{GapOnly}
 use Rattle.watched_step.specs.declared.calls.Handed.{Handed}
 use Rattle.watched_step.specs.declared.calls.Handed.the-variants as H
 
@@ -42,21 +43,18 @@ cells-at s words at n = map (λ w. as-cell (slot-in watched (qualOf s) w)) (take
 unfoldable pub before : List (Cell watched) → Res (List (Cell watched)) → Res (List (Cell watched))
 before cs r = r >>= λ ds. ok (cs ++ ds)
 
--- the first j actuals of a call of procedure k with variables from b on were bound and stand at a place between objects and frames, where alone the
--- words changed; n are still to come
+-- the first j actuals of a call of procedure k with variables from b on were bound and stand at a place in the gap; n are still to come
 pub record Bound (s words words′ : List ℕ) (r : Registers) (k b at j n : ℕ) : Type 0 where
-  pub long : length words′ ≡ length words
-  pub objects : take (r .used) words′ ≡ take (r .used) words
-  pub frames : drop (r .base) words′ ≡ drop (r .base) words
+  pub gap : GapOnly words words′ r
   pub cells : map (slot-in watched (qualOf s)) (take j (drop at words′)) ≡ map cell (cells-at s words′ at j)
   pub planned : (v : View watched) → SeesIn s v words r
       → actuals watched (programOf s) v k b 0 (j + n) ≡ before (cells-at s words′ at j) (actuals watched (programOf s) v k b j n)
 
--- all f of them were, or the first that was not is the stop
+-- all f of them were; or the first that was not is the stop, and those before it left words in the gap alone
 abbrev pub Binds : (s words words′ : List ℕ) → Registers → (k b at f : ℕ) → Number → Type 0
 Binds s words words′ r k b at f (N.Is n) = Bound s words words′ r k b at f 0
 Binds s words words′ r k b at f (N.Halt x) =
-    (v : View watched) → SeesIn s v words r → actuals watched (programOf s) v k b 0 f ≡ halted watched x
+    GapOnly words words′ r × ((v : View watched) → SeesIn s v words r → actuals watched (programOf s) v k b 0 f ≡ halted watched x)
 
 -- ---- a return
 

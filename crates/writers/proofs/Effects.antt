@@ -11,11 +11,11 @@ use borrow.Rule.Slice.PartMut.{midOf, putMid, same-len-mid, mid-len, drop-put}
 use lib.Dec.{eqb}
 use lib.ListN.{length, set, take, drop, replicate, length-set, length-append, length-drop, length-replicate, take-append-drop}
 use lib.Seq.{drop-drop, drop-cons, set-at, take-at, take-set-lt, take-suc-set, drop-set-lt, set-append-left, length-take-le}
-use Rattle.model.specs.Outcome.{Stop, stop-number, blank, past-end, input-ended, output-full, memory-full, missing-right, Res, ok, stop, stuck, _>>=_}
+use Rattle.model.specs.Outcome.{Stop, stop-number, blank, past-end, input-ended, output-full, memory-full, wrong-kind, missing-right, Res, ok, stop, stuck, _>>=_}
 use Rattle.model.specs.Qualified.{Qual}
 use Rattle.model.specs.Modes.{Mode, plain, watched, Carried, ElementInfo, TypeInfo, amiss}
 use Rattle.model.specs.Machine as M
-use Rattle.model.specs.Machine.{Cell, empty, filled, object, Object, array-of, record-of, cells-of, head-of, find, update, Frame, frame, state, apply, rest-of, object-units}
+use Rattle.model.specs.Machine.{Cell, empty, filled, object, Object, array-of, record-of, cells-of, head-of, find, update, Frame, frame, State, state, apply, rest-of, object-units}
 use Rattle.sheet.specs.Meaning.{qualOf}
 use Rattle.words.specs.Word.{Slot, cell, head, slot-in}
 use Rattle.words.specs.Sees.{head-size}
@@ -23,7 +23,7 @@ use Rattle.words.specs.Answers.{halted, Inside}
 use Rattle.words.proofs.Laws.{map-set, slot-zero}
 use Rattle.writers.specs.declared.Registers.{Registers}
 use Rattle.writers.specs.declared.Stepped.the-variants.{Go, Halt}
-use Rattle.writers.specs.Memory.{Given, slots, Sane, Stands, flat-objects, flat-frames}
+use Rattle.writers.specs.Memory.{Given, slots, Sane, GapOnly, Stands, StandsFor, flat-objects, flat-frames}
 use Rattle.writers.specs.Steps.{After, Does, onward, set-first, Allotted}
 use Rattle.writers.proofs.Change.{put-word, put-word-is, length-put-word, put-word-before, put-word-frame, set-variable, map-take, map-drop, map-replicate}
 use Rattle.writers.proofs.Flat.{set-at-cell, found-fits, flat-snoc, size-is, length-objects}
@@ -62,36 +62,71 @@ halted-then m k f = go (eqb k 13) (eqb k 14) (eqb k 15) (eqb k 16) (eqb k 17) (e
     go false false false false false false true = refl
     go false false false false false false false = refl
 
-amiss-after : (m : Mode) (c : Given) (words out : List ℕ) (r : Registers) (k : ℕ) → k ≡ 18 → After m c words out out r (Halt k) (amiss m)
-unfolding amiss
-amiss-after plain c words out r k e = tt
-amiss-after watched c words out r k e = (e, refl)
+pub stopped-after : (m : Mode) (c : Given) (words out : List ℕ) (r : Registers) (t : State m) → StandsFor m c words out r t
+    → (k : ℕ) (x : Stop) → k ≡ stop-number x → After m c words out out r t (Halt k) (stop x)
+stopped-after m c words out r t S k x e = record { number = e; output-kept = refl; still = S }
 
-pub halted-after : (m : Mode) (c : Given) (words out : List ℕ) (r : Registers) (k : ℕ) → After m c words out out r (Halt k) (halted m k)
+amiss-after : (m : Mode) (c : Given) (words out : List ℕ) (r : Registers) (t : State m) → StandsFor m c words out r t
+    → (k : ℕ) → k ≡ 18 → After m c words out out r t (Halt k) (amiss m)
+unfolding amiss
+amiss-after plain c words out r t S k e = tt
+amiss-after watched c words out r t S k e = stopped-after watched c words out r t S k wrong-kind e
+
+pub halted-after : (m : Mode) (c : Given) (words out : List ℕ) (r : Registers) (t : State m) → StandsFor m c words out r t
+    → (k : ℕ) → After m c words out out r t (Halt k) (halted m k)
 unfolding halted
-halted-after m c words out r k =
+halted-after m c words out r t S k =
     go (eqb k 13) (eqb k 14) (eqb k 15) (eqb k 16) (eqb k 17) (eqb k 18) (eqb k 19) refl refl refl refl refl refl refl
   where
+    is : (x : Stop) → eqb k (stop-number x) ≡ true → After m c words out out r t (Halt k) (stop x)
+    is x e = stopped-after m c words out r t S k x (eqb-true _ _ e)
+
     go : (is13 is14 is15 is16 is17 is18 is19 : Bool)
         → eqb k 13 ≡ is13 → eqb k 14 ≡ is14 → eqb k 15 ≡ is15 → eqb k 16 ≡ is16 → eqb k 17 ≡ is17 → eqb k 18 ≡ is18 → eqb k 19 ≡ is19
-        → After m c words out out r (Halt k) (stops m is13 is14 is15 is16 is17 is18 is19)
-    go true is14 is15 is16 is17 is18 is19 e13 e14 e15 e16 e17 e18 e19 = (eqb-true _ _ e13, refl)
-    go false true is15 is16 is17 is18 is19 e13 e14 e15 e16 e17 e18 e19 = (eqb-true _ _ e14, refl)
-    go false false true is16 is17 is18 is19 e13 e14 e15 e16 e17 e18 e19 = (eqb-true _ _ e15, refl)
-    go false false false true is17 is18 is19 e13 e14 e15 e16 e17 e18 e19 = (eqb-true _ _ e16, refl)
-    go false false false false true is18 is19 e13 e14 e15 e16 e17 e18 e19 = (eqb-true _ _ e17, refl)
-    go false false false false false true is19 e13 e14 e15 e16 e17 e18 e19 = amiss-after m c words out r k (eqb-true _ _ e18)
-    go false false false false false false true e13 e14 e15 e16 e17 e18 e19 = (eqb-true _ _ e19, refl)
+        → After m c words out out r t (Halt k) (stops m is13 is14 is15 is16 is17 is18 is19)
+    go true is14 is15 is16 is17 is18 is19 e13 e14 e15 e16 e17 e18 e19 = is blank e13
+    go false true is15 is16 is17 is18 is19 e13 e14 e15 e16 e17 e18 e19 = is past-end e14
+    go false false true is16 is17 is18 is19 e13 e14 e15 e16 e17 e18 e19 = is input-ended e15
+    go false false false true is17 is18 is19 e13 e14 e15 e16 e17 e18 e19 = is output-full e16
+    go false false false false true is18 is19 e13 e14 e15 e16 e17 e18 e19 = is memory-full e17
+    go false false false false false true is19 e13 e14 e15 e16 e17 e18 e19 = amiss-after m c words out r t S k (eqb-true _ _ e18)
+    go false false false false false false true e13 e14 e15 e16 e17 e18 e19 = is missing-right e19
     go false false false false false false false e13 e14 e15 e16 e17 e18 e19 = tt
 
-pub does-halt : (m : Mode) (c : Given) (words words′ out : List ℕ) (r : Registers) (k : ℕ)
-    → Does m c words words′ out out r (Halt k) (halted m k)
-does-halt m c words words′ out r k t S = rw halted-then (halted-after m c words′ out r k)
+pub does-halt : (m : Mode) (c : Given) (words out : List ℕ) (r : Registers) (k : ℕ) → Does m c words words out out r (Halt k) (halted m k)
+does-halt m c words out r k t S = rw halted-then (halted-after m c words out r t S k)
 
-pub does-stop : (m : Mode) (c : Given) (words words′ out : List ℕ) (r : Registers) (x : Stop)
-    → Does m c words words′ out out r (Halt (stop-number x)) (stop x)
+pub does-stop : (m : Mode) (c : Given) (words out : List ℕ) (r : Registers) (x : Stop) → Does m c words words out out r (Halt (stop-number x)) (stop x)
 unfolding _>>=_
-does-stop m c words words′ out r x t S = (refl, refl)
+does-stop m c words out r x t S = stopped-after m c words out r t S (stop-number x) x refl
+
+-- ---- the gap
+
+-- what stands in it is of no account
+pub gap-kept : {m : Mode} {c : Given} {words out : List ℕ} {r : Registers} {p i : ℕ} {vs : List (Cell m)} {fs : List (Frame m)} {os : List (Object m)}
+    {input put : List ℕ} → Stands m c words out r p i vs fs os input put → (words′ : List ℕ) → GapOnly words words′ r
+    → Stands m c words′ out r p i vs fs os input put
+gap-kept {m} {c} {words} {r = r} S words′ G =
+    let slot = slot-in m (qualOf (c .sheet)) in
+    record {
+      procedure = S .procedure;
+      next = S .next;
+      first = S .first;
+      variables = S .variables;
+      sane = rw (G .long) (S .sane);
+      running = S .running;
+      waiting = S .waiting;
+      objects = sym (map-take slot (r .used) words′) ∙ ap (map slot) (G .objects) ∙ map-take slot (r .used) words ∙ S .objects;
+      frames = sym (map-drop slot (r .base) words′) ∙ ap (map slot) (G .frames) ∙ map-drop slot (r .base) words ∙ S .frames;
+      input-left = S .input-left;
+      put-words = S .put-words;
+      output-is = S .output-is;
+      put-fits = S .put-fits;
+    }
+
+pub gap-stands : (m : Mode) (c : Given) (words words′ out : List ℕ) (r : Registers) → GapOnly words words′ r
+    → (t : State m) → StandsFor m c words out r t → StandsFor m c words′ out r t
+gap-stands m c words words′ out r G (state (frame p i vs) fs os input put) S = gap-kept S words′ G
 
 -- ---- the parts of a state that a step changes
 

@@ -46,6 +46,12 @@ pub record Sane (n : ℕ) (r : Registers) : Type 0 where
   pub small : n ≤ 65536
   pub procedure : r .procedure < 64
 
+-- the words differ only in the gap between the objects and the frames
+pub record GapOnly (words words′ : List ℕ) (r : Registers) : Type 0 where
+  pub long : length words′ ≡ length words
+  pub objects : take (r .used) words′ ≡ take (r .used) words
+  pub frames : drop (r .base) words′ ≡ drop (r .base) words
+
 -- the words seen by a machine: an element's number stands for its type in the sheet
 abbrev pub slots : (m : Mode) → Given → List ℕ → List (Slot m)
 slots m c words = map (slot-in m (qualOf (c .sheet))) words

@@ -7,7 +7,7 @@ use mathlib.Core.Option.{Option}
 use lib.Dec.{leb, ltb}
 use lib.ListN.{length, drop, set, replicate}
 use lib.ListN as list
-use Rattle.model.specs.Outcome.{stop-number, input-ended, output-full, memory-full, Res, ok, stop, stuck, ensure, found, _>>=_, _>>_}
+use Rattle.model.specs.Outcome.{Stop, stop-number, input-ended, output-full, memory-full, Res, ok, stop, stuck, ensure, found, _>>=_, _>>_}
 use Rattle.model.specs.Modes.{Mode, Carried, ElementInfo, TypeInfo, carried}
 use Rattle.model.specs.Qualified.{Qual}
 use Rattle.model.specs.Machine.{word, empty, filled, State, Next, go, finished, Effect, put, take, jump, skip, new-array, new-record, apply}
@@ -34,31 +34,37 @@ onward r i u n w =
       put = w;
     }
 
--- the registers before, the words after, the output before and after, and the answer: Go in the same frame, Enter in another. A stop changes no output.
+-- "A step that stops changes nothing": it tells the stop's number, the output is as it was, and the words still stand for the state in which it stopped
+pub record Unchanged (m : Mode) (c : Given) (words before output : List ℕ) (r : Registers) (t : State m) (k : ℕ) (x : Stop) : Type 0 where
+  pub number : k ≡ stop-number x
+  pub output-kept : output ≡ before
+  pub still : StandsFor m c words output r t
+
+-- the words after, the output before and after, the registers and the state before, and the answer: Go in the same frame, Enter in another.
 -- Where the definition is stuck nothing is said: of an accepted program condition 3 says that it never is.
-abbrev pub After : (m : Mode) → Given → (words before output : List ℕ) → Registers → Stepped → Res (Next m) → Type 0
-After m c words before output r (Go q) (ok (go t)) =
-    (q ≡ onward r (q .next) (q .used) (q .taken) (q .put)) × StandsFor m c words output q t
-After m c words before output r (Go q) (ok finished) = ⊥
-After m c words before output r (Go q) (stop x) = ⊥
-After m c words before output r (Go q) stuck = Unit {0}
-After m c words before output r (Enter q) (ok (go t)) = StandsFor m c words output q t
-After m c words before output r (Enter q) (ok finished) = ⊥
-After m c words before output r (Enter q) (stop x) = ⊥
-After m c words before output r (Enter q) stuck = Unit {0}
-After m c words before output r (Halt k) (ok n) = ⊥
-After m c words before output r (Halt k) (stop x) = (k ≡ stop-number x) × (output ≡ before)
-After m c words before output r (Halt k) stuck = Unit {0}
-After m c words before output r Done (ok (go t)) = ⊥
-After m c words before output r Done (ok finished) = output ≡ before
-After m c words before output r Done (stop x) = ⊥
-After m c words before output r Done stuck = Unit {0}
+abbrev pub After : (m : Mode) → Given → (words before output : List ℕ) → Registers → State m → Stepped → Res (Next m) → Type 0
+After m c words before output r t (Go q) (ok (go u)) =
+    (q ≡ onward r (q .next) (q .used) (q .taken) (q .put)) × StandsFor m c words output q u
+After m c words before output r t (Go q) (ok finished) = ⊥
+After m c words before output r t (Go q) (stop x) = ⊥
+After m c words before output r t (Go q) stuck = Unit {0}
+After m c words before output r t (Enter q) (ok (go u)) = StandsFor m c words output q u
+After m c words before output r t (Enter q) (ok finished) = ⊥
+After m c words before output r t (Enter q) (stop x) = ⊥
+After m c words before output r t (Enter q) stuck = Unit {0}
+After m c words before output r t (Halt k) (ok n) = ⊥
+After m c words before output r t (Halt k) (stop x) = Unchanged m c words before output r t k x
+After m c words before output r t (Halt k) stuck = Unit {0}
+After m c words before output r t Done (ok (go u)) = ⊥
+After m c words before output r t Done (ok finished) = output ≡ before
+After m c words before output r t Done (stop x) = ⊥
+After m c words before output r t Done stuck = Unit {0}
 
 -- an effect that was planned, from every state that the words stand for
 abbrev pub Does : (m : Mode) → Given → (words words′ before output : List ℕ) → Registers → Stepped → Res (Effect m) → Type 0
 Does m c words words′ before output r o e =
     (t : State m) → StandsFor m c words before r t →
-    After m c words′ before output r o (e >>= λ x. ok (apply (programOf (c .sheet)) t x))
+    After m c words′ before output r t o (e >>= λ x. ok (apply (programOf (c .sheet)) t x))
 
 -- element a of a list becomes x where it is one of the first n
 abbrev pub set-first : {A : Type 0} → ℕ → List A → ℕ → A → List A

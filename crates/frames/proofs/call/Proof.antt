@@ -115,9 +115,9 @@ returns-2 c =
     let picked : Picked (args .b) (header-at .result .formals) (if2 .from) =
     ⊎-elim (λ w. inl (w .0 .taken, w .1)) (λ w. inr (w .0 .left, w .1)) (if2 .came) in
     call-goes s (now (args .memory)) (args .r) (args .b) (args .k) _ _
-    (header-at .ensures .1 ∙ ap (variablesAt s) at) formals (if1 .left) (if2 .from) picked
+    (header-at .ensures .1 ∙ ap (variablesAt s) at) formals (if1 .left) few (if2 .from) picked
     (picked-fits (args .b) _ (if2 .from) (args .r .variables) picked (λ j h. C .actuals j (subst (λ n. j < n) formals h))) _
-    (subst (Copies _ _ _ _ _) (if3 .taken) (copy-filled .ensures)) _ _ _ few (copy-filled .kept .0) (opened-by .ensures plain)
+    (subst (Copies _ _ _ _ _) (if3 .taken) (copy-filled .ensures)) _ _ _ (opened-by .ensures plain)
     (C .procedure) (few-procedures s (args .table .now) (pre .0) (args .k) (C .procedure)) (header-at .ensures .2 ∙ ap (λ x. instructionAt s x 0) at)
 
 same-length-2 : tie.Need-same-length-2
@@ -136,10 +136,12 @@ returns-3 c =
     let C = pre .1 .1 in
     let at = table-at s (args .table .now) (pre .0) (args .k) (C .procedure) in
     let formals = header-at .ensures .0 ∙ ap (formalsAt s) at in
+    let few : header-at .result .formals ≤ header-at .result .variables =
+    rw (header-at .ensures .0, header-at .ensures .1) (formals-within s (args .table .now) (pre .0) (args .k) (C .procedure)) in
     let picked : Picked (args .b) (header-at .result .formals) (if2 .from) =
     ⊎-elim (λ w. inl (w .0 .taken, w .1)) (λ w. inr (w .0 .left, w .1)) (if2 .came) in
     call-of-blank s (now (args .memory)) (args .r) (args .b) (args .k) _ _
-    (header-at .ensures .1 ∙ ap (variablesAt s) at) formals (if1 .left) (if2 .from) picked
+    (header-at .ensures .1 ∙ ap (variablesAt s) at) formals (if1 .left) few (if2 .from) picked
     (picked-fits (args .b) _ (if2 .from) (args .r .variables) picked (λ j h. C .actuals j (subst (λ n. j < n) formals h))) _
     (subst (Copies _ _ _ _ _) (if3 .left) (copy-filled .ensures))
 

@@ -48,11 +48,11 @@ enum-known-n-2 c = search needs
 
 returns-2 : tie.Need-returns-2
 returns-2 c =
-    λ g out. rw (c .before .before .before .n .given .1, array-full plain _ _ _ tt tt (c .if1 .left)) (does-stop plain g _ _ out (c .before .before .before .before .before .before .args .r) memory-full)
+    λ g out. rw (c .before .before .before .n .given .1, array-full plain _ _ _ tt tt (c .if1 .left)) (does-stop plain g _ out (c .before .before .before .before .before .before .args .r) memory-full)
 
 returns-3 : tie.Need-returns-3
 returns-3 c =
-    λ g out. rw (c .before .n2 .given .1, array-halt) (does-halt plain g _ _ out (c .before .before .before .before .args .r) _)
+    λ g out. rw (c .before .n2 .given .1, array-halt) (does-halt plain g _ out (c .before .before .before .before .args .r) _)
 
 pub give-array-spec : {M : Type 1} → statement M
 give-array-spec =

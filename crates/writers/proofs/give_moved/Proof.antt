@@ -36,7 +36,7 @@ returns c =
 returns-2 : tie.Need-returns-2
 unfolding moved-to
 returns-2 c =
-    λ m g out fine. rw (c .before .m2 .given .1) (does-halt m g _ _ out (c .before .before .before .before .args .r) _)
+    λ m g out fine. rw (c .before .m2 .given .1) (does-halt m g _ out (c .before .before .before .before .args .r) _)
 
 pub give-moved-spec : {M : Type 1} → statement M
 give-moved-spec =

@@ -41,7 +41,7 @@ returns c =
 returns-2 : tie.Need-returns-2
 unfolding given
 returns-2 c =
-    λ m g out. rw (c .before .n2 .given .1) (does-halt m g _ _ out (c .before .before .before .before .args .r) _)
+    λ m g out. rw (c .before .n2 .given .1) (does-halt m g _ out (c .before .before .before .before .args .r) _)
 
 pub give-number-spec : {M : Type 1} → statement M
 give-number-spec =

@@ -42,7 +42,7 @@ returns c =
 
 returns-2 : tie.Need-returns-2
 returns-2 c =
-    λ g out. rw (record-full plain _ _ _ tt tt (c .if1 .left)) (does-stop plain g _ _ out (c .before .before .before .args .r) memory-full)
+    λ g out. rw (record-full plain _ _ _ tt tt (c .if1 .left)) (does-stop plain g _ out (c .before .before .before .args .r) memory-full)
 
 pub give-record-spec : {M : Type 1} → statement M
 give-record-spec =

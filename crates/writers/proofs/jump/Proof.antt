@@ -32,7 +32,7 @@ returns-2 c =
 
 returns-3 : tie.Need-returns-3
 returns-3 c =
-    λ m g words out. rw (c .before .n2 .given .1, jumped-halt) (does-halt m g words words out (c .before .before .before .args .r) _)
+    λ m g words out. rw (c .before .n2 .given .1, jumped-halt) (does-halt m g words out (c .before .before .before .args .r) _)
 
 pub jump-spec : {M : Type 1} → statement M
 jump-spec =

@@ -35,11 +35,11 @@ enum-known-n-2 c = search needs
 returns-2 : tie.Need-returns-2
 returns-2 c =
     λ m g words. rw (c .before .before .n .given .1, put-full m _ _ _ (c .if1 .left))
-    (does-stop m g words words _ (c .before .before .before .before .args .r) output-full)
+    (does-stop m g words _ (c .before .before .before .before .args .r) output-full)
 
 returns-3 : tie.Need-returns-3
 returns-3 c =
-    λ m g words. rw (c .before .n2 .given .1, put-halt) (does-halt m g words words _ (c .before .before .before .args .r) _)
+    λ m g words. rw (c .before .n2 .given .1, put-halt) (does-halt m g words _ (c .before .before .before .args .r) _)
 
 pub put-output-spec : {M : Type 1} → statement M
 put-output-spec =

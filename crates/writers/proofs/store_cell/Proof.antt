@@ -63,7 +63,7 @@ returns c =
 returns-2 : tie.Need-returns-2
 unfolding stored
 returns-2 c =
-    λ m g out ok. rw (c .before .m2 .given .1) (does-halt m g _ _ out (c .before .before .before .before .args .r) _)
+    λ m g out ok. rw (c .before .m2 .given .1) (does-halt m g _ out (c .before .before .before .before .args .r) _)
 
 pub store-cell-spec : {M : Type 1} → statement M
 store-cell-spec =

@@ -40,7 +40,7 @@ returns c =
 
 returns-2 : tie.Need-returns-2
 returns-2 c =
-    λ m g out. rw (take-ended m _ _ _ (c .if1 .left)) (does-stop m g _ _ out (c .before .before .before .args .r) input-ended)
+    λ m g out. rw (take-ended m _ _ _ (c .if1 .left)) (does-stop m g _ out (c .before .before .before .args .r) input-ended)
 
 pub take-input-spec : {M : Type 1} → statement M
 take-input-spec =

@@ -36,13 +36,13 @@ returns-2 c =
     let args = c .before .before .before .before .before .before .before .args in
     let n = c .before .before .before .n in
     let if1 = c .if1 in
-    λ d out q. rw (n .given .1, array-full _ _ _ _ (if1 .left)) (does-stop watched d _ _ out (args .r) memory-full)
+    λ d out q. rw (n .given .1, array-full _ _ _ _ (if1 .left)) (does-stop watched d _ out (args .r) memory-full)
 
 returns-3 : tie.Need-returns-3
 returns-3 c =
     let args = c .before .before .before .before .before .args in
     let n2 = c .before .n2 in
-    λ d out q. rw (n2 .given .1, array-halt) (does-halt watched d _ _ out (args .r) _)
+    λ d out q. rw (n2 .given .1, array-halt) (does-halt watched d _ out (args .r) _)
 
 pub give-array-spec : {M : Type 1} → statement M
 give-array-spec =

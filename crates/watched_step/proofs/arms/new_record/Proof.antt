@@ -58,7 +58,7 @@ returns-2 c =
     let type-at = c .before .before .before .type-at in
     let byte2 = c .before .before .byte2 in
     let if1 = c .if1 in
-    λ input out. performs-roomy (now (args .s)) input (now (args .memory)) (now (args .memory)) out out (args .r) (Halt 17) _ (λ z. stop memory-full) (λ d q. does-stop watched d (now (args .memory)) (now (args .memory)) out (args .r) memory-full) (args .pr) (pre .1 .1) (λ v at free S. sym (record-full (args .r .base - args .r .used) (args .a) (ownerAt (now (args .s)) (args .pr)) (namedOf (now (args .s)) (ownerAt (now (args .s)) (args .pr))) _ (innerIn (now (args .s)) (args .pr) (args .a)) (if1 .left)) ∙ records (programOf (now (args .s))) v _ (rw at) free (rw at) refl (rw (byte2 .ensures, type-at .ensures, byte .ensures)))
+    λ input out. performs-roomy (now (args .s)) input (now (args .memory)) (now (args .memory)) out out (args .r) (Halt 17) _ (λ z. stop memory-full) (λ d q. does-stop watched d (now (args .memory)) out (args .r) memory-full) (args .pr) (pre .1 .1) (λ v at free S. sym (record-full (args .r .base - args .r .used) (args .a) (ownerAt (now (args .s)) (args .pr)) (namedOf (now (args .s)) (ownerAt (now (args .s)) (args .pr))) _ (innerIn (now (args .s)) (args .pr) (args .a)) (if1 .left)) ∙ records (programOf (now (args .s))) v _ (rw at) free (rw at) refl (rw (byte2 .ensures, type-at .ensures, byte .ensures)))
 
 pub new-record-spec : {M : Type 1} → statement M
 new-record-spec =

@@ -37,7 +37,7 @@ returns-2 c =
     let pre = c .before .before .before .before .before .before .pre in
     let takes-integer = c .before .takes-integer in
     let if1 = c .if1 in
-    λ out. performs-taking (now (args .s)) (now (args .input)) (now (args .memory)) (now (args .memory)) out out (args .r) (Halt 18) _ (λ z. stop wrong-kind) (λ d q. does-stop watched d (now (args .memory)) (now (args .memory)) out (args .r) wrong-kind) (args .pr) (pre .1 .1) (λ v at e. takes-misfit (programOf (now (args .s))) v (args .a) (args .r .taken) (now (args .input)) (rw at) (takes-integer .ensures) e (if1 .left))
+    λ out. performs-taking (now (args .s)) (now (args .input)) (now (args .memory)) (now (args .memory)) out out (args .r) (Halt 18) _ (λ z. stop wrong-kind) (λ d q. does-stop watched d (now (args .memory)) out (args .r) wrong-kind) (args .pr) (pre .1 .1) (λ v at e. takes-misfit (programOf (now (args .s))) v (args .a) (args .r .taken) (now (args .input)) (rw at) (takes-integer .ensures) e (if1 .left))
 
 pub take-spec : {M : Type 1} → statement M
 take-spec =

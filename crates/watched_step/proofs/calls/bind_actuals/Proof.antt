@@ -61,7 +61,7 @@ returns c =
     let loop = c .before .before .before .before .before .before .loop in
     let actual-in = c .before .before .before .actual-in in
     let k = c .before .k in
-    λ p at v S. let turn : loop .j < args .f = omega arith in let e : loop .j + (args .f - loop .j) ≡ args .f = omega arith in rw e at (bound-stop (loop .inv .2 p at) (actual-in .result) (args .f - (loop .j + 1)) (omega arith) (λ u T. actual-in .ensures .1 u p at T) (k .given .1) v S)
+    let turn : loop .j < args .f = omega arith in let e : loop .j + (args .f - loop .j) ≡ args .f = omega arith in λ p at. (loop .inv .2 p at .gap, λ v S. rw e at (bound-stop (loop .inv .2 p at) (actual-in .result) (args .f - (loop .j + 1)) (omega arith) (λ u T. actual-in .ensures .1 u p at T) (k .given .1) v S))
 
 add-j : tie.Need-add-j Inv-loop μ-loop
 add-j c = omega arith

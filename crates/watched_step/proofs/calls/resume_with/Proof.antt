@@ -86,7 +86,7 @@ returns-4 c =
     let if2 = c .before .before .before .before .before .before .if2 in
     let bind-kept = c .before .before .before .bind-kept in
     let k = c .before .k in
-    returns-refused (now (args .s)) (now (args .memory)) (args .r) (waiting .result) (kept-at .result) (if1 .left) (waiting .ensures .0 watched (now (args .s)) (form-small (now (args .s)) (pre .0 .formed) .3)) (kept-at .ensures) (if2 .left) (now (args .table)) (pre .0) (args .w) (pre .1 .1) (bind-kept .result) (bind-kept .ensures .1) (k .given .1) (now (args .memory))
+    returns-refused (now (args .s)) (now (args .memory)) (args .r) (waiting .result) (kept-at .result) (if1 .left) (waiting .ensures .0 watched (now (args .s)) (form-small (now (args .s)) (pre .0 .formed) .3)) (kept-at .ensures) (if2 .left) (now (args .table)) (pre .0) (args .w) (pre .1 .1) (bind-kept .result) (bind-kept .ensures .1) (k .given .1)
 
 pub resume-with-spec : {M : Type 1} → statement M
 resume-with-spec =
