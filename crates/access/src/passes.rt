@@ -1,11 +1,11 @@
 // The pass over all records in their order for 6 to 9, one loop a kind.
-use crate::records::element_rule;
-use crate::records::has_closed_result;
-use crate::records::instruction_number;
-use crate::records::slots_rule;
-use crate::records::variable_number;
-use crate::rules::require;
+use declaration_rules::element_rule;
+use declaration_rules::has_closed_result;
+use declaration_rules::slots_rule;
+use declaration_rules::variable_number;
+use instruction_rules::instruction_number;
 use model::Verdict;
+use order::require;
 use sheet::bytes::byte;
 use sheet::bytes::word;
 use sheet::decode::instruction_in;
@@ -20,7 +20,8 @@ ghost use Rattle.model.specs.declared.Verdict.the-variants.{Accepted};
 ghost use Rattle.sheet.specs.Layout.{typesOf, qualsOf, proceduresOf, variablesAt, instructionsAt, instructionAt, procedureAt};
 ghost use Rattle.sheet.specs.Decode.{operationAt};
 ghost use Rattle.sheet.specs.Meaning.{programOf};
-ghost use Rattle.access.specs.Callees.{Ready, CalleesAt, Callees};
+ghost use Rattle.instruction_rules.specs.Ready.{Ready};
+ghost use Rattle.access.specs.Callees.{CalleesAt, Callees};
 
 // The verdict of one record.
 fn refused(number: u8, at: usize) -> Verdict

@@ -6,6 +6,7 @@ use sheet::places::qual_at;
 use sheet::places::type_at;
 use sheet::places::variable_at;
 ghost use mathlib.Core.Path.{_≡_};
+ghost use mathlib.Core.Bool.{cond};
 ghost use Prim.Native.Nat.{_<_};
 ghost use Rattle.model.specs.Qualified.{integer, base, rights, element, isInteger, isArray, same, alike, order};
 ghost use Rattle.model.specs.Refusal.{failure};
@@ -206,4 +207,11 @@ pub fn movement(s: &[u8], i: u8, j: u8) -> u8
         return 9;
     }
     8
+}
+
+// The rest where a test holds, else a refusal.
+pub fn require(holds: bool, number: u8, rest: u8) -> u8
+    ensures { λ r. ⌜ r ≡ cond holds rest number ⌝ }
+{
+    if holds { rest } else { number }
 }

@@ -6,7 +6,7 @@ use Rattle.model.specs.Rules.{procedure-rules}
 use Rattle.model.proofs.Verdicts.{Passing, pass-start, pass-next, pass-stop, pass-end}
 use Rattle.sheet.specs.Layout.{proceduresOf}
 use Rattle.sheet.specs.Meaning.{programOf}
-use Rattle.access.proofs.Places.{placed}
+use Rattle.instruction_rules.proofs.Places.{placed}
 use Rattle.access.proofs.passes.procedures_access.Statement.{statement}
 use Rattle.access.proofs.passes.procedures_access.Tie as tie
 

@@ -1,0 +1,68 @@
+-- The invariant: what is left to say is the number of the tests from actual j on.
+use Prim.Native.Nat.{ℕ, _+_, _-_}
+use mathlib.Core.List.{List}
+use native.Mathlib.Omega.{arith}
+use borrow.Author.Needs.{needs}
+use Rattle.model.specs.Refusal.{Test}
+use Rattle.model.specs.Rules.{moves}
+use Rattle.model.proofs.Verdicts.{Testing, test-start, test-next, test-stop, test-end}
+use Rattle.sheet.specs.Layout.{formalsAt}
+use Rattle.sheet.specs.Meaning.{innerIn, needIn}
+use Rattle.call_rules.proofs.actuals_rule.Statement.{statement}
+use Rattle.call_rules.proofs.actuals_rule.Tie as tie
+
+-- the tests of actual j
+abbrev actual : List ℕ → (pr to b j : ℕ) → List Test
+actual s pr to b j = moves (innerIn s pr (b + j)) (needIn s to j)
+
+abbrev Inv-loop : tie.InvT-loop
+Inv-loop s pr to b f j₀ j = Testing (actual s pr to b) (formalsAt s to) j
+
+abbrev μ-loop : tie.MeasureT-loop
+μ-loop s pr to b f j₀ j = f - j
+
+byte-requires : tie.Need-byte-requires Inv-loop μ-loop
+byte-requires c κs = search needs
+
+loop-holds : tie.Need-loop-holds Inv-loop μ-loop
+loop-holds c = test-start _ _
+
+actual-rule-requires : tie.Need-actual-rule-requires Inv-loop μ-loop
+actual-rule-requires c κs = search needs
+
+returns : tie.Need-returns Inv-loop μ-loop
+unfolding formalsAt
+returns c =
+    let d = c .before .before .before in
+    test-stop _ _ _ (d .loop .inv) (omega arith) _ (c .before .actual-rule .ensures) (λ z. omega arith)
+
+add-j : tie.Need-add-j Inv-loop μ-loop
+add-j c = omega arith
+
+loop-less : tie.Need-loop-less Inv-loop μ-loop
+loop-less c = omega arith
+
+loop-again : tie.Need-loop-again Inv-loop μ-loop
+unfolding formalsAt
+loop-again c =
+    let d = c .before .before .before in
+    test-next _ _ _ (d .loop .inv) (omega arith) _ (c .before .actual-rule .ensures) (omega arith)
+
+returns-2 : tie.Need-returns-2 Inv-loop μ-loop
+unfolding formalsAt
+returns-2 c = test-end _ _ _ (c .before .loop .inv) (omega arith)
+
+pub actuals-rule-spec : {M : Type 1} → statement M
+actuals-rule-spec =
+    tie.close
+    (tie.spec
+    Inv-loop
+    μ-loop
+    byte-requires
+    loop-holds
+    actual-rule-requires
+    returns
+    add-j
+    loop-less
+    loop-again
+    returns-2)

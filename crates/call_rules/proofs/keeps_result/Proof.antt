@@ -1,0 +1,19 @@
+-- `keeps-tests`: the two tests are those by which the definition sees a variable and a result.
+use borrow.Author.Needs.{needs}
+use Rattle.sheet.specs.Layout.{resultAt}
+use Rattle.sheet.specs.Meaning.{innerIn}
+use Rattle.call_rules.proofs.Laws.{keeps-tests}
+use Rattle.call_rules.proofs.keeps_result.Statement.{statement}
+use Rattle.call_rules.proofs.keeps_result.Tie as tie
+
+byte-requires : tie.Need-byte-requires
+byte-requires c κs = search needs
+
+returns : tie.Need-returns
+unfolding resultAt
+returns c =
+    let a = c .before .before .args in
+    rw (c .byte .ensures) (keeps-tests (innerIn (a .s .now) (a .pr)) (a .s .now) (a .to) (a .a))
+
+pub keeps-result-spec : {M : Type 1} → statement M
+keeps-result-spec = tie.close (tie.spec byte-requires returns)

@@ -1,0 +1,27 @@
+-- 255 is no result; another byte is the result's number.
+use mathlib.Core.Path.{sym, _∙_}
+use borrow.Author.Needs.{needs}
+use borrow.Author.Tests.{ne-eqb}
+use Rattle.model.specs.Rules.{closed-result}
+use Rattle.sheet.specs.Layout.{resultAt}
+use Rattle.sheet.specs.Meaning.{resultIn}
+use Rattle.declaration_rules.proofs.has_closed_result.Statement.{statement}
+use Rattle.declaration_rules.proofs.has_closed_result.Tie as tie
+
+byte-requires : tie.Need-byte-requires
+byte-requires c κs = search needs
+
+returns : tie.Need-returns
+unfolding closed-result resultIn resultAt
+returns c = rw (sym (c .before .byte .ensures) ∙ c .if1 .taken)
+
+is-closed-requires : tie.Need-is-closed-requires
+is-closed-requires c κs = search needs
+
+returns-2 : tie.Need-returns-2
+unfolding closed-result resultIn resultAt
+returns-2 c =
+    rw (c .is-closed .ensures, ← c .before .before .byte .ensures, ne-eqb _ _ (c .before .if1 .left))
+
+pub has-closed-result-spec : {M : Type 1} → statement M
+has-closed-result-spec = tie.close (tie.spec byte-requires returns is-closed-requires returns-2)

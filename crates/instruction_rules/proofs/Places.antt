@@ -1,0 +1,17 @@
+-- The table has room for each procedure of the sheet, and holds its place.
+use Prim.Native.Nat.{ℕ, _<_}
+use mathlib.Core.Path.{_≡_}
+use mathlib.Core.List.{List}
+use native.Mathlib.Omega.{arith}
+use lib.ListN.{getD}
+use Rattle.sheet.specs.Layout.{proceduresOf, procedureAt}
+use Rattle.sheet.specs.Places.{Places}
+use Rattle.instruction_rules.specs.Ready.{Ready}
+
+module _ (s table : List ℕ) (r : Ready s table) (p : ℕ) (h : p < proceduresOf s) where
+  pub has-room : p < 65
+  has-room = omega arith
+
+  pub placed : getD table p 0 ≡ procedureAt s p
+  unfolding Places
+  placed = r .places p (omega arith) (omega arith)

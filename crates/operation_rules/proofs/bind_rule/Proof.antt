@@ -1,0 +1,22 @@
+-- A movement between the two types that the variables have.
+use borrow.Author.Needs.{needs}
+use Rattle.sheet.specs.Meaning.{innerIn}
+use Rattle.operation_rules.proofs.bind_rule.Statement.{statement}
+use Rattle.operation_rules.proofs.bind_rule.Tie as tie
+
+inner-of-requires : tie.Need-inner-of-requires
+inner-of-requires c κs = search needs
+
+inner-of-requires-2 : tie.Need-inner-of-requires-2
+inner-of-requires-2 c κs = search needs
+
+movement-requires : tie.Need-movement-requires
+movement-requires c κs = search needs
+
+returns : tie.Need-returns
+unfolding innerIn
+returns c = rw (c .movement .ensures, c .before .inner-of2 .ensures, c .before .before .inner-of .ensures)
+
+pub bind-rule-spec : {M : Type 1} → statement M
+bind-rule-spec =
+    tie.close (tie.spec inner-of-requires inner-of-requires-2 movement-requires returns)

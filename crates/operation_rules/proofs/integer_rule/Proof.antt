@@ -1,0 +1,24 @@
+-- One test: `require` gives its number where it fails.
+use borrow.Author.Needs.{needs}
+use Rattle.model.specs.Rules.{integer-rule}
+use Rattle.model.specs.Refusal.{failure}
+use Rattle.sheet.specs.Meaning.{innerIn}
+use Rattle.operation_rules.proofs.integer_rule.Statement.{statement}
+use Rattle.operation_rules.proofs.integer_rule.Tie as tie
+
+inner-of-requires : tie.Need-inner-of-requires
+inner-of-requires c κs = search needs
+
+is-integer-requires : tie.Need-is-integer-requires
+is-integer-requires c κs = search needs
+
+require-requires : tie.Need-require-requires
+require-requires c κs = search needs
+
+returns : tie.Need-returns
+unfolding failure integer-rule innerIn
+returns c = rw (c .require .ensures, c .before .is-integer .ensures, c .before .before .inner-of .ensures)
+
+pub integer-rule-spec : {M : Type 1} → statement M
+integer-rule-spec =
+    tie.close (tie.spec inner-of-requires is-integer-requires require-requires returns)

@@ -1,0 +1,55 @@
+-- One test of three, put together as in the definition.
+use borrow.Author.Needs.{needs}
+use Rattle.model.specs.Rules.{integers-rule}
+use Rattle.model.specs.Refusal.{failure}
+use Rattle.sheet.specs.Meaning.{innerIn}
+use Rattle.operation_rules.proofs.integers_rule.Statement.{statement}
+use Rattle.operation_rules.proofs.integers_rule.Tie as tie
+
+inner-of-requires : tie.Need-inner-of-requires
+inner-of-requires c κs = search needs
+
+is-integer-requires : tie.Need-is-integer-requires
+is-integer-requires c κs = search needs
+
+inner-of-requires-2 : tie.Need-inner-of-requires-2
+inner-of-requires-2 c κs = search needs
+
+is-integer-requires-2 : tie.Need-is-integer-requires-2
+is-integer-requires-2 c κs = search needs
+
+inner-of-requires-3 : tie.Need-inner-of-requires-3
+inner-of-requires-3 c κs = search needs
+
+is-integer-requires-3 : tie.Need-is-integer-requires-3
+is-integer-requires-3 c κs = search needs
+
+require-requires : tie.Need-require-requires
+require-requires c κs = search needs
+
+returns : tie.Need-returns
+unfolding failure integers-rule innerIn
+returns c =
+    let d = c .before .before .before .before in
+    rw (
+      c .require .ensures,
+      c .before .is-integer3 .ensures,
+      c .before .before .inner-of3 .ensures,
+      c .before .before .before .is-integer2 .ensures,
+      d .inner-of2 .ensures,
+      d .before .is-integer .ensures,
+      d .before .before .inner-of .ensures,
+    )
+
+pub integers-rule-spec : {M : Type 1} → statement M
+integers-rule-spec =
+    tie.close
+    (tie.spec
+    inner-of-requires
+    is-integer-requires
+    inner-of-requires-2
+    is-integer-requires-2
+    inner-of-requires-3
+    is-integer-requires-3
+    require-requires
+    returns)

@@ -1,0 +1,72 @@
+-- The two tests in their order, then the movement to the slot.
+use borrow.Author.Needs.{needs}
+use Rattle.model.specs.Rules.{set-slot-rule}
+use Rattle.model.specs.Refusal.{failure}
+use Rattle.sheet.specs.Layout.{ownerAt}
+use Rattle.sheet.specs.Meaning.{slotIn, innerIn}
+use Rattle.operation_rules.proofs.set_slot_rule.Statement.{statement}
+use Rattle.operation_rules.proofs.set_slot_rule.Tie as tie
+
+byte-requires : tie.Need-byte-requires
+byte-requires c κs = search needs
+
+inner-of-requires : tie.Need-inner-of-requires
+inner-of-requires c κs = search needs
+
+inner-of-requires-2 : tie.Need-inner-of-requires-2
+inner-of-requires-2 c κs = search needs
+
+slot-of-requires : tie.Need-slot-of-requires
+slot-of-requires c κs = search needs
+
+movement-requires : tie.Need-movement-requires
+movement-requires c κs = search needs
+
+is-owned-requires : tie.Need-is-owned-requires
+is-owned-requires c κs = search needs
+
+rights-of-requires : tie.Need-rights-of-requires
+rights-of-requires c κs = search needs
+
+has-right-requires : tie.Need-has-right-requires
+has-right-requires c κs = search needs
+
+require-requires : tie.Need-require-requires
+require-requires c κs = search needs
+
+require-requires-2 : tie.Need-require-requires-2
+require-requires-2 c κs = search needs
+
+returns : tie.Need-returns
+unfolding failure set-slot-rule innerIn slotIn ownerAt
+returns c =
+    let d = c .before .before .before .before in
+    let e = d .before .before .before .before in
+    rw (
+      c .require2 .ensures,
+      c .before .require .ensures,
+      c .before .before .has-right .ensures,
+      c .before .before .before .rights-of .ensures,
+      d .is-owned .ensures,
+      d .before .movement .ensures,
+      d .before .before .slot-of .ensures,
+      d .before .before .before .inner-of2 .ensures,
+      e .inner-of .ensures,
+      e .before .byte .ensures,
+    )
+
+pub set-slot-rule-spec : {M : Type 1} → statement M
+set-slot-rule-spec =
+    tie.close
+    (tie.spec
+    byte-requires
+    inner-of-requires
+    inner-of-requires-2
+    slot-of-requires
+    movement-requires
+    is-owned-requires
+    rights-of-requires
+    has-right-requires
+    require-requires
+    require-requires-2
+    returns)
