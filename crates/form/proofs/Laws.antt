@@ -12,8 +12,8 @@ use borrow.Author.Tests.{leb-true, ltb-true, eq-eqb, ne-eqb, le-leb, lt-ltb, le-
 use Rattle.model.specs.Refusal.{torn, stray-mark, bad-edition, off-scale, Tests, tests, failure, verdict}
 use Rattle.model.specs.declared.Verdict.the-variants.{Accepted}
 use Rattle.model.proofs.Verdicts.{left-accepted, right-accepted, accepted-tests, passed-test, both-true, all-held}
-use Rattle.sheet.specs.Bytes.{byteAt, wordAt, wholeAt, markedAt}
-use Rattle.sheet.specs.Layout.{editionOf, typesOf, qualsOf, qualAt, proceduresOf, slotsOf, ownerAt, formalsAt, variablesAt, instructionsAt, variableAt, instructionAt, codeAt, kAt, procedureAt}
+use Rattle.sheet.specs.Bytes.{byteAt, wordAt, wholeAt, Mark, mark, markedAt}
+use Rattle.sheet.specs.Layout.{hd-mark, editionOf, typesOf, qualsOf, qualAt, proceduresOf, slotsOf, ownerAt, formalsAt, variablesAt, instructionsAt, variableAt, instructionAt, codeAt, kAt, procedureAt}
 use Rattle.sheet.specs.Places.{Places}
 use Rattle.sheet.specs.Reader.{recordAt, pastAt, leftAt}
 use Rattle.sheet.proofs.Laws.{whole-true, record-inside, record-byte, hd-sized}
@@ -38,13 +38,13 @@ unfolding wholeAt
 whole-here s at n h = le-leb (at + n) (length s) h
 
 -- a mark by its two bytes
-pub mark-here : (s : List ℕ) (at m n : ℕ) → markedAt s at m n ≡ eqb (getD s at 0) m && eqb (getD s (at + 1) 0) n
+pub mark-here : (s : List ℕ) (at m n : ℕ) → markedAt s at (mark m n) ≡ eqb (getD s at 0) m && eqb (getD s (at + 1) 0) n
 unfolding markedAt byteAt
 mark-here s at m n = let e : at + 0 ≡ at = omega arith in rw e
 
 -- ---- what a reader of records gives
 -- the HD, where it stands whole under its mark, has the header's fields
-pub header-field : (s hd : List ℕ) → hd ≡ recordAt s 0 → wholeAt s 0 6 ≡ true → markedAt s 0 72 68 ≡ true → (k r : ℕ) → k < 6 → r ≡ byteAt hd 0 k → r ≡ byteAt s 0 k
+pub header-field : (s hd : List ℕ) → hd ≡ recordAt s 0 → wholeAt s 0 6 ≡ true → markedAt s 0 hd-mark ≡ true → (k r : ℕ) → k < 6 → r ≡ byteAt hd 0 k → r ≡ byteAt s 0 k
 header-field s hd e w m k r l h = h ∙ rw e (record-byte s 0 6 (hd-sized s 0 m) w k l)
 
 -- nothing is left after a record of 8 bytes exactly where it ends with the sheet
@@ -88,21 +88,21 @@ unfolding call-tests
 call-here s pr v i at p e = rw (p, e)
 
 -- ---- what an accepted record says: it stands whole, within its limits
-pub record-formed : (s : List ℕ) (at size m n : ℕ) (scale : Bool) → verdict (record-tests s at size m n scale) ≡ Accepted
+pub record-formed : (s : List ℕ) (at size : ℕ) (m : Mark) (scale : Bool) → verdict (record-tests s at size m scale) ≡ Accepted
     → (at + size ≤ length s) × (scale ≡ true)
 unfolding record-tests
-record-formed s at size m n scale h =
+record-formed s at size m scale h =
     let w = passed-test torn (wholeAt s at size) _ (accepted-tests at _ h) in
-    let k = passed-test stray-mark (markedAt s at m n) _ (w .1) in
+    let k = passed-test stray-mark (markedAt s at m) _ (w .1) in
     (whole-true s at size (w .0), passed-test off-scale scale [] (k .1) .0)
 
 -- and under its mark
-pub record-marked : (s : List ℕ) (at size m n : ℕ) (scale : Bool) → verdict (record-tests s at size m n scale) ≡ Accepted
-    → (wholeAt s at size ≡ true) × (markedAt s at m n ≡ true)
+pub record-marked : (s : List ℕ) (at size : ℕ) (m : Mark) (scale : Bool) → verdict (record-tests s at size m scale) ≡ Accepted
+    → (wholeAt s at size ≡ true) × (markedAt s at m ≡ true)
 unfolding record-tests
-record-marked s at size m n scale h =
+record-marked s at size m scale h =
     let w = passed-test torn (wholeAt s at size) _ (accepted-tests at _ h) in
-    (w .0, passed-test stray-mark (markedAt s at m n) _ (w .1) .0)
+    (w .0, passed-test stray-mark (markedAt s at m) _ (w .1) .0)
 
 -- few types, qualified types and procedures, and at least one procedure
 pub header-small : (s : List ℕ) → verdict (header-tests s) ≡ Accepted
@@ -110,7 +110,7 @@ pub header-small : (s : List ℕ) → verdict (header-tests s) ≡ Accepted
 unfolding header-tests header-scale
 header-small s h =
     let w = passed-test torn (wholeAt s 0 6) _ (accepted-tests 0 _ h) in
-    let k = passed-test stray-mark (markedAt s 0 72 68) _ (w .1) in
+    let k = passed-test stray-mark (markedAt s 0 hd-mark) _ (w .1) in
     let e = passed-test bad-edition (eqb (editionOf s) 1) _ (k .1) in
     let l = all-held true _ (passed-test off-scale (header-scale (typesOf s) (qualsOf s) (proceduresOf s)) [] (e .1) .0) .1 in
     (leb-true (typesOf s) 32 (l .0), leb-true (qualsOf s) 64 (l .1 .0), leb-true 1 (proceduresOf s) (l .1 .1 .0), leb-true (proceduresOf s) 64 (l .1 .1 .1 .0))

@@ -9,7 +9,7 @@ use borrow.Author.Tests.{leb-true}
 use Rattle.model.specs.Refusal.{verdict, each}
 use Rattle.model.specs.declared.Verdict.the-variants.{Accepted}
 use Rattle.model.proofs.Verdicts.{left-accepted, right-accepted, each-accepted, all-held}
-use Rattle.sheet.specs.Layout.{typesOf, qualsOf, proceduresOf, ownerAt, formalsAt, variablesAt, resultAt, instructionsAt, instructionAt, procedureAt}
+use Rattle.sheet.specs.Layout.{pr-mark, in-mark, typesOf, qualsOf, proceduresOf, ownerAt, formalsAt, variablesAt, resultAt, instructionsAt, instructionAt, procedureAt}
 use Rattle.sheet.specs.Reader.{recordAt, pastAt}
 use Rattle.sheet.proofs.Laws.{in-sized, record-sized, procedure-next}
 use Rattle.form.specs.Scale.{procedure-scale}
@@ -42,7 +42,7 @@ module _ (s : List ℕ) (h : verdict (each (proceduresOf s) (procedure-tests s))
     unfolding procedure-tests-at head-tests
     head-formed =
         let pr = procedureAt s p in
-        record-formed s pr 8 80 82 _ (left-accepted (head-tests s p pr) _ formed)
+        record-formed s pr 8 pr-mark _ (left-accepted (head-tests s p pr) _ formed)
 
     pub head-whole : procedureAt s p + 8 ≤ length s
     head-whole = head-formed .0
@@ -61,7 +61,7 @@ module _ (s : List ℕ) (h : verdict (each (proceduresOf s) (procedure-tests s))
         let pr = procedureAt s p in
         let n = instructionsAt s pr in
         let at = instructionAt s pr (n - 1) in
-        let r = record-marked s at 8 73 78 _ (each-accepted (instruction-tests s pr) n instructions-accepted (n - 1) (omega (arith, some-instruction))) in
+        let r = record-marked s at 8 in-mark _ (each-accepted (instruction-tests s pr) n instructions-accepted (n - 1) (omega (arith, some-instruction))) in
         let z : length (recordAt s at) ≡ 8 = record-sized s at 8 (in-sized s at (r .1)) (r .0) in
         let e : end ≡ at + 8 = q ∙ sym (procedure-next s p pr refl) ∙ after-last s pr n some-instruction in
         let f : end - 8 ≡ at = omega (arith, e) in

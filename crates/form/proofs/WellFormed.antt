@@ -15,7 +15,7 @@ use Rattle.model.specs.declared.Operation.the-variants.{Call, Return}
 use Rattle.model.specs.declared.Verdict.the-variants.{Accepted}
 use Rattle.model.proofs.Verdicts.{left-accepted, right-accepted, each-accepted, accepted-tests, passed-test, both-true, either-true, implied, Held, all-held}
 use Rattle.sheet.specs.Bytes.{byteAt}
-use Rattle.sheet.specs.Layout.{typesOf, qualsOf, proceduresOf, typeAt, namedOf, slotsOf, slotOf, qualAt, baseOf, rightsOf, elementOf, ownerAt, formalsAt, variablesAt, resultAt, instructionsAt, variableAt, innerAt, needAt, instructionAt, codeAt, kAt, procedureAt}
+use Rattle.sheet.specs.Layout.{ty-mark, qt-mark, vr-mark, in-mark, typesOf, qualsOf, proceduresOf, typeAt, namedOf, slotsOf, slotOf, qualAt, baseOf, rightsOf, elementOf, ownerAt, formalsAt, variablesAt, resultAt, instructionsAt, variableAt, innerAt, needAt, instructionAt, codeAt, kAt, procedureAt}
 use Rattle.sheet.specs.Decode.{decode, operationAt}
 use Rattle.form.specs.Scale.{all-below, below-or-none, type-scale, rights-scale, qual-scale, procedure-scale, variable-scale, from-to, uses-b, uses-c, a-scale, b-scale, c-scale, k-scale, instruction-scale, actuals-scale}
 use Rattle.form.specs.WellFormed.{length-tests, header-tests, type-tests, qual-tests, variable-tests, instruction-tests-at, instruction-tests, procedure-tests, leftover-tests, layout-tests, call-tests-at, call-tests, procedure-calls, calls-tests, form-tests}
@@ -200,7 +200,7 @@ module _ (s : List ℕ) (wf : verdict (form-tests s) ≡ Accepted) where
     unfolding type-tests type-scale
     type-held =
         let e : 2 + (t - 2) ≡ t = omega arith in
-        all-held true _ (record-formed s (typeAt t) 12 84 89 _ (rw e at type-formed) .1) .1
+        all-held true _ (record-formed s (typeAt t) 12 ty-mark _ (rw e at type-formed) .1) .1
 
     pub named-few : namedOf s t ≤ 15
     named-few = leb-true (namedOf s t) 15 (type-held .0)
@@ -220,7 +220,7 @@ module _ (s : List ℕ) (wf : verdict (form-tests s) ≡ Accepted) where
     unfolding qual-tests qual-scale
     qual-held =
         let h = each-accepted (qual-tests s) (qualsOf s) (left-accepted (each (qualsOf s) (qual-tests s)) _ after-types) j l in
-        all-held true _ (record-formed s (qualAt s j) 6 81 84 _ h .1) .1
+        all-held true _ (record-formed s (qualAt s j) 6 qt-mark _ h .1) .1
 
     pub base-below : baseOf s j < typesOf s + 2
     base-below = ltb-true (baseOf s j) (typesOf s + 2) (qual-held .0)
@@ -281,7 +281,7 @@ module _ (s : List ℕ) (wf : verdict (form-tests s) ≡ Accepted) where
       variable-held =
           let pr = procedureAt s p in
           let h = each-accepted (variable-tests s pr) (variablesAt s pr) (variables-accepted s procedures-accepted p l) x m in
-          all-held true _ (record-formed s (variableAt pr x) 4 86 82 _ h .1) .1
+          all-held true _ (record-formed s (variableAt pr x) 4 vr-mark _ h .1) .1
 
       pub inner-below : innerAt s (procedureAt s p) x < qualsOf s
       inner-below = ltb-true (innerAt s (procedureAt s p) x) (qualsOf s) (variable-held .0)
@@ -300,7 +300,7 @@ module _ (s : List ℕ) (wf : verdict (form-tests s) ≡ Accepted) where
       unfolding instruction-tests instruction-tests-at
       instruction-formed =
           let pr = procedureAt s p in
-          record-formed s (instructionAt s pr i) 8 73 78 _
+          record-formed s (instructionAt s pr i) 8 in-mark _
           (each-accepted (instruction-tests s pr) (instructionsAt s pr) (instructions-accepted s procedures-accepted p l) i m)
 
       -- its eight bytes stand within the sheet

@@ -6,25 +6,25 @@ use mathlib.Core.Bool.{Bool, cond}
 use lib.ListN.{length}
 use lib.Dec.{leb, ltb, eqb}
 use Rattle.model.specs.Refusal.{overlong, torn, stray-mark, bad-edition, off-scale, Test, test, Tests, tests, each}
-use Rattle.sheet.specs.Bytes.{byteAt, wholeAt, markedAt}
-use Rattle.sheet.specs.Layout.{hd-size, ty-size, qt-size, pr-size, vr-size, in-size, editionOf, typesOf, qualsOf, proceduresOf, typeAt, namedOf, slotsOf, slotOf, qualAt, baseOf, rightsOf, elementOf, ownerAt, formalsAt, variablesAt, resultAt, instructionsAt, variableAt, innerAt, needAt, instructionAt, codeAt, kAt, procedureAt}
+use Rattle.sheet.specs.Bytes.{byteAt, wholeAt, Mark, markedAt}
+use Rattle.sheet.specs.Layout.{hd-mark, ty-mark, qt-mark, pr-mark, vr-mark, in-mark, hd-size, ty-size, qt-size, pr-size, vr-size, in-size, editionOf, typesOf, qualsOf, proceduresOf, typeAt, namedOf, slotsOf, slotOf, qualAt, baseOf, rightsOf, elementOf, ownerAt, formalsAt, variablesAt, resultAt, instructionsAt, variableAt, innerAt, needAt, instructionAt, codeAt, kAt, procedureAt}
 use Rattle.form.specs.Scale.{header-scale, type-scale, qual-scale, procedure-scale, variable-scale, instruction-scale, actuals-scale}
 
 -- 1: "more than 32,768 bytes"
 unfoldable pub length-tests : List ℕ → List Tests
 length-tests s = tests 0 (test overlong (leb (length s) 32768) ∷ []) ∷ []
 
--- a record of a size, under its mark (two bytes), within its limits: 2 torn, 3 stray mark, 5 off scale
-unfoldable pub record-tests : List ℕ → (at size m n : ℕ) → Bool → List Tests
-record-tests s at size m n scale =
-    tests at (test torn (wholeAt s at size) ∷ test stray-mark (markedAt s at m n) ∷ test off-scale scale ∷ []) ∷ []
+-- a record of a size, under its mark, within its limits: 2 torn, 3 stray mark, 5 off scale
+unfoldable pub record-tests : List ℕ → (at size : ℕ) → Mark → Bool → List Tests
+record-tests s at size m scale =
+    tests at (test torn (wholeAt s at size) ∷ test stray-mark (markedAt s at m) ∷ test off-scale scale ∷ []) ∷ []
 
 -- HD; 4 is "not 1"
 unfoldable pub header-tests : List ℕ → List Tests
 header-tests s =
     tests 0 (
     test torn (wholeAt s 0 hd-size) ∷
-    test stray-mark (markedAt s 0 72 68) ∷
+    test stray-mark (markedAt s 0 hd-mark) ∷
     test bad-edition (eqb (editionOf s) 1) ∷
     test off-scale (header-scale (typesOf s) (qualsOf s) (proceduresOf s)) ∷
     [])
@@ -33,31 +33,31 @@ header-tests s =
 -- TY number i, of type 2 + i
 unfoldable pub type-tests : List ℕ → ℕ → List Tests
 type-tests s i =
-    record-tests s (typeAt (2 + i)) ty-size 84 89
+    record-tests s (typeAt (2 + i)) ty-size ty-mark
     (type-scale (qualsOf s) (namedOf s (2 + i)) (slotsOf s (2 + i)) (slotOf s (2 + i)))
 
 -- QT number j
 unfoldable pub qual-tests : List ℕ → ℕ → List Tests
 qual-tests s j =
-    record-tests s (qualAt s j) qt-size 81 84
+    record-tests s (qualAt s j) qt-size qt-mark
     (qual-scale (typesOf s) (namedOf s (baseOf s j)) j (baseOf s j) (rightsOf s j) (elementOf s j))
 
 -- PR number p, at `pr`
 unfoldable pub head-tests : List ℕ → (p pr : ℕ) → List Tests
 head-tests s p pr =
-    record-tests s pr pr-size 80 82
+    record-tests s pr pr-size pr-mark
     (procedure-scale (typesOf s) (qualsOf s) p (ownerAt s pr) (formalsAt s pr) (variablesAt s pr) (resultAt s pr) (instructionsAt s pr))
 
 -- VR number x of the procedure at `pr`
 unfoldable pub variable-tests : List ℕ → (pr x : ℕ) → List Tests
 variable-tests s pr x =
-    record-tests s (variableAt pr x) vr-size 86 82
+    record-tests s (variableAt pr x) vr-size vr-mark
     (variable-scale (qualsOf s) (formalsAt s pr) x (innerAt s pr x) (needAt s pr x))
 
 -- IN number i, at `at`, in a procedure with v variables and n instructions, whose owner has `slots` slots
 unfoldable pub instruction-tests-at : List ℕ → (v n owner slots i at : ℕ) → List Tests
 instruction-tests-at s v n owner slots i at =
-    record-tests s at in-size 73 78
+    record-tests s at in-size in-mark
     (instruction-scale v n owner slots i (codeAt s at) (byteAt s at 3) (byteAt s at 4) (byteAt s at 5) (kAt s at))
 
 unfoldable pub instruction-tests : List ℕ → (pr i : ℕ) → List Tests

@@ -19,13 +19,13 @@ ghost use Prim.Native.Nat.{_+_, _<_, _≤_};
 ghost use lib.Dec.{ltb};
 ghost use lib.ListN.{length};
 ghost use Rattle.model.specs.Refusal.{verdict};
-ghost use Rattle.sheet.specs.Bytes.{byteAt};
+ghost use Rattle.sheet.specs.Bytes.{byteAt, mark};
 ghost use Rattle.form.specs.Scale.{below-or-none, type-scale};
 ghost use Rattle.form.specs.WellFormed.{record-tests, header-tests, type-tests, qual-tests, head-tests, variable-tests, instruction-tests-at};
 
 // A record of a size under its mark: 2, 3 or 5, in this order.
 fn record(s: &[u8], at: usize, size: usize, m: u8, n: u8, scale: bool) -> Verdict
-    ensures { λ r. ⌜ r ≡ verdict (record-tests (now (s .entry)) at size m n scale) ⌝ }
+    ensures { λ r. ⌜ r ≡ verdict (record-tests (now (s .entry)) at size (mark m n) scale) ⌝ }
 {
     if whole(s, at, size) {
         if marked(s, at, m, n) {

@@ -13,8 +13,8 @@ use borrow.Author.Count.{below-more}
 use borrow.Author.Tests.{leb-true, leb-false, le-leb, lt-leb, ltb-true, ltb-false, le-ltb, eqb-true}
 use Rattle.model.specs.Qualified.{Qual, integer, array, declared, base}
 use Rattle.model.proofs.Verdicts.{both-true}
-use Rattle.sheet.specs.Bytes.{byteAt, wholeAt, markedAt}
-use Rattle.sheet.specs.Layout.{qualsOf, rightsOf, elementOf, instructionAt, instructionsAt, procedureAt}
+use Rattle.sheet.specs.Bytes.{byteAt, wholeAt, mark, markedAt}
+use Rattle.sheet.specs.Layout.{hd-mark, in-mark, qualsOf, rightsOf, elementOf, instructionAt, instructionsAt, procedureAt}
 use Rattle.sheet.specs.Reader.{sizeAt, recordAt}
 use Rattle.sheet.specs.Meaning.{shaped, baseIn, elementIn, tree, qualOf}
 
@@ -63,15 +63,15 @@ record-inside s at = within (cond (wholeAt s at (sizeAt s at)) (sizeAt s at) 0)
     within n = omega (arith, length-take n (drop at s), length-drop at s)
 
 -- a mark rules out those whose first byte differs
-other-mark : (s : List ℕ) (at m n : ℕ) → markedAt s at m n ≡ true → (k l : ℕ) → eqb m k ≡ false → markedAt s at k l ≡ false
+other-mark : (s : List ℕ) (at m n : ℕ) → markedAt s at (mark m n) ≡ true → (k l : ℕ) → eqb m k ≡ false → markedAt s at (mark k l) ≡ false
 unfolding markedAt
 other-mark s at m n h k l d = let e = eqb-true (byteAt s at 0) m (both-true (eqb (byteAt s at 0) m) _ h .0) in rw (e, d)
 
-pub hd-sized : (s : List ℕ) (at : ℕ) → markedAt s at 72 68 ≡ true → sizeAt s at ≡ 6
+pub hd-sized : (s : List ℕ) (at : ℕ) → markedAt s at hd-mark ≡ true → sizeAt s at ≡ 6
 unfolding sizeAt
 hd-sized s at h = rw h
 
-pub in-sized : (s : List ℕ) (at : ℕ) → markedAt s at 73 78 ≡ true → sizeAt s at ≡ 8
+pub in-sized : (s : List ℕ) (at : ℕ) → markedAt s at in-mark ≡ true → sizeAt s at ≡ 8
 unfolding sizeAt
 in-sized s at h =
     let other = other-mark s at 73 78 h in

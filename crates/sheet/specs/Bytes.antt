@@ -16,6 +16,9 @@ wordAt s at k = byteAt s at k + 256 * byteAt s at (k + 1)
 unfoldable pub wholeAt : List ℕ → ℕ → ℕ → Bool
 wholeAt s at n = leb (at + n) (length s)
 
--- the two bytes of a mark stand at `at`
-unfoldable pub markedAt : List ℕ → ℕ → ℕ → ℕ → Bool
-markedAt s at a b = eqb (byteAt s at 0) a && eqb (byteAt s at 1) b
+-- "a two-byte ASCII mark"
+pub data Mark : Type 0 where
+  mark : (first second : ℕ) → Mark
+
+unfoldable pub markedAt : List ℕ → ℕ → Mark → Bool
+markedAt s at (mark first second) = eqb (byteAt s at 0) first && eqb (byteAt s at 1) second

@@ -2,7 +2,26 @@
 -- "Order: HD, all TY, all QT, then for each procedure its PR, VRs, INs."
 use Prim.Native.Nat.{ℕ, zero, suc, _+_, _*_, _-_}
 use mathlib.Core.List.{List}
-use Rattle.sheet.specs.Bytes.{byteAt, wordAt}
+use Rattle.sheet.specs.Bytes.{byteAt, wordAt, Mark, mark}
+
+-- "Each record starts with a two-byte ASCII mark": its two letters
+abbrev pub hd-mark : Mark
+hd-mark = mark 72 68
+
+abbrev pub ty-mark : Mark
+ty-mark = mark 84 89
+
+abbrev pub qt-mark : Mark
+qt-mark = mark 81 84
+
+abbrev pub pr-mark : Mark
+pr-mark = mark 80 82
+
+abbrev pub vr-mark : Mark
+vr-mark = mark 86 82
+
+abbrev pub in-mark : Mark
+in-mark = mark 73 78
 
 -- sizes in bytes
 abbrev pub hd-size : ℕ

@@ -4,17 +4,17 @@ use mathlib.Core.List.{List}
 use mathlib.Core.Bool.{cond}
 use lib.ListN.{length, take, drop}
 use Rattle.sheet.specs.Bytes.{wholeAt, markedAt}
-use Rattle.sheet.specs.Layout.{hd-size, ty-size, qt-size, pr-size, vr-size, in-size}
+use Rattle.sheet.specs.Layout.{hd-mark, ty-mark, qt-mark, pr-mark, vr-mark, in-mark, hd-size, ty-size, qt-size, pr-size, vr-size, in-size}
 
--- the size of the record whose mark (HD, TY, QT, PR, VR, IN) stands at `at`, 0 where no known mark does
+-- the size of the record whose mark stands at `at`, 0 where no known mark does
 unfoldable pub sizeAt : List ℕ → ℕ → ℕ
 sizeAt s at =
-    cond (markedAt s at 72 68) hd-size
-    (cond (markedAt s at 84 89) ty-size
-    (cond (markedAt s at 81 84) qt-size
-    (cond (markedAt s at 80 82) pr-size
-    (cond (markedAt s at 86 82) vr-size
-    (cond (markedAt s at 73 78) in-size
+    cond (markedAt s at hd-mark) hd-size
+    (cond (markedAt s at ty-mark) ty-size
+    (cond (markedAt s at qt-mark) qt-size
+    (cond (markedAt s at pr-mark) pr-size
+    (cond (markedAt s at vr-mark) vr-size
+    (cond (markedAt s at in-mark) in-size
     0)))))
 
 -- "Where no record with a known mark stands whole at the place given, that part is empty."

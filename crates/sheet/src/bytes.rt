@@ -1,7 +1,7 @@
 // Bytes and words of a sheet. Every reading is total: past the end it is 0, so that no caller owes a bound.
 ghost use mathlib.Core.Path.{_≡_};
 ghost use Prim.Native.Nat.{_+_};
-ghost use Rattle.sheet.specs.Bytes.{byteAt, wordAt, wholeAt, markedAt};
+ghost use Rattle.sheet.specs.Bytes.{byteAt, wordAt, wholeAt, mark, markedAt};
 
 // Byte k of the record at a place.
 pub fn byte(s: &[u8], at: usize, k: usize) -> u8
@@ -40,7 +40,7 @@ pub fn whole(s: &[u8], at: usize, n: usize) -> bool
 
 // Whether a mark stands at a place.
 pub fn marked(s: &[u8], at: usize, a: u8, b: u8) -> bool
-    ensures { λ r. ⌜ r ≡ markedAt (now (s .entry)) at a b ⌝ }
+    ensures { λ r. ⌜ r ≡ markedAt (now (s .entry)) at (mark a b) ⌝ }
 {
     (byte(s, at, 0) == a) & (byte(s, at, 1) == b)
 }

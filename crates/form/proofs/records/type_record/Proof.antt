@@ -6,7 +6,7 @@ use native.Mathlib.Omega.{arith}
 use borrow.Author.Needs.{needs}
 use Rattle.model.specs.Refusal.{Tests}
 use Rattle.sheet.specs.Bytes.{byteAt}
-use Rattle.sheet.specs.Layout.{typeAt, qualsOf, namedOf, slotsOf, slotOf}
+use Rattle.sheet.specs.Layout.{ty-mark, typeAt, qualsOf, namedOf, slotsOf, slotOf}
 use Rattle.form.specs.Scale.{type-scale}
 use Rattle.form.specs.WellFormed.{record-tests, type-tests}
 use Rattle.form.proofs.records.type_record.Statement.{statement}
@@ -17,7 +17,7 @@ unfolding typeAt
 type-place i = omega arith
 
 abbrev tests-at : List ℕ → ℕ → List Tests
-tests-at s at = record-tests s at 12 84 89 (type-scale (byteAt s 0 4) (byteAt s at 2) (byteAt s at 3) (λ k. byteAt s at (4 + k)))
+tests-at s at = record-tests s at 12 ty-mark (type-scale (byteAt s 0 4) (byteAt s at 2) (byteAt s at 3) (λ k. byteAt s at (4 + k)))
 
 type-tests-at : (s : List ℕ) (i : ℕ) → type-tests s i ≡ tests-at s (6 + 12 * i)
 unfolding type-tests qualsOf namedOf slotsOf slotOf
