@@ -7,6 +7,10 @@ use Rattle.model.specs.declared.Verdict.{Verdict}
 use Rattle.sheet.specs.Meaning.{programOf}
 use Rattle.form.specs.WellFormed.{form-tests}
 
+-- refusals 1 to 5 alone: a sheet is well-formed when none of them is given
+abbrev pub form-verdict : List ℕ → Verdict
+form-verdict s = verdict (form-tests s)
+
 -- "Order: 1; then record by record 2, 3, 4, 5 in field order; leftover bytes 2; then, call by call, the 5s that wait for the procedure called;
 -- then record by record 6, 7, 8, 9"
 unfoldable pub check-tests : List ℕ → List Tests

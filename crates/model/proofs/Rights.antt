@@ -42,15 +42,6 @@ pub within-trans : (a b c : Rights) → within a b ≡ true → within b c ≡ t
 unfolding within
 within-trans a b c h k = eq-eqb (bitAnd a c) a (and-trans a b c (eqb-true (bitAnd a b) a h) (eqb-true (bitAnd b c) b k))
 
--- what a subset has, the set has
-pub within-has : (i : ℕ) (a b : Rights) → within a b ≡ true → has i a ≡ true → has i b ≡ true
-unfolding within has
-within-has i a b h k =
-    let e : bitAnd (a / 2 ^ i) (b / 2 ^ i) ≡ a / 2 ^ i = sym (and-shr a b i) ∙ ap (λ (x : ℕ). x / 2 ^ i) (eqb-true (bitAnd a b) a h) in
-    let d = digit-of (a / 2 ^ i) (b / 2 ^ i) e in
-    let l : a / 2 ^ i % 2 ≡ 1 = eqb-true (a / 2 ^ i % 2) 1 k in
-    eq-eqb (b / 2 ^ i % 2) 1 (omega (arith, d .low))
-
 -- "Declared type: bits 0..n": what has no right above n is within all rights
 pub within-all : (n : ℕ) (a : Rights) → none-above n a ≡ true → within a (record-rights n) ≡ true
 unfolding within none-above record-rights

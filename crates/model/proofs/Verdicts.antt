@@ -55,10 +55,6 @@ failure-append [] ys = refl
 failure-append (test r b ∷ xs) ys =
     ap (λ (n : ℕ). cond b n (refusal-number r)) (failure-append xs ys) ∙ cond-first b r (failure xs) (failure ys)
 
--- a record's tests alone, and after them others
-pub verdict-one : (at : ℕ) (ts : List Test) (more : List Tests) → verdict (tests at ts ∷ more) ≡ and-then (verdict (tests at ts ∷ [])) (verdict more)
-verdict-one at ts more = verdict-append (tests at ts ∷ []) more
-
 pub accepted-left : (v w : Verdict) → and-then v w ≡ Accepted → v ≡ Accepted
 accepted-left Accepted w h = refl
 accepted-left (Refused n at) w h = h

@@ -35,12 +35,6 @@ array-base an-integer = refl
 array-base (an-array r e) = refl
 array-base (a-declared t r h) = sym (ne-eqb t 1 (λ z. omega arith))
 
-pub same-integer : (b : Qual) → same integer b ≡ isInteger b
-unfolding same isInteger
-same-integer integer = refl
-same-integer (array r e) = refl
-same-integer (declared t r) = refl
-
 then-and : (t x : Bool) → t && x ≡ cond (t && true) x t
 then-and true x = refl
 then-and false x = refl

@@ -8,13 +8,12 @@ use lib.Dec.{leb}
 use lib.ListN.{length, replicate}
 use Rattle.model.specs.Modes.{Mode, plain, watched}
 use Rattle.model.specs.Outcome.{stop-number}
-use Rattle.model.specs.Refusal.{big-memory, verdict, refusal-number}
+use Rattle.model.specs.Refusal.{big-memory, refusal-number}
 use Rattle.model.specs.Run.{End, stopped, stuck-at, run, written}
 use Rattle.model.specs.declared.Verdict.{Verdict}
 use Rattle.model.specs.declared.Verdict.the-variants.{Accepted, Refused}
 use Rattle.sheet.specs.Meaning.{programOf}
-use Rattle.form.specs.WellFormed.{form-tests}
-use Rattle.checking.specs.Check.{check}
+use Rattle.checking.specs.Check.{form-verdict, check}
 use Rattle.run.specs.declared.Reply.{Reply}
 
 -- what is said, and the memory and the output afterwards
@@ -37,7 +36,7 @@ stopped-at k n w p i = record { number = k; place = 0; steps = n; put = w; proce
 -- "run an accepted one on the plain machine; watch a well-formed one on the watched machine": "watch all but 6 to 9"
 abbrev pub verdict-before : Mode → List ℕ → Verdict
 verdict-before plain s = check s
-verdict-before watched s = verdict (form-tests s)
+verdict-before watched s = form-verdict s
 
 module _ (m : Mode) (sheet input : List ℕ) (fuel : ℕ) (memory output : List ℕ) where
   -- the run itself

@@ -126,10 +126,6 @@ pub qual-integer : (s : List ℕ) (j : ℕ) → baseIn s j ≡ 0 → qualOf s j 
 unfolding qualOf tree shaped
 qual-integer s j b = rw b
 
-pub qual-declared : (s : List ℕ) (j : ℕ) → 2 ≤ baseIn s j → qualOf s j ≡ declared (baseIn s j) (rightsOf s j)
-unfolding qualOf tree
-qual-declared s j b = shaped-declared (baseIn s j) (rightsOf s j) (tree s j (elementIn s j)) b
-
 -- an element's number is below its own array's, or 255
 element-below : (s : List ℕ) (j : ℕ) → (elementIn s j < j) ⊎ (elementIn s j ≡ 255)
 unfolding elementIn

@@ -12,12 +12,23 @@ use borrow.Author.Tests.{eqb-true, eqb-false, ne-eqb}
 use Rattle.model.specs.Qualified.{Qual}
 use Rattle.model.specs.Modes.{Mode, plain, Carried, ElementInfo, TypeInfo, carried, element-info, type-info}
 use Rattle.model.specs.Machine.{Value, word, object, Cell, empty, filled, array-head, record-head}
-use Rattle.words.specs.Word.{low, tag, payload, pack, size-of, kind-of, Slot, cell, head, place, slot-in, as-cell, as-head, place-procedure, place-next}
+use Rattle.words.specs.Word.{low, tag, payload, pack, size-of, kind-of, Slot, cell, head, place, slot-in, as-cell, as-head}
 use Rattle.words.specs.Answer.{read-as}
 use Rattle.words.specs.Sees.{head-size}
 use Rattle.words.specs.Answers.{IsCell}
 use Rattle.words.specs.declared.Cell.{Cell as Read}
 use Rattle.words.specs.declared.Cell.the-variants.{Blank, Filled}
+
+-- a place's two numbers; nothing asks them of another slot
+abbrev place-procedure : {m : Mode} → Slot m → ℕ
+place-procedure (cell c) = 0
+place-procedure (head h) = 0
+place-procedure (place p i) = p
+
+abbrev place-next : {m : Mode} → Slot m → ℕ
+place-next (cell c) = 0
+place-next (head h) = 0
+place-next (place p i) = i
 
 -- ---- the parts of a packed word
 
@@ -158,19 +169,6 @@ is-cell m qual w e k q = by (reading w)
     by (a-record t) = let s = slot-record m qual w t in absurd (let z : _≡_ {A = ℕ} 0 1 = cc in omega arith)
     by (a-place t) = let s = t m qual in absurd (let z : _≡_ {A = ℕ} 0 1 = cc in omega arith)
 
-pub filled-is-cell : (m : Mode) (qual : ℕ → Qual) (w : ℕ) (x : Value) (r : Carried m) → as-cell (slot-in m qual w) ≡ filled x r → IsCell w
-filled-is-cell m qual w x r e = is-cell m qual w (known (slot-in m qual w) e)
-  where
-    known : (s : Slot m) → as-cell s ≡ filled x r → s ≡ cell (filled x r)
-    known (cell c) e = ap cell e
-    known (head h) e = absurd (let z : _≡_ {A = ℕ} 0 1 = cc in omega arith)
-    known (place p i) e = absurd (let z : _≡_ {A = ℕ} 0 1 = cc in omega arith)
-
--- the plain machine keeps no types
-pub plain-slot : (q p : ℕ → Qual) (w : ℕ) → slot-in plain q w ≡ slot-in plain p w
-unfolding slot-in
-plain-slot q p w = refl
-
 -- all read the same size of a head
 pub same-size : (m k : Mode) (q p : ℕ → Qual) (w : ℕ) → head-size (as-head (slot-in m q w)) ≡ head-size (as-head (slot-in k p w))
 same-size m k q p w = by (reading w)
@@ -241,15 +239,3 @@ module _ (m : Mode) (qual : ℕ → Qual) (b : List ℕ) (i : ℕ) where
   -- at any index: past the end there is a blank cell
   pub slot-at : getD (map (slot-in m qual) b) i (cell empty) ≡ slot-in m qual (getD b i 0)
   slot-at = ap (getD (map (slot-in m qual) b) i) (sym (slot-zero m qual)) ∙ List·getD-map (slot-in m qual) b i 0
-
-  pub cell-at : as-cell (getD (map (slot-in m qual) b) i (cell empty)) ≡ as-cell (slot-in m qual (getD b i 0))
-  cell-at = ap as-cell slot-at
-
-  pub head-at : as-head (getD (map (slot-in m qual) b) i (cell empty)) ≡ as-head (slot-in m qual (getD b i 0))
-  head-at = ap as-head slot-at
-
-  pub procedure-at : place-procedure (getD (map (slot-in m qual) b) i (cell empty)) ≡ place-procedure (slot-in m qual (getD b i 0))
-  procedure-at = ap place-procedure slot-at
-
-  pub next-at : place-next (getD (map (slot-in m qual) b) i (cell empty)) ≡ place-next (slot-in m qual (getD b i 0))
-  next-at = ap place-next slot-at

@@ -53,13 +53,3 @@ abbrev pub as-head : {m : Mode} → Slot m → Head m
 as-head (cell c) = no-head
 as-head (head h) = h
 as-head (place p i) = no-head
-
-abbrev pub place-procedure : {m : Mode} → Slot m → ℕ
-place-procedure (cell c) = 0
-place-procedure (head h) = 0
-place-procedure (place p i) = p
-
-abbrev pub place-next : {m : Mode} → Slot m → ℕ
-place-next (cell c) = 0
-place-next (head h) = 0
-place-next (place p i) = i
