@@ -50,7 +50,8 @@ pub fn slots_rule(s: &[u8], at: usize) -> u8
 pub fn element_rule(s: &[u8], j: u8) -> u8
     ensures { λ r. ⌜ r ≡ failure (closed-rule (element (qualOf (now (s .entry)) j))) ⌝ }
 {
-    closed_rule(s, element_of(s, j))
+    let element = element_of(s, j);
+    closed_rule(s, element)
 }
 
 // The result of the PR at a place.

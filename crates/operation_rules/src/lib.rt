@@ -51,14 +51,10 @@ pub fn array_rule(s: &[u8], pr: u32, a: u8, b: u8) -> u8
 pub fn fetch_rule(s: &[u8], pr: u32, a: u8, b: u8, c: u8) -> u8
     ensures { λ r. ⌜ r ≡ failure (fetch-rule (innerIn (now (s .entry)) pr a) (innerIn (now (s .entry)) pr b) (innerIn (now (s .entry)) pr c)) ⌝ }
 {
-    let from = inner_of(s, pr, b);
-    let kinds = is_array(s, from) & is_integer(s, inner_of(s, pr, c));
-    let moved = movement(s, element_of(s, from), inner_of(s, pr, a));
-    require(
-        kinds,
-        8,
-        require(has_right(1, rights_of(s, from)), 9, moved),
-    )
+    let of = inner_of(s, pr, b);
+    let kinds = is_array(s, of) & is_integer(s, inner_of(s, pr, c));
+    let moved = movement(s, element_of(s, of), inner_of(s, pr, a));
+    require(kinds, 8, require(has_right(1, rights_of(s, of)), 9, moved))
 }
 
 pub fn store_rule(s: &[u8], pr: u32, a: u8, b: u8, c: u8) -> u8
@@ -75,11 +71,8 @@ pub fn size_rule(s: &[u8], pr: u32, a: u8, b: u8) -> u8
 {
     let of = inner_of(s, pr, b);
     let moved = integer_rule(s, pr, a);
-    require(
-        is_array(s, of),
-        8,
-        require(has_right(3, rights_of(s, of)), 9, moved),
-    )
+    let kind = is_array(s, of);
+    require(kind, 8, require(has_right(3, rights_of(s, of)), 9, moved))
 }
 
 pub fn record_rule(s: &[u8], pr: u32, a: u8) -> u8
