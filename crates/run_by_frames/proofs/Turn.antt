@@ -3,15 +3,15 @@ use Prim.Native.Nat.{ℕ, zero, suc, _+_, _-_, _≤_, _<_}
 use native.Mathlib.Omega.{arith}
 use native.Mathlib.Numerals.{add-one}
 use mathlib.Core.Path.{_≡_, refl, sym, ap, subst, _∙_}
-use mathlib.Core.List.{List}
-use borrow.Author.Tests.{le-leb}
+use mathlib.Core.List.{List, []}
+use borrow.Author.Tests.{le-leb, lt-leb}
 use lib.ListN.{length}
-use Rattle.model.specs.Outcome.{Stop, done, fuel-spent, stop-number, Res, ok, stop, stuck}
+use Rattle.model.specs.Outcome.{Stop, done, fuel-spent, memory-full, stop-number, Res, ok, stop, stuck}
 use Rattle.model.specs.Refusal.{verdict}
 use Rattle.model.specs.Program.{Program}
 use Rattle.model.specs.Modes.{Mode}
 use Rattle.model.specs.Machine.{frame, State, state, Next, go, finished, view, plan, step}
-use Rattle.model.specs.Run.{End, end-in, stuck-in, running, settle, end-of, advance, opened, start, trace, run}
+use Rattle.model.specs.Run.{End, stopped, end-in, stuck-in, snapshot, running, over, settle, end-of, advance, opened, start, trace, run}
 use Rattle.model.proofs.AnyProgram.{IsOver, over-run}
 use Rattle.model.specs.declared.Verdict.the-variants.{Accepted}
 use Rattle.sheet.specs.Layout.{variablesAt, instructionAt, procedureAt}
@@ -129,6 +129,14 @@ not-stuck-in : (m : Mode) (n : ℕ) (t : State m) (x : End) → Never-stuck x �
 not-stuck-in m n (state (frame p i vs) fs os input put) x free e = free n put p i e
 
 -- ---- one turn
+
+-- "17 before main opens gives 0, 0"
+pub no-room : (m : Mode) (c : Given) (memory fuel : ℕ) → memory < variablesAt (c .sheet) (procedureAt (c .sheet) 0) + 2
+    → whole-run m c memory fuel ≡ stopped memory-full 0 [] 0 0
+unfolding trace start
+no-room m c memory fuel h =
+    over-run m (programOf (c .sheet)) memory (length (c .output)) (c .input) 0 fuel (over (stopped memory-full 0 [] 0 0) (snapshot [] []))
+    (rw (lt-leb _ _ h)) tt (omega arith)
 
 pub starts : (m : Mode) (c : Given) (memory : ℕ) (words : List ℕ) (r : Registers) (fuel : ℕ) → verdict (form-tests (c .sheet)) ≡ Accepted
     → variablesAt (c .sheet) (procedureAt (c .sheet) 0) + 2 ≤ memory → length words ≡ memory

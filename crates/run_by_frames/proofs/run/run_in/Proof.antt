@@ -2,15 +2,14 @@
 use Prim.Native.Nat.{ℕ, _+_, _≤_, _<_, zero-le}
 use mathlib.Core.Path.{_≡_, refl, ap, _∙_}
 use native.Mathlib.Omega.{arith}
-use borrow.Author.Tests.{lt-leb}
 use lib.ListN.{length}
 use denote.Ref.{now}
-use Rattle.model.specs.Run.{run, opened}
+use Rattle.model.specs.Run.{opened}
 use Rattle.sheet.specs.Bytes.{byteAt}
 use Rattle.sheet.specs.Layout.{variablesAt, procedureAt}
 use Rattle.form.proofs.Laws.{placed, procedure-small}
 use Rattle.run_by_frames.specs.Reply.{ended}
-use Rattle.run_by_frames.proofs.Turn.{starts, begins-frame}
+use Rattle.run_by_frames.proofs.Turn.{no-room, starts, begins-frame}
 use borrow.Author.Needs.{needs}
 use Rattle.run_by_frames.proofs.run.run_in.Statement.{statement}
 use Rattle.run_by_frames.proofs.run.run_in.Tie as tie
@@ -39,11 +38,10 @@ main-variables c =
     c .byte .ensures ∙ ap (λ (at : ℕ). byteAt (a .args .s .now) at 4) (placed (a .args .s .now) (a .args .table .now) (a .pre .0 .places) 0 zero-le zero-le)
 
 returns : tie.Need-returns
-unfolding run
 returns c =
     let a = c .before .before .before .before .before .before .before .args in
     let h : length (a .memory .now) < variablesAt (a .s .now) (procedureAt (a .s .now) 0) + 2 = omega (arith, main-variables (c .before), c .if1 .taken) in
-    rw (lt-leb _ _ h) (ended refl refl refl refl refl refl)
+    rw (no-room _ (record { sheet = now (a .s); input = now (a .input); output = now (a .output) }) _ (a .fuel) h) (ended refl refl refl refl refl refl)
 
 open-main-requires : tie.Need-open-main-requires
 open-main-requires c κs =
