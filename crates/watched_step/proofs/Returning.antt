@@ -37,7 +37,7 @@ use Rattle.frames.proofs.Returning.{planned-as, caller-binds, caller-lacks, res
 use Rattle.watched_step.specs.declared.calls.Handed.{Handed}
 use Rattle.watched_step.specs.declared.calls.Handed.the-variants as H
 use Rattle.watched_step.specs.Watched.{PlaceOf}
-use Rattle.watched_step.specs.Calls.{hands, handed-as, Hands, BindsWord}
+use Rattle.watched_step.specs.Calls.{hands, handed-as, HandsOver, BindsWord}
 use Rattle.watched_step.proofs.Laws.{stopped-as, at-place}
 
 -- ---- what is handed over
@@ -133,7 +133,7 @@ unfolding plan plan-return hands
 returned g v a = tested-both _ (handed watched g v (optional a)) (λ c. to-caller watched g v (v .caller) c)
 
 module _ (s words words′ : List ℕ) (r : Registers) (a pr : ℕ) (A : PlaceOf s r pr) (h : Handed)
-    (is : Hands s words r pr a h) where
+    (is : HandsOver s words r pr a h) where
   return-is : (c : Given) (out : List ℕ) (t : State watched) → c .sheet ≡ s → StandsFor watched c words out r t
       → plan watched (programOf s) (view (length words) (length out) t) (Return a)
       ≡ (handed-as (qualOf s) h >>= λ d. to-caller watched (programOf s) (view (length words) (length out) t) (view (length words) (length out) t .caller) d)

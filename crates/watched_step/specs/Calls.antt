@@ -73,8 +73,8 @@ handed-as qual (H.Is w) = handed-cell qual (M.To w)
 handed-as qual (H.Halt k) = handed-cell qual (M.Halt k)
 
 -- the answer is that, in every view that sees these words while the procedure at pr runs
-abbrev pub Hands : (s words : List ℕ) → Registers → (pr a : ℕ) → Handed → Type 0
-Hands s words r pr a h =
+abbrev pub HandsOver : (s words : List ℕ) → Registers → (pr a : ℕ) → Handed → Type 0
+HandsOver s words r pr a h =
     (v : View watched) → procedureAt s (v .procedure) ≡ pr → SeesIn watched (qualOf s) v words r → handed-as (qualOf s) h ≡ hands (programOf s) v a
 
 -- a word that is handed over is a cell's

@@ -38,13 +38,10 @@ ghost use Prim.Native.Nat.{ℕ, _-_, _<_};
 ghost use lib.ListN.{length};
 ghost use Rattle.model.specs.Modes.{watched};
 ghost use Rattle.model.specs.declared.Operation.the-variants as Op;
-ghost use Rattle.sheet.specs.Layout.{ownerAt, namedOf};
-ghost use Rattle.sheet.specs.Meaning.{innerIn};
 ghost use Rattle.words.specs.declared.Number.the-variants.{Is};
 ghost use Rattle.writers.specs.Memory.{Sane};
-ghost use Rattle.writers.specs.Steps.{array-effect, record-effect};
 ghost use Rattle.frames.specs.Performs.{Performs, PerformsInside};
-ghost use Rattle.watched_step.specs.Watched.{PlaceOf, PlansNumber, PlansMoved, PlansStored, DoesInside};
+ghost use Rattle.watched_step.specs.Watched.{PlaceOf, PlansNumber, PlansMoved, PlansStored, array-for, record-for, DoesInside};
 
 // What is read of the running frame's part of the memory and of the objects' part.
 fn bind_in(s: &[u8], pr: u32, memory: &[u64], r: Registers, a: u8, b: u8) -> Moved
@@ -264,7 +261,7 @@ pub fn take(s: &[u8], pr: u32, input: &[u32], memory: &mut [u64], r: Registers, 
 fn give_array(s: &[u8], pr: u32, memory: &mut [u64], r: Registers, a: u8, n: Number) -> Stepped
     requires { ⌜ Sane (length (now memory)) r ⌝ }
     requires { ⌜ r .next < 65536 ⌝ }
-    ensures { λ o. ⌜ DoesInside (now (s .entry)) (now (memory .entry)) (now (memory .exit)) r o (array-effect watched (r .base - r .used) a (innerIn (now (s .entry)) pr a) n) ⌝ }
+    ensures { λ o. ⌜ DoesInside (now (s .entry)) (now (memory .entry)) (now (memory .exit)) r o (array-for (now (s .entry)) pr r a n) ⌝ }
 {
     match n {
         Number::Is(x) => {
@@ -282,7 +279,7 @@ fn make_array(s: &[u8], pr: u32, memory: &mut [u64], r: Registers, a: u8, n: u32
     requires { ⌜ Sane (length (now memory)) r ⌝ }
     requires { ⌜ r .next < 65536 ⌝ }
     requires { ⌜ n < r .base - r .used ⌝ }
-    ensures { λ o. ⌜ DoesInside (now (s .entry)) (now (memory .entry)) (now (memory .exit)) r o (array-effect watched (r .base - r .used) a (innerIn (now (s .entry)) pr a) (Is n)) ⌝ }
+    ensures { λ o. ⌜ DoesInside (now (s .entry)) (now (memory .entry)) (now (memory .exit)) r o (array-for (now (s .entry)) pr r a (Is n)) ⌝ }
 {
     let stop = array_made_as(s, pr, a);
     if stop == 0 {
@@ -310,7 +307,7 @@ fn make_record(s: &[u8], pr: u32, memory: &mut [u64], r: Registers, a: u8, n: u3
     requires { ⌜ Sane (length (now memory)) r ⌝ }
     requires { ⌜ r .next < 65536 ⌝ }
     requires { ⌜ n < r .base - r .used ⌝ }
-    ensures { λ o. ⌜ DoesInside (now (s .entry)) (now (memory .entry)) (now (memory .exit)) r o (record-effect watched (r .base - r .used) a (innerIn (now (s .entry)) pr a) (ownerAt (now (s .entry)) pr) (namedOf (now (s .entry)) (ownerAt (now (s .entry)) pr)) n) ⌝ }
+    ensures { λ o. ⌜ DoesInside (now (s .entry)) (now (memory .entry)) (now (memory .exit)) r o (record-for (now (s .entry)) pr r a n) ⌝ }
 {
     let stop = record_made_as(s, pr, a);
     if stop == 0 {

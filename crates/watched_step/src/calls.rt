@@ -28,7 +28,7 @@ ghost use Rattle.words.specs.Answers.{IsCell, MovedOk};
 ghost use Rattle.writers.specs.Memory.{Sane};
 ghost use Rattle.frames.specs.Performs.{Loaded, PerformsInside, Returns};
 ghost use Rattle.watched_step.specs.Watched.{PlaceOf};
-ghost use Rattle.watched_step.specs.Calls.{Callee, BindsActual, Binds, Hands, HandedOk, BindsWord};
+ghost use Rattle.watched_step.specs.Calls.{Callee, BindsActual, Binds, HandsOver, HandedOk, BindsWord};
 
 // Actual j of a call of the procedure at pr with variables from b on.
 fn actual_in(s: &[u8], pr: u32, memory: &[u64], r: Registers, b: u8, j: u8) -> Moved
@@ -126,7 +126,7 @@ enum Handed {
 fn handed_by(s: &[u8], pr: u32, memory: &[u64], r: Registers, a: u8) -> Handed
     requires { ⌜ Sane (length (now memory)) r ⌝ }
     ensures { λ h. ⌜ HandedOk h ⌝ }
-    ensures { λ h. ⌜ Hands (now (s .entry)) (now (memory .entry)) r pr a h ⌝ }
+    ensures { λ h. ⌜ HandsOver (now (s .entry)) (now (memory .entry)) r pr a h ⌝ }
 {
     let none = byte(s, pr as usize, 5) == 255;
     if a == 255 {

@@ -300,10 +300,10 @@ module _ {m : Mode} {c : Given} {words out : List ℕ} {r : Registers} {p i : �
       let frame = S .sane .frame in
       let k : a + 1 + j ≡ suc (a + j) = omega arith in
       let h : suc (a + j) < r .used = omega arith in
-      let n : length (take (r .used) words) ≡ r .used = length-take-le (r .used) words (omega arith) in
-      let h′ : a + 1 + j < length (take (r .used) words) = omega arith in
+      let n : length (object-part r words) ≡ r .used = length-take-le (r .used) words (omega arith) in
+      let h′ : a + 1 + j < length (object-part r words) = omega arith in
       let q : words′ ≡ set words (a + 1 + j) w =
-      e ∙ sym (set-append-left (take (r .used) words) (drop (r .used) words) (a + 1 + j) w h′) ∙ ap (λ (x : List ℕ). set x (a + 1 + j) w) (take-append-drop (r .used) words) in
+      e ∙ sym (set-append-left (object-part r words) (drop (r .used) words) (a + 1 + j) w h′) ∙ ap (λ (x : List ℕ). set x (a + 1 + j) w) (take-append-drop (r .used) words) in
       let s : slots m c words′ ≡ set (slots m c words) (suc (a + j)) (cell d) = rw (q, map-set, is, k) in
       goes-on S words′ (r .next + 1) (suc i) (r .used) vs (update os a j d) (add-one (r .next) ∙ ap suc (S .next)) (rw (q, length-set)) room refl
       (rw s (take-set-lt (r .used) (slots m c words) (suc (a + j)) (cell d) h ∙ rw (S .objects) (set-at-cell os a j (o .0) d (o .1 .0) b)))

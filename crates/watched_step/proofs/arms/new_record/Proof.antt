@@ -8,7 +8,7 @@ use Rattle.model.specs.Outcome.{memory-full, stop}
 use Rattle.writers.specs.declared.Stepped.the-variants.{Halt}
 use Rattle.sheet.specs.Meaning.{innerIn, programOf}
 use Rattle.sheet.specs.Layout.{ownerAt, namedOf, slotsOf}
-use Rattle.writers.specs.Steps.{record-effect}
+use Rattle.watched_step.specs.Watched.{record-for}
 use Rattle.writers.proofs.Planned.{record-full}
 use Rattle.writers.proofs.Effects.{does-stop}
 use Rattle.watched_step.proofs.Laws.{records, performs-roomy}
@@ -48,7 +48,7 @@ returns c =
     let type-at = c .before .before .before .before .before .before .before .type-at in
     let byte2 = c .before .before .before .before .before .before .byte2 in
     let make-record = c .before .before .make-record in
-    λ input out. performs-roomy (now (args .s)) input (now (args .memory)) (make-record .last .1 .1 .0) out out (args .r) (make-record .result) _ (λ z. record-effect watched (args .r .base - args .r .used) (args .a) (innerIn (now (args .s)) (args .pr) (args .a)) (ownerAt (now (args .s)) (args .pr)) (namedOf (now (args .s)) (ownerAt (now (args .s)) (args .pr))) _) (λ d q. make-record .ensures d out q) (args .pr) (pre .1 .1) (λ v at free S. records (programOf (now (args .s))) v _ (rw at) free (rw at) refl (rw (byte2 .ensures, type-at .ensures, byte .ensures)))
+    λ input out. performs-roomy (now (args .s)) input (now (args .memory)) (make-record .last .1 .1 .0) out out (args .r) (make-record .result) _ (λ z. record-for (now (args .s)) (args .pr) (args .r) (args .a) _) (λ d q. make-record .ensures d out q) (args .pr) (pre .1 .1) (λ v at free S. records (programOf (now (args .s))) v _ (rw at) free (rw at) refl (rw (byte2 .ensures, type-at .ensures, byte .ensures)))
 
 returns-2 : tie.Need-returns-2
 unfolding ownerAt slotsOf
