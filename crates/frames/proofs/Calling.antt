@@ -21,7 +21,7 @@ use Rattle.words.specs.Word.{low, payload, cell, slot-in}
 use Rattle.words.proofs.Laws.{blank-word, filled-word}
 use Rattle.writers.specs.declared.Registers.{Registers}
 use Rattle.writers.specs.declared.Stepped.the-variants.{Enter, Halt}
-use Rattle.writers.specs.Memory.{Given, slots, GapOnly, Stands, StandsFor}
+use Rattle.writers.specs.Memory.{Given, slots, frame-part, GapOnly, Stands, StandsFor}
 use Rattle.writers.specs.Steps.{After}
 use Rattle.writers.proofs.Effects.{stopped-after, gap-kept}
 use Rattle.writers.proofs.View.{room-is, variable-is}
@@ -143,7 +143,7 @@ module _ (s words : List ℕ) (r : Registers) (b k v f : ℕ) (many : v ≡ vari
     looked-at {c} S j h =
         let e = picked-from j h in
         let n : r .base + from + j ≡ r .base + (b + j) = omega arith in
-        let word : getD words (r .base + from + j) 0 ≡ getD (take (r .variables) (drop (r .base) words)) (b + j) 0 =
+        let word : getD words (r .base + from + j) 0 ≡ getD (frame-part r words) (b + j) 0 =
         ap (λ (x : ℕ). getD words x 0) n
         ∙ sym (getD-take (r .variables) (drop (r .base) words) (b + j) 0 (omega arith) ∙ getD-drop (r .base) words (b + j) 0) in
         ap (slot-in plain (qualOf (c .sheet))) word ∙ variable-is S (b + j)

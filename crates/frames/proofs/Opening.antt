@@ -15,7 +15,7 @@ use Rattle.sheet.specs.Meaning.{qualOf}
 use Rattle.words.specs.Word.{cell, place, slot-in}
 use Rattle.words.proofs.Laws.{slot-zero}
 use Rattle.writers.specs.declared.Registers.{Registers}
-use Rattle.writers.specs.Memory.{Given, slots, Sane, Stands, AllSound, flat-frames}
+use Rattle.writers.specs.Memory.{Given, slots, Sane, object-part, Stands, AllSound, flat-frames}
 use Rattle.writers.proofs.Change.{map-take, map-drop, map-replicate}
 use Rattle.frames.specs.Frames.{Opened}
 
@@ -112,7 +112,7 @@ module _ {m : Mode} {c : Given} {words out : List ℕ} {r : Registers} {p i : �
     (size : at + (v + 2) ≡ r .base) (room : r .used ≤ at) (few : f ≤ v)
     (place-is : slot-in m (qualOf (c .sheet)) w ≡ place (r .procedure) (r .next + 1))
     (more-is : slot-in m (qualOf (c .sheet)) x ≡ place (r .variables) (r .first))
-    (long : length words′ ≡ length words) (before : take (r .used) words′ ≡ take (r .used) words)
+    (long : length words′ ≡ length words) (before : object-part r words′ ≡ object-part r words)
     (after : drop at words′ ≡ take f (drop at words) ++ (replicate (v - f) 0 ++ (w ∷ (x ∷ drop (r .base) words))))
     (there : slots m c (take f (drop at words)) ≡ map cell cs)
     (known : k < proceduresOf (c .sheet)) (small : k < 64) (starts : first ≡ instructionAt (c .sheet) (procedureAt (c .sheet) k) 0)

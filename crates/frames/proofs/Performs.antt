@@ -23,7 +23,7 @@ use Rattle.words.specs.declared.Number.{Number}
 use Rattle.writers.specs.declared.Registers.{Registers}
 use Rattle.writers.specs.declared.Stepped.{Stepped}
 use Rattle.writers.specs.declared.Stepped.the-variants.{Go, Enter, Halt, Done}
-use Rattle.writers.specs.Memory.{Given, StandsFor}
+use Rattle.writers.specs.Memory.{Given, object-part, SeesIn, StandsFor}
 use Rattle.writers.specs.Steps.{After, Does, branched, jumped, put-effect, take-effect}
 use Rattle.writers.proofs.View.{view-sees, free-is, next-input-is}
 use Rattle.frames.specs.Performs.{Loaded, Performs}
@@ -69,10 +69,12 @@ part-is b n l =
     let e : b + n - b ≡ n = omega arith in
     rw e
 
--- the same for what is seen in the running frame's part
-pub sees-cut : (m : Mode) (q : ℕ → Qual) (v : View m) (words h : List ℕ) (r : Registers)
-    → Sees m q v (take (r .variables) (drop (r .base) words)) h → Sees m q v (take (r .base + r .variables - r .base) (drop (r .base) words)) h
-sees-cut m q v words h r S = subst (λ (f : List ℕ). Sees m q v f h) (sym (part-is (r .base) (r .variables) words)) S
+-- what is seen of the memory, with the running frame's part as the code cuts it
+abbrev pub SeesCut : (m : Mode) → (qual : ℕ → Qual) → View m → (words : List ℕ) → Registers → Type 0
+SeesCut m qual v words r = Sees m qual v (take (r .base + r .variables - r .base) (drop (r .base) words)) (object-part r words)
+
+pub sees-cut : (m : Mode) (q : ℕ → Qual) (v : View m) (words : List ℕ) (r : Registers) → SeesIn m q v words r → SeesCut m q v words r
+sees-cut m q v words r S = subst (λ (f : List ℕ). Sees m q v f (object-part r words)) (sym (part-is (r .base) (r .variables) words)) S
 
 -- the running procedure is the registers', and one of the sheet's
 pub record Running {m : Mode} (s : List ℕ) (r : Registers) (v : View m) : Type 0 where
@@ -95,10 +97,9 @@ runs m c s words before r (state (frame p i vs) fs os input put) q S =
 
 -- what is seen, by the sheet's map of element numbers
 pub sees : (m : Mode) (c : Given) (s words before : List ℕ) (r : Registers) (t : State m) → c .sheet ≡ s → StandsFor m c words before r t
-    → Sees m (qualOf s) (view (length words) (length before) t) (take (r .variables) (drop (r .base) words)) (take (r .used) words)
+    → SeesIn m (qualOf s) (view (length words) (length before) t) words r
 sees m c s words before r t q S =
-    subst (λ (z : List ℕ). Sees m (qualOf z) (view (length words) (length before) t) (take (r .variables) (drop (r .base) words)) (take (r .used) words)) q
-    (view-sees m c words before r t S)
+    subst (λ (z : List ℕ). SeesIn m (qualOf z) (view (length words) (length before) t) words r) q (view-sees m c words before r t S)
 
 module _ (m : Mode) (s input words words′ before out : List ℕ) (r : Registers) (o : Stepped) (op : Operation) (e : (ℕ → Qual) → Res (Effect m)) where
   -- a writer that does what it is told where its answer is fine, as one that moves a word does where that is a cell's
@@ -117,7 +118,7 @@ module _ (m : Mode) (s input words words′ before out : List ℕ) (r : Register
 
     -- a plan that leans on the running procedure, the variables and the objects alone
     pub performs-if-seeing :
-        ((v : View m) → Running s r v → Sees m (qualOf s) v (take (r .variables) (drop (r .base) words)) (take (r .used) words)
+        ((v : View m) → Running s r v → SeesIn m (qualOf s) v words r
         → Unless-stuck (plan m (programOf s) v op) (Fine × (e (qualOf s) ≡ plan m (programOf s) v op)))
         → Performs m s input words words′ before out r o op
     performs-if-seeing planned =
@@ -125,11 +126,10 @@ module _ (m : Mode) (s input words words′ before out : List ℕ) (r : Register
 
     -- the same, with the variables' part as the code cuts it
     pub performs-if-frame :
-        ((v : View m) → Running s r v
-        → Sees m (qualOf s) v (take (r .base + r .variables - r .base) (drop (r .base) words)) (take (r .used) words)
+        ((v : View m) → Running s r v → SeesCut m (qualOf s) v words r
         → Unless-stuck (plan m (programOf s) v op) (Fine × (e (qualOf s) ≡ plan m (programOf s) v op)))
         → Performs m s input words words′ before out r o op
-    performs-if-frame planned = performs-if-seeing (λ v R S. planned v R (sees-cut m (qualOf s) v words (take (r .used) words) r S))
+    performs-if-frame planned = performs-if-seeing (λ v R S. planned v R (sees-cut m (qualOf s) v words r S))
 
   -- the three for a writer that always does what it is told
   module _ (does : (c : Given) → Does m c words words′ before out r o (e (qualOf (c .sheet)))) where
@@ -145,26 +145,24 @@ module _ (m : Mode) (s input words words′ before out : List ℕ) (r : Register
         unless-map p (e (qualOf s) ≡ p) (Unit {0} × (e (qualOf s) ≡ p)) (planned c t q i S) (λ w. (tt, w)))
 
     pub performs-seeing :
-        ((v : View m) → Running s r v → Sees m (qualOf s) v (take (r .variables) (drop (r .base) words)) (take (r .used) words)
+        ((v : View m) → Running s r v → SeesIn m (qualOf s) v words r
         → Unless-stuck (plan m (programOf s) v op) (e (qualOf s) ≡ plan m (programOf s) v op))
         → Performs m s input words words′ before out r o op
     performs-seeing planned =
         performs (λ c t q i S. planned (view (length words) (length before) t) (runs m c s words before r t q S) (sees m c s words before r t q S))
 
     pub performs-frame :
-        ((v : View m) → Running s r v
-        → Sees m (qualOf s) v (take (r .base + r .variables - r .base) (drop (r .base) words)) (take (r .used) words)
+        ((v : View m) → Running s r v → SeesCut m (qualOf s) v words r
         → Unless-stuck (plan m (programOf s) v op) (e (qualOf s) ≡ plan m (programOf s) v op))
         → Performs m s input words words′ before out r o op
-    performs-frame planned = performs-seeing (λ v R S. planned v R (sees-cut m (qualOf s) v words (take (r .used) words) r S))
+    performs-frame planned = performs-seeing (λ v R S. planned v R (sees-cut m (qualOf s) v words r S))
 
 -- ---- the writers that take an integer, an input word or an output word
 
 -- the number n is that of variable x, in the part of the memory that the code cuts
 abbrev pub Reads : (m : Mode) → (s words : List ℕ) → Registers → Number → ℕ → Type 0
 Reads m s words r n x =
-    (v : View m) → Sees m (qualOf s) v (take (r .base + r .variables - r .base) (drop (r .base) words)) (take (r .used) words)
-    → Unless-stuck (one-integer m (programOf s) v x) (number-as m n ≡ one-integer m (programOf s) v x)
+    (v : View m) → SeesCut m (qualOf s) v words r → Unless-stuck (one-integer m (programOf s) v x) (number-as m n ≡ one-integer m (programOf s) v x)
 
 module _ (m : Mode) (g : Program) (v : View m) (a : ℕ) (n : Number)
     (reads : Unless-stuck (one-integer m g v a) (number-as m n ≡ one-integer m g v a)) where
@@ -199,7 +197,7 @@ module _ (m : Mode) (s input words words′ before out : List ℕ) (r : Register
       performs m s input words words′ before out r o (Op.Put a) (λ q. put-effect m (length before - r .put) n) does
       (λ c t q i S.
       let v = view (length words) (length before) t in
-      puts m (programOf s) v a n (reads v (sees-cut m (qualOf s) v words (take (r .used) words) r (sees m c s words before r t q S))) (length before - r .put)
+      puts m (programOf s) v a n (reads v (sees-cut m (qualOf s) v words r (sees m c s words before r t q S))) (length before - r .put)
       (free-is m c words before r t S))
 
   pub performs-take : ((c : Given) → Does m c words words′ before out r o (take-effect m a (first-of (drop (r .taken) input))))

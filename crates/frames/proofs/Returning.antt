@@ -27,10 +27,10 @@ use Rattle.writers.specs.declared.Registers.{Registers}
 use Rattle.writers.specs.declared.Stepped.{Stepped}
 use Rattle.writers.specs.declared.Stepped.the-variants.{Enter, Halt, Done}
 use Rattle.writers.specs.Memory.{Given, Sound, AllSound, Stands, StandsFor, flat-frames}
-use Rattle.writers.specs.Steps.{After}
+use Rattle.writers.specs.Steps.{After, put-word}
 use Rattle.writers.proofs.Effects.{stopped-after, goes-on}
 use Rattle.writers.proofs.View.{frames-are, view-sees, alone, waiting-place, waiting-more, waiting-frame}
-use Rattle.writers.proofs.Change.{put-word, length-put-word, put-word-before, put-word-frame, set-variable}
+use Rattle.writers.proofs.Change.{length-put-word, put-word-before, put-word-frame, set-variable}
 use Rattle.frames.specs.Performs.{performed, Performs, Returns}
 use Rattle.frames.specs.Frames.{Waits, Keeps}
 use Rattle.frames.proofs.Kept.{optional-none, optional-some}

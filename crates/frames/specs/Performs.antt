@@ -33,6 +33,10 @@ Performs m s input words words′ before output r o op =
     (c : Given) (t : State m) → c .sheet ≡ s → c .input ≡ input → StandsFor m c words before r t →
     After m c words′ before output r t o (performed s t (plan m (programOf s) (view (length words) (length before) t) op))
 
+-- one that neither takes input nor puts output
+abbrev pub PerformsInside : (m : Mode) → (s words words′ : List ℕ) → Registers → Stepped → Operation → Type 0
+PerformsInside m s words words′ r o op = (input out : List ℕ) → Performs m s input words words′ out out r o op
+
 -- the return of a value, or of none, to the frame that waits
 abbrev pub Returns : (m : Mode) → (s words words′ out : List ℕ) → Registers → Stepped → Option (Cell m) → Type 0
 Returns m s words words′ out r o value =

@@ -22,7 +22,7 @@ ghost use Rattle.model.specs.declared.Operation.the-variants.{Call, Return};
 ghost use Rattle.sheet.specs.Layout.{proceduresOf, formalsAt, variablesAt, instructionAt};
 ghost use Rattle.sheet.specs.Decode.{operationAt};
 ghost use Rattle.writers.specs.Memory.{Sane};
-ghost use Rattle.frames.specs.Performs.{Loaded, Performs};
+ghost use Rattle.frames.specs.Performs.{Loaded, PerformsInside};
 ghost use Rattle.frames.specs.Frames.{Copies, Callable, Opened, Waits, Reached, Keeps};
 
 // n filled words are copied to a place below; false where one is blank.
@@ -102,7 +102,7 @@ pub fn call(s: &[u8], table: &[u32; 65], memory: &mut [u64], r: Registers, b: u8
     requires { ⌜ Loaded (now s) (now table) ⌝ }
     requires { ⌜ Sane (length (now memory)) r ⌝ }
     requires { ⌜ Callable (now s) r b k ⌝ }
-    ensures { λ o. ⌜ ((a : ℕ) (input out : List ℕ) → Performs plain (now (s .entry)) input (now (memory .entry)) (now (memory .exit)) out out r o (Call a b k)) ⌝ }
+    ensures { λ o. ⌜ ((a : ℕ) → PerformsInside plain (now (s .entry)) (now (memory .entry)) (now (memory .exit)) r o (Call a b k)) ⌝ }
 {
     let pr = header_at(s, table[k as usize]);
     let f = pr.formals;
@@ -173,7 +173,7 @@ pub fn keep(memory: &mut [u64], b: Registers, a: u8, w: u64)
 pub fn give_back(s: &[u8], memory: &mut [u64], r: Registers, a: u8) -> Stepped
     requires { ⌜ proceduresOf (now s) ≤ 64 ⌝ }
     requires { ⌜ Sane (length (now memory)) r ⌝ }
-    ensures { λ o. ⌜ ((input out : List ℕ) → Performs plain (now (s .entry)) input (now (memory .entry)) (now (memory .exit)) out out r o (Return a)) ⌝ }
+    ensures { λ o. ⌜ PerformsInside plain (now (s .entry)) (now (memory .entry)) (now (memory .exit)) r o (Return a) ⌝ }
 {
     let base = r.base;
     let end = base + r.variables;

@@ -4,8 +4,9 @@ use mathlib.Core.Path.{_≡_, refl, ap, _∙_}
 use mathlib.Core.List.{List}
 use mathlib.Core.Option.{Option}
 use lib.Dec.{leb}
-use lib.ListN.{length, getD, take}
-use Rattle.model.specs.Outcome.{memory-full, Res, ok, ensure, found, _>>=_, _>>_}
+use lib.ListN.{length, getD}
+use Rattle.model.specs.Outcome.{memory-full, Res, ok, ensure, _>>=_, _>>_}
+use Rattle.model.specs.Qualified.{Qual, integer}
 use Rattle.model.specs.Modes.{plain, bind, demand}
 use Rattle.model.specs.Program.{Program}
 use Rattle.model.specs.Machine.{View, new-array, plan, one-integer, held, moved, give, gives, plan-array, plan-record, view}
@@ -35,39 +36,40 @@ pub takes : (g : Program) (v : View plain) (a : ℕ) (next : Option ℕ) → nex
 unfolding plan take-effect give moved held bind _>>=_
 takes g v a next e = ap (λ (x : Option ℕ). take-effect plain a x) e
 
-arrays : (g : Program) (v : View plain) (a b : ℕ) (n : Number) (room : ℕ) → room ≡ v .room
+arrays : (g : Program) (v : View plain) (a b : ℕ) (q : Qual) (n : Number) (room : ℕ) → room ≡ v .room
     → Unless-stuck (one-integer plain g v b) (number-as plain n ≡ one-integer plain g v b)
-    → Unless-stuck (plan plain g v (Op.NewArray a b)) (array-effect plain room a tt tt n ≡ plan plain g v (Op.NewArray a b))
+    → Unless-stuck (plan plain g v (Op.NewArray a b)) (array-effect plain room a q n ≡ plan plain g v (Op.NewArray a b))
 unfolding plan plan-array array-effect demand bind _>>=_ _>>_
-arrays g v a b n room f reads =
+arrays g v a b q n room f reads =
     unless-then (one-integer plain g v b) (λ x. (ensure memory-full (leb (suc x) (v .room)) >> ok (new-array a tt x tt))) (number-as plain n ≡ one-integer plain g v b)
-    (array-effect plain room a tt tt n ≡ plan plain g v (Op.NewArray a b)) reads
+    (array-effect plain room a q n ≡ plan plain g v (Op.NewArray a b)) reads
     (λ e. rw (f, e))
 
-records : (g : Program) (v : View plain) (a room n : ℕ) → room ≡ v .room → n ≡ g .slots (g .owner (v .procedure))
-    → record-effect plain room a tt tt n ≡ plan plain g v (Op.NewRecord a)
+records : (g : Program) (v : View plain) (a room : ℕ) (q : Qual) (t named n : ℕ) → room ≡ v .room → n ≡ g .slots (g .owner (v .procedure))
+    → record-effect plain room a q t named n ≡ plan plain g v (Op.NewRecord a)
 unfolding plan plan-record record-effect bind _>>=_ _>>_
-records g v a room n f e = rw (f, e)
+records g v a room q t named n f e = rw (f, e)
 
+-- the plain machine keeps no types, so that any will do
 module _ (s input words words′ before out : List ℕ) (r : Registers) (o : Stepped) (a : ℕ) where
-  pub performs-array : (b : ℕ) (n : Number) → ((c : Given) → Does plain c words words′ before out r o (array-effect plain (r .base - r .used) a tt tt n))
+  pub performs-array : (b : ℕ) (n : Number) → ((c : Given) (q : Qual) → Does plain c words words′ before out r o (array-effect plain (r .base - r .used) a q n))
       → Reads plain s words r n b
       → Performs plain s input words words′ before out r o (Op.NewArray a b)
   performs-array b n does reads =
-      performs plain s input words words′ before out r o (Op.NewArray a b) (λ q. array-effect plain (r .base - r .used) a tt tt n) does
+      performs plain s input words words′ before out r o (Op.NewArray a b) (λ q. array-effect plain (r .base - r .used) a integer n) (λ c. does c integer)
       (λ c t q i S.
       let v = view (length words) (length before) t in
-      arrays (programOf s) v a b n (r .base - r .used) (room-is plain c words before r t S)
-      (reads v (sees-cut plain (qualOf s) v words (take (r .used) words) r (sees plain c s words before r t q S))))
+      arrays (programOf s) v a b integer n (r .base - r .used) (room-is plain c words before r t S)
+      (reads v (sees-cut plain (qualOf s) v words r (sees plain c s words before r t q S))))
 
-  -- the slots are those of the owner of the procedure whose place the table has
+  -- its slots are those of the owner of the procedure whose place the table has
   pub performs-record : (table : List ℕ) (n : ℕ) → Loaded s table → r .procedure < 64
       → n ≡ slotsOf s (ownerAt s (getD table (r .procedure) 0))
-      → ((c : Given) → Does plain c words words′ before out r o (record-effect plain (r .base - r .used) a tt tt n))
+      → ((c : Given) (q : Qual) (t named : ℕ) → Does plain c words words′ before out r o (record-effect plain (r .base - r .used) a q t named n))
       → Performs plain s input words words′ before out r o (Op.NewRecord a)
   performs-record table n L h e does =
-      performs plain s input words words′ before out r o (Op.NewRecord a) (λ q. record-effect plain (r .base - r .used) a tt tt n) does
+      performs plain s input words words′ before out r o (Op.NewRecord a) (λ q. record-effect plain (r .base - r .used) a integer 0 0 n) (λ c. does c integer 0 0)
       (λ c t q i S.
       let v = view (length words) (length before) t in
-      exactly (records (programOf s) v a (r .base - r .used) n (room-is plain c words before r t S)
+      exactly (records (programOf s) v a (r .base - r .used) integer 0 0 n (room-is plain c words before r t S)
       (e ∙ ap (λ (pr : ℕ). slotsOf s (ownerAt s pr)) (running-at s table r v L h (runs plain c s words before r t q S)))))

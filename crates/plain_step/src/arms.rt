@@ -1,4 +1,4 @@
-// Each operation: what it asks for (crate plans), done (crate writers).
+// Each operation: what it asks for (crate plain_plan), done (crate writers).
 use plain_plan::add_of;
 use plain_plan::array_size_of;
 use plain_plan::fetch_of;
@@ -27,22 +27,18 @@ use writers::take_input;
 ghost use mathlib.Core.Path.{_≡_};
 ghost use mathlib.Core.List.{List};
 ghost use Prim.Native.Nat.{ℕ, _<_};
-ghost use lib.ListN.{length, take, drop};
-ghost use Rattle.model.specs.Qualified.{Qual};
-ghost use Rattle.model.specs.Program.{Program};
+ghost use lib.ListN.{length};
 ghost use Rattle.model.specs.Modes.{plain};
-ghost use Rattle.model.specs.Machine.{View, plan};
 ghost use Rattle.model.specs.declared.Operation.the-variants as Op;
 ghost use Rattle.sheet.specs.Layout.{ownerAt, slotsOf};
-ghost use Rattle.words.specs.Sees.{Sees};
-ghost use Rattle.words.specs.Answers.{Unless-stuck, MovedOk, StoredOk, given, moved-to, stored};
 ghost use Rattle.writers.specs.Memory.{Sane};
-ghost use Rattle.frames.specs.Performs.{Loaded, Performs};
+ghost use Rattle.frames.specs.Performs.{Loaded, Performs, PerformsInside};
+ghost use Rattle.plain_step.specs.Plans.{PlansNumber, PlansMoved, PlansStored};
 
-// What is read of the running frame's part of the memory and of the objects' part, where the definition is not stuck.
+// What is read of the running frame's part of the memory and of the objects' part.
 fn fetch_in(memory: &[u64], r: Registers, b: u8, c: u8) -> Moved
     requires { ⌜ Sane (length (now memory)) r ⌝ }
-    ensures { λ m. ⌜ ((q : ℕ → Qual) (g : Program) (v : View plain) (a : ℕ) → Sees plain q v (take (r .variables) (drop (r .base) (now (memory .entry)))) (take (r .used) (now (memory .entry))) → Unless-stuck (plan plain g v (Op.Fetch a b c)) (MovedOk m × (moved-to plain q a m ≡ plan plain g v (Op.Fetch a b c)))) ⌝ }
+    ensures { λ m. ⌜ ((a : ℕ) → PlansMoved (now (memory .entry)) r (Op.Fetch a b c) a m) ⌝ }
 {
     let base = r.base;
     let end = base + r.variables;
@@ -52,7 +48,7 @@ fn fetch_in(memory: &[u64], r: Registers, b: u8, c: u8) -> Moved
 
 fn size_in(memory: &[u64], r: Registers, b: u8) -> Number
     requires { ⌜ Sane (length (now memory)) r ⌝ }
-    ensures { λ n. ⌜ ((q : ℕ → Qual) (g : Program) (v : View plain) (a : ℕ) → Sees plain q v (take (r .variables) (drop (r .base) (now (memory .entry)))) (take (r .used) (now (memory .entry))) → Unless-stuck (plan plain g v (Op.Size a b)) (given plain a n ≡ plan plain g v (Op.Size a b))) ⌝ }
+    ensures { λ n. ⌜ ((a : ℕ) → PlansNumber (now (memory .entry)) r (Op.Size a b) a n) ⌝ }
 {
     let base = r.base;
     let end = base + r.variables;
@@ -62,7 +58,7 @@ fn size_in(memory: &[u64], r: Registers, b: u8) -> Number
 
 fn get_in(memory: &[u64], r: Registers, b: u8, k: u16) -> Moved
     requires { ⌜ Sane (length (now memory)) r ⌝ }
-    ensures { λ m. ⌜ ((q : ℕ → Qual) (g : Program) (v : View plain) (a : ℕ) → Sees plain q v (take (r .variables) (drop (r .base) (now (memory .entry)))) (take (r .used) (now (memory .entry))) → Unless-stuck (plan plain g v (Op.GetSlot a b k)) (MovedOk m × (moved-to plain q a m ≡ plan plain g v (Op.GetSlot a b k)))) ⌝ }
+    ensures { λ m. ⌜ ((a : ℕ) → PlansMoved (now (memory .entry)) r (Op.GetSlot a b k) a m) ⌝ }
 {
     let base = r.base;
     let end = base + r.variables;
@@ -72,7 +68,7 @@ fn get_in(memory: &[u64], r: Registers, b: u8, k: u16) -> Moved
 
 fn store_in(memory: &[u64], r: Registers, a: u8, b: u8, c: u8) -> Stored
     requires { ⌜ Sane (length (now memory)) r ⌝ }
-    ensures { λ m. ⌜ ((q : ℕ → Qual) (g : Program) (v : View plain) → Sees plain q v (take (r .variables) (drop (r .base) (now (memory .entry)))) (take (r .used) (now (memory .entry))) → Unless-stuck (plan plain g v (Op.Store a b c)) (StoredOk (take (r .used) (now (memory .entry))) m × (stored plain q m ≡ plan plain g v (Op.Store a b c)))) ⌝ }
+    ensures { λ m. ⌜ PlansStored (now (memory .entry)) r (Op.Store a b c) m ⌝ }
 {
     let base = r.base;
     let end = base + r.variables;
@@ -82,7 +78,7 @@ fn store_in(memory: &[u64], r: Registers, a: u8, b: u8, c: u8) -> Stored
 
 fn set_in(memory: &[u64], r: Registers, a: u8, b: u8, k: u16) -> Stored
     requires { ⌜ Sane (length (now memory)) r ⌝ }
-    ensures { λ m. ⌜ ((q : ℕ → Qual) (g : Program) (v : View plain) → Sees plain q v (take (r .variables) (drop (r .base) (now (memory .entry)))) (take (r .used) (now (memory .entry))) → Unless-stuck (plan plain g v (Op.SetSlot a b k)) (StoredOk (take (r .used) (now (memory .entry))) m × (stored plain q m ≡ plan plain g v (Op.SetSlot a b k)))) ⌝ }
+    ensures { λ m. ⌜ PlansStored (now (memory .entry)) r (Op.SetSlot a b k) m ⌝ }
 {
     let base = r.base;
     let end = base + r.variables;
@@ -92,7 +88,7 @@ fn set_in(memory: &[u64], r: Registers, a: u8, b: u8, k: u16) -> Stored
 pub fn set(memory: &mut [u64], r: Registers, a: u8, k: u16) -> Stepped
     requires { ⌜ Sane (length (now memory)) r ⌝ }
     requires { ⌜ r .next < 65536 ⌝ }
-    ensures { λ o. ⌜ ((s input out : List ℕ) → Performs plain s input (now (memory .entry)) (now (memory .exit)) out out r o (Op.Set a k)) ⌝ }
+    ensures { λ o. ⌜ ((s : List ℕ) → PerformsInside plain s (now (memory .entry)) (now (memory .exit)) r o (Op.Set a k)) ⌝ }
 {
     give_number(memory, r, a, Number::Is(k as u32))
 }
@@ -100,7 +96,7 @@ pub fn set(memory: &mut [u64], r: Registers, a: u8, k: u16) -> Stepped
 pub fn add(memory: &mut [u64], r: Registers, a: u8, b: u8, c: u8) -> Stepped
     requires { ⌜ Sane (length (now memory)) r ⌝ }
     requires { ⌜ r .next < 65536 ⌝ }
-    ensures { λ o. ⌜ ((s input out : List ℕ) → Performs plain s input (now (memory .entry)) (now (memory .exit)) out out r o (Op.Add a b c)) ⌝ }
+    ensures { λ o. ⌜ ((s : List ℕ) → PerformsInside plain s (now (memory .entry)) (now (memory .exit)) r o (Op.Add a b c)) ⌝ }
 {
     let base = r.base;
     let end = base + r.variables;
@@ -111,7 +107,7 @@ pub fn add(memory: &mut [u64], r: Registers, a: u8, b: u8, c: u8) -> Stepped
 pub fn subtract(memory: &mut [u64], r: Registers, a: u8, b: u8, c: u8) -> Stepped
     requires { ⌜ Sane (length (now memory)) r ⌝ }
     requires { ⌜ r .next < 65536 ⌝ }
-    ensures { λ o. ⌜ ((s input out : List ℕ) → Performs plain s input (now (memory .entry)) (now (memory .exit)) out out r o (Op.Subtract a b c)) ⌝ }
+    ensures { λ o. ⌜ ((s : List ℕ) → PerformsInside plain s (now (memory .entry)) (now (memory .exit)) r o (Op.Subtract a b c)) ⌝ }
 {
     let base = r.base;
     let end = base + r.variables;
@@ -122,7 +118,7 @@ pub fn subtract(memory: &mut [u64], r: Registers, a: u8, b: u8, c: u8) -> Steppe
 pub fn less(memory: &mut [u64], r: Registers, a: u8, b: u8, c: u8) -> Stepped
     requires { ⌜ Sane (length (now memory)) r ⌝ }
     requires { ⌜ r .next < 65536 ⌝ }
-    ensures { λ o. ⌜ ((s input out : List ℕ) → Performs plain s input (now (memory .entry)) (now (memory .exit)) out out r o (Op.Less a b c)) ⌝ }
+    ensures { λ o. ⌜ ((s : List ℕ) → PerformsInside plain s (now (memory .entry)) (now (memory .exit)) r o (Op.Less a b c)) ⌝ }
 {
     let base = r.base;
     let end = base + r.variables;
@@ -133,7 +129,7 @@ pub fn less(memory: &mut [u64], r: Registers, a: u8, b: u8, c: u8) -> Stepped
 pub fn bind(memory: &mut [u64], r: Registers, a: u8, b: u8) -> Stepped
     requires { ⌜ Sane (length (now memory)) r ⌝ }
     requires { ⌜ r .next < 65536 ⌝ }
-    ensures { λ o. ⌜ ((s input out : List ℕ) → Performs plain s input (now (memory .entry)) (now (memory .exit)) out out r o (Op.Bind a b)) ⌝ }
+    ensures { λ o. ⌜ ((s : List ℕ) → PerformsInside plain s (now (memory .entry)) (now (memory .exit)) r o (Op.Bind a b)) ⌝ }
 {
     let base = r.base;
     let end = base + r.variables;
@@ -144,7 +140,7 @@ pub fn bind(memory: &mut [u64], r: Registers, a: u8, b: u8) -> Stepped
 pub fn fetch(memory: &mut [u64], r: Registers, a: u8, b: u8, c: u8) -> Stepped
     requires { ⌜ Sane (length (now memory)) r ⌝ }
     requires { ⌜ r .next < 65536 ⌝ }
-    ensures { λ o. ⌜ ((s input out : List ℕ) → Performs plain s input (now (memory .entry)) (now (memory .exit)) out out r o (Op.Fetch a b c)) ⌝ }
+    ensures { λ o. ⌜ ((s : List ℕ) → PerformsInside plain s (now (memory .entry)) (now (memory .exit)) r o (Op.Fetch a b c)) ⌝ }
 {
     let m = fetch_in(memory, r, b, c);
     give_moved(memory, r, a, m)
@@ -153,7 +149,7 @@ pub fn fetch(memory: &mut [u64], r: Registers, a: u8, b: u8, c: u8) -> Stepped
 pub fn size(memory: &mut [u64], r: Registers, a: u8, b: u8) -> Stepped
     requires { ⌜ Sane (length (now memory)) r ⌝ }
     requires { ⌜ r .next < 65536 ⌝ }
-    ensures { λ o. ⌜ ((s input out : List ℕ) → Performs plain s input (now (memory .entry)) (now (memory .exit)) out out r o (Op.Size a b)) ⌝ }
+    ensures { λ o. ⌜ ((s : List ℕ) → PerformsInside plain s (now (memory .entry)) (now (memory .exit)) r o (Op.Size a b)) ⌝ }
 {
     let n = size_in(memory, r, b);
     give_number(memory, r, a, n)
@@ -162,7 +158,7 @@ pub fn size(memory: &mut [u64], r: Registers, a: u8, b: u8) -> Stepped
 pub fn get_slot(memory: &mut [u64], r: Registers, a: u8, b: u8, k: u16) -> Stepped
     requires { ⌜ Sane (length (now memory)) r ⌝ }
     requires { ⌜ r .next < 65536 ⌝ }
-    ensures { λ o. ⌜ ((s input out : List ℕ) → Performs plain s input (now (memory .entry)) (now (memory .exit)) out out r o (Op.GetSlot a b k)) ⌝ }
+    ensures { λ o. ⌜ ((s : List ℕ) → PerformsInside plain s (now (memory .entry)) (now (memory .exit)) r o (Op.GetSlot a b k)) ⌝ }
 {
     let m = get_in(memory, r, b, k);
     give_moved(memory, r, a, m)
@@ -171,7 +167,7 @@ pub fn get_slot(memory: &mut [u64], r: Registers, a: u8, b: u8, k: u16) -> Stepp
 pub fn store(memory: &mut [u64], r: Registers, a: u8, b: u8, c: u8) -> Stepped
     requires { ⌜ Sane (length (now memory)) r ⌝ }
     requires { ⌜ r .next < 65536 ⌝ }
-    ensures { λ o. ⌜ ((s input out : List ℕ) → Performs plain s input (now (memory .entry)) (now (memory .exit)) out out r o (Op.Store a b c)) ⌝ }
+    ensures { λ o. ⌜ ((s : List ℕ) → PerformsInside plain s (now (memory .entry)) (now (memory .exit)) r o (Op.Store a b c)) ⌝ }
 {
     let m = store_in(memory, r, a, b, c);
     store_cell(memory, r, m)
@@ -180,7 +176,7 @@ pub fn store(memory: &mut [u64], r: Registers, a: u8, b: u8, c: u8) -> Stepped
 pub fn set_slot(memory: &mut [u64], r: Registers, a: u8, b: u8, k: u16) -> Stepped
     requires { ⌜ Sane (length (now memory)) r ⌝ }
     requires { ⌜ r .next < 65536 ⌝ }
-    ensures { λ o. ⌜ ((s input out : List ℕ) → Performs plain s input (now (memory .entry)) (now (memory .exit)) out out r o (Op.SetSlot a b k)) ⌝ }
+    ensures { λ o. ⌜ ((s : List ℕ) → PerformsInside plain s (now (memory .entry)) (now (memory .exit)) r o (Op.SetSlot a b k)) ⌝ }
 {
     let m = set_in(memory, r, a, b, k);
     store_cell(memory, r, m)
@@ -189,7 +185,7 @@ pub fn set_slot(memory: &mut [u64], r: Registers, a: u8, b: u8, k: u16) -> Stepp
 pub fn new_array(memory: &mut [u64], r: Registers, a: u8, b: u8) -> Stepped
     requires { ⌜ Sane (length (now memory)) r ⌝ }
     requires { ⌜ r .next < 65536 ⌝ }
-    ensures { λ o. ⌜ ((s input out : List ℕ) → Performs plain s input (now (memory .entry)) (now (memory .exit)) out out r o (Op.NewArray a b)) ⌝ }
+    ensures { λ o. ⌜ ((s : List ℕ) → PerformsInside plain s (now (memory .entry)) (now (memory .exit)) r o (Op.NewArray a b)) ⌝ }
 {
     let base = r.base;
     let end = base + r.variables;
@@ -200,7 +196,7 @@ pub fn new_array(memory: &mut [u64], r: Registers, a: u8, b: u8) -> Stepped
 pub fn jump_zero(memory: &[u64], r: Registers, a: u8, k: u16) -> Stepped
     requires { ⌜ Sane (length (now memory)) r ⌝ }
     requires { ⌜ r .next < 65536 ⌝ }
-    ensures { λ o. ⌜ ((s input out : List ℕ) → Performs plain s input (now (memory .entry)) (now (memory .entry)) out out r o (Op.JumpZero a k)) ⌝ }
+    ensures { λ o. ⌜ ((s : List ℕ) → PerformsInside plain s (now (memory .entry)) (now (memory .entry)) r o (Op.JumpZero a k)) ⌝ }
 {
     let base = r.base;
     let end = base + r.variables;
@@ -238,7 +234,7 @@ pub fn new_record(s: &[u8], table: &[u32; 65], memory: &mut [u64], r: Registers,
     requires { ⌜ Loaded (now s) (now table) ⌝ }
     requires { ⌜ Sane (length (now memory)) r ⌝ }
     requires { ⌜ r .next < 65536 ⌝ }
-    ensures { λ o. ⌜ ((input out : List ℕ) → Performs plain (now (s .entry)) input (now (memory .entry)) (now (memory .exit)) out out r o (Op.NewRecord a)) ⌝ }
+    ensures { λ o. ⌜ PerformsInside plain (now (s .entry)) (now (memory .entry)) (now (memory .exit)) r o (Op.NewRecord a) ⌝ }
 {
     let p = r.procedure;
     give_record(memory, r, a, slots_at(s, table[p]))

@@ -27,12 +27,13 @@ use Rattle.words.specs.declared.Moved.the-variants as Mv
 use Rattle.binding.specs.Kinds.{moved-cell}
 use Rattle.writers.specs.declared.Registers.{Registers}
 use Rattle.writers.specs.declared.Stepped.the-variants.{Enter, Halt}
+use Rattle.writers.specs.Memory.{object-part, frame-part, SeesIn}
 use Rattle.writers.proofs.Effects.{halted-then, does-stop, gap-kept, gap-stands}
 use Rattle.writers.proofs.View.{room-is}
 use Rattle.frames.specs.Performs.{Performs}
 use Rattle.frames.specs.Frames.{Opened}
 use Rattle.frames.proofs.Performs.{sees}
-use Rattle.watched_step.specs.Calls.{SeesIn, Callee, cells-at, before, Bound, Binds}
+use Rattle.watched_step.specs.Calls.{Callee, cells-at, before, Bound, Binds}
 use Rattle.watched_step.proofs.Laws.{stopped-as, performs-exactly}
 
 -- ---- one actual after another
@@ -60,15 +61,15 @@ bound-none s words r k b at n =
     }
 
 module _ {s words words′ : List ℕ} {r : Registers} {k b at j n : ℕ} (B : Bound s words words′ r k b at j n) where
-  sees-still : (v : View watched) → SeesIn s v words r → SeesIn s v words′ r
+  sees-still : (v : View watched) → SeesIn watched (qualOf s) v words r → SeesIn watched (qualOf s) v words′ r
   sees-still v S =
-      subst (λ (h : List ℕ). Sees watched (qualOf s) v (take (r .variables) (drop (r .base) words′)) h) (sym (B .gap .objects))
-      (subst (λ (d : List ℕ). Sees watched (qualOf s) v (take (r .variables) d) (take (r .used) words)) (sym (B .gap .frames)) S)
+      subst (λ (h : List ℕ). Sees watched (qualOf s) v (frame-part r words′) h) (sym (B .gap .objects))
+      (subst (λ (d : List ℕ). Sees watched (qualOf s) v (take (r .variables) d) (object-part r words)) (sym (B .gap .frames)) S)
 
   module _ (m : Moved) (n′ : ℕ) (left : n ≡ suc n′)
-      (is : (v : View watched) → SeesIn s v words′ r → moved-cell (qualOf s) m ≡ actual watched (programOf s) v k b j) where
+      (is : (v : View watched) → SeesIn watched (qualOf s) v words′ r → moved-cell (qualOf s) m ≡ actual watched (programOf s) v k b j) where
     -- the next one
-    next-planned : (v : View watched) → SeesIn s v words r
+    next-planned : (v : View watched) → SeesIn watched (qualOf s) v words r
         → actuals watched (programOf s) v k b 0 (j + suc n′)
         ≡ before (cells-at s words′ at j) (moved-cell (qualOf s) m >>= λ c. (actuals watched (programOf s) v k b (suc j) n′ >>= λ ds. ok (c ∷ ds)))
     unfolding actuals
@@ -77,7 +78,7 @@ module _ {s words words′ : List ℕ} {r : Registers} {k b at j n : ℕ} (B : B
         rw left at (B .planned v S) in
         p ∙ rw (is v (sees-still v S))
 
-    pub bound-stop : {x : ℕ} → m ≡ Mv.Halt x → (v : View watched) → SeesIn s v words r → actuals watched (programOf s) v k b 0 (j + n) ≡ halted watched x
+    pub bound-stop : {x : ℕ} → m ≡ Mv.Halt x → (v : View watched) → SeesIn watched (qualOf s) v words r → actuals watched (programOf s) v k b 0 (j + n) ≡ halted watched x
     unfolding moved-cell before
     bound-stop {x} e v S =
         let p : actuals watched (programOf s) v k b 0 (j + n)
@@ -122,7 +123,7 @@ pub bound-done : {s words words′ : List ℕ} {r : Registers} {k b at j n f : �
 bound-done B e z = rw (← e, ← z) B
 
 bound-all : {s words words′ : List ℕ} {r : Registers} {k b at f : ℕ} → Bound s words words′ r k b at f 0
-    → (v : View watched) → SeesIn s v words r → actuals watched (programOf s) v k b 0 f ≡ ok (cells-at s words′ at f)
+    → (v : View watched) → SeesIn watched (qualOf s) v words r → actuals watched (programOf s) v k b 0 f ≡ ok (cells-at s words′ at f)
 unfolding actuals before _>>=_
 bound-all {s} {words} {words′} {r} {k} {b} {at} {f} B v S =
     let e : f + 0 ≡ f = omega arith in

@@ -1,17 +1,17 @@
--- What a guard answers is what is planned, and its writer does it: an operation of the watched machine. Nothing here leaves room for a stuck definition.
-use Prim.Native.Nat.{ℕ, zero, suc, _-_, _≤_, _<_}
+-- What is read is what is planned, and its writer does it: an operation of the watched machine. Nothing here leaves room for a stuck definition.
+use Prim.Native.Nat.{ℕ, zero, suc, _-_, _<_}
 use native.Mathlib.Omega.{arith}
 use mathlib.Core.Path.{_≡_, refl, sym, ap, subst, _∙_}
 use mathlib.Core.Bool.{Bool, true, false, _||_}
 use mathlib.Core.List.{List, [], _∷_}
 use mathlib.Core.Option.{Option}
-use borrow.Author.Tests.{le-leb, lt-leb, leb-true, leb-false}
+use borrow.Author.Tests.{leb-true, leb-false}
 use lib.Dec.{leb}
-use lib.ListN.{length, getD, take, drop, drop-of-length-le}
+use lib.ListN.{length, getD, drop, drop-of-length-le}
 use lib.Seq.{drop-cons}
 use Rattle.model.specs.Rights.{array-rights, record-rights}
 use Rattle.model.specs.Qualified.{Qual, rights, element, isInteger, isArray}
-use Rattle.model.specs.Outcome.{Stop, wrong-kind, input-ended, memory-full, Res, ok, stop, stuck, ensure, found, _>>=_, _>>_}
+use Rattle.model.specs.Outcome.{Stop, wrong-kind, input-ended, Res, ok, stop, stuck, found, _>>=_, _>>_}
 use Rattle.model.specs.Modes.{watched, array-kind, record-kind, bind, demand, amiss}
 use Rattle.model.specs.Machine as M
 use Rattle.model.specs.Machine.{Cell, filled, word, State, View, Effect, view, plan, apply, first-of, declared-as, give, gives, plan-array, plan-record, one-integer}
@@ -20,7 +20,6 @@ use Rattle.model.specs.declared.Operation.{Operation}
 use Rattle.model.specs.declared.Operation.the-variants as Op
 use Rattle.sheet.specs.Layout.{procedureAt}
 use Rattle.sheet.specs.Meaning.{programOf, qualOf}
-use Rattle.words.specs.Sees.{Sees}
 use Rattle.words.specs.Answers.{halted, number-as, given}
 use Rattle.words.specs.declared.Number.{Number}
 use Rattle.words.specs.declared.Number.the-variants as N
@@ -29,13 +28,14 @@ use Rattle.watched_plan.proofs.Laws.{gives-integer, gives-misfit}
 use Rattle.writers.specs.declared.Registers.{Registers}
 use Rattle.writers.specs.declared.Stepped.{Stepped}
 use Rattle.writers.specs.declared.Stepped.the-variants.{Halt}
-use Rattle.writers.specs.Memory.{Given, StandsFor}
-use Rattle.writers.specs.Steps.{After, Does, take-effect}
+use Rattle.writers.specs.Memory.{Given, SeesIn, StandsFor}
+use Rattle.writers.specs.Steps.{After, Does, take-effect, array-effect, record-effect}
 use Rattle.writers.proofs.Effects.{halted-then, halted-after}
+use Rattle.writers.proofs.Planned.{array-there, record-there}
 use Rattle.writers.proofs.View.{room-is, next-input-is}
 use Rattle.frames.specs.Performs.{performed, Performs}
 use Rattle.frames.proofs.Performs.{Running, runs, sees}
-use Rattle.watched_step.specs.Watched.{PlaceOf, array-into, record-into}
+use Rattle.watched_step.specs.Watched.{PlaceOf, Plans}
 
 pub at-place : (s : List ℕ) (r : Registers) (pr : ℕ) (v : View watched) → PlaceOf s r pr → Running s r v → procedureAt s (v .procedure) ≡ pr
 at-place s r pr v A R = rw (R .procedure) (A (rw (← R .procedure) (R .known)))
@@ -57,9 +57,7 @@ module _ (s input words words′ before out : List ℕ) (r : Registers) (o : Ste
 
   -- a plan that leans on the running procedure, the variables and the objects alone
   pub performs-seeing : (pr : ℕ) → PlaceOf s r pr
-      → ((v : View watched) → procedureAt s (v .procedure) ≡ pr → Sees watched (qualOf s) v (take (r .variables) (drop (r .base) words)) (take (r .used) words)
-      → e s ≡ plan watched (programOf s) v op)
-      → Performs watched s input words words′ before out r o op
+      → Plans s pr words r op (e s) → Performs watched s input words words′ before out r o op
   performs-seeing pr A planned =
       performs-exactly
       (λ c t q i S.
@@ -69,8 +67,7 @@ module _ (s input words words′ before out : List ℕ) (r : Registers) (o : Ste
   -- one that leans on the room left besides
   pub performs-roomy : (pr : ℕ) → PlaceOf s r pr
       → ((v : View watched) → procedureAt s (v .procedure) ≡ pr → r .base - r .used ≡ v .room
-      → Sees watched (qualOf s) v (take (r .variables) (drop (r .base) words)) (take (r .used) words)
-      → e s ≡ plan watched (programOf s) v op)
+      → SeesIn watched (qualOf s) v words r → e s ≡ plan watched (programOf s) v op)
       → Performs watched s input words words′ before out r o op
   performs-roomy pr A planned =
       performs-exactly
@@ -157,34 +154,20 @@ made-stop q (suc k) n = refl
 
 module _ (room a n k : ℕ) (q : Qual) (fits : n < room) where
   module _ (is : made q k ≡ bind watched q (array-kind (element q)) array-rights) where
-    pub array-made : k ≡ 0 → array-into room a q (N.Is n) ≡ ok (M.new-array a (element q) n (rights q))
-    unfolding array-into number-as ensure _>>=_ _>>_
-    array-made e = rw (le-leb (suc n) room fits, sym is ∙ made-none q k e)
+    pub array-made : k ≡ 0 → array-effect watched room a q (N.Is n) ≡ ok (M.new-array a (element q) n (rights q))
+    unfolding _>>=_
+    array-made e = array-there watched room a n q fits ∙ rw (sym is ∙ made-none q k e)
 
-    pub array-refused : (k ≡ 0 → ⊥) → array-into room a q (N.Is n) ≡ halted watched k
-    unfolding array-into number-as ensure _>>=_ _>>_
-    array-refused e = rw (le-leb (suc n) room fits, sym is ∙ made-stop q k e) (halted-then watched k (λ t. ok (M.new-array a (element q) n t)))
+    pub array-refused : (k ≡ 0 → ⊥) → array-effect watched room a q (N.Is n) ≡ halted watched k
+    array-refused e = array-there watched room a n q fits ∙ rw (sym is ∙ made-stop q k e) (halted-then watched k (λ t. ok (M.new-array a (element q) n t)))
 
   module _ (t named : ℕ) (is : made q k ≡ bind watched q (record-kind t) (record-rights named)) where
-    pub record-made : k ≡ 0 → record-into room a q t named n ≡ ok (M.new-record a t n (rights q))
-    unfolding record-into ensure _>>=_ _>>_
-    record-made e = rw (le-leb (suc n) room fits, sym is ∙ made-none q k e)
+    pub record-made : k ≡ 0 → record-effect watched room a q t named n ≡ ok (M.new-record a t n (rights q))
+    unfolding _>>=_
+    record-made e = record-there watched room a q t named n fits ∙ rw (sym is ∙ made-none q k e)
 
-    pub record-refused : (k ≡ 0 → ⊥) → record-into room a q t named n ≡ halted watched k
-    unfolding record-into ensure _>>=_ _>>_
-    record-refused e = rw (le-leb (suc n) room fits, sym is ∙ made-stop q k e) (halted-then watched k (λ x. ok (M.new-record a t n x)))
-
-pub array-full : (room a n : ℕ) (q : Qual) → room ≤ n → array-into room a q (N.Is n) ≡ stop memory-full
-unfolding array-into number-as ensure _>>=_ _>>_
-array-full room a n q h = rw (lt-leb (suc n) room (omega arith))
-
-pub array-halt : (room a k : ℕ) (q : Qual) → array-into room a q (N.Halt k) ≡ halted watched k
-unfolding array-into number-as
-array-halt room a k q = halted-then watched k _
-
-pub record-full : (room a t named n : ℕ) (q : Qual) → room ≤ n → record-into room a q t named n ≡ stop memory-full
-unfolding record-into ensure _>>=_ _>>_
-record-full room a t named n q h = rw (lt-leb (suc n) room (omega arith))
+    pub record-refused : (k ≡ 0 → ⊥) → record-effect watched room a q t named n ≡ halted watched k
+    record-refused e = record-there watched room a q t named n fits ∙ rw (sym is ∙ made-stop q k e) (halted-then watched k (λ x. ok (M.new-record a t n x)))
 
 -- as the definition plans them
 tested-then : {A B : Type 0} (x : Res A) (d : Res (Unit {0})) (f : A → Res B) → ((x >>= λ n. (d >> ok n)) >>= f) ≡ (x >>= λ n. (d >> f n))
@@ -197,12 +180,12 @@ tested-then stuck d f = refl
 
 pub arrays : (g : Program) (v : View watched) (a b : ℕ) (n : Number) {q : Qual} {room : ℕ} → declared-as watched g v a ≡ q → room ≡ v .room
     → number-as watched n ≡ size-for g v q b
-    → array-into room a q n ≡ plan watched g v (Op.NewArray a b)
-unfolding plan plan-array array-into size-for
-arrays g v a b n {q} is free e = ap (λ (z : ℕ). array-into z a q n) free ∙ rw (e, is) (tested-then (one-integer watched g v b) (demand watched (isArray q)) _)
+    → array-effect watched room a q n ≡ plan watched g v (Op.NewArray a b)
+unfolding plan plan-array array-effect size-for
+arrays g v a b n {q} is free e = ap (λ (z : ℕ). array-effect watched z a q n) free ∙ rw (e, is) (tested-then (one-integer watched g v b) (demand watched (isArray q)) _)
 
 pub records : (g : Program) (v : View watched) (a : ℕ) {q : Qual} {room t named n : ℕ} → declared-as watched g v a ≡ q → room ≡ v .room
     → g .owner (v .procedure) ≡ t → g .named t ≡ named → g .slots t ≡ n
-    → record-into room a q t named n ≡ plan watched g v (Op.NewRecord a)
-unfolding plan plan-record record-into
-records g v a {q} {room} {t} {named} {n} is free owner names many = ap (λ (z : ℕ). record-into z a q t named n) free ∙ rw (is, owner, names, many)
+    → record-effect watched room a q t named n ≡ plan watched g v (Op.NewRecord a)
+unfolding plan plan-record record-effect
+records g v a {q} {room} {t} {named} {n} is free owner names many = ap (λ (z : ℕ). record-effect watched z a q t named n) free ∙ rw (is, owner, names, many)

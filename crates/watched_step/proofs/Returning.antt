@@ -6,7 +6,7 @@ use mathlib.Core.Bool.{true, false}
 use mathlib.Core.List.{List, [], _∷_}
 use mathlib.Core.Option.{Option, none, some}
 use lib.Dec.{eqb}
-use lib.ListN.{length, getD, take}
+use lib.ListN.{length, getD}
 use Rattle.model.specs.Rules.{optional}
 use Rattle.model.specs.Outcome.{Res, ok, stop, stuck, ensure, _>>=_, _>>_}
 use Rattle.model.specs.Program.{Program}
@@ -17,15 +17,15 @@ use Rattle.model.specs.declared.Operation.the-variants.{Return}
 use Rattle.sheet.specs.Layout.{proceduresOf, resultAt, procedureAt}
 use Rattle.sheet.specs.Meaning.{qualOf, programOf, innerIn, resultIn}
 use Rattle.sheet.specs.Decode.{operationAt}
-use Rattle.words.specs.Word.{cell, slot-in, as-cell}
+use Rattle.words.specs.Word.{slot-in, as-cell}
 use Rattle.words.specs.Answers.{halted, IsCell, MovedOk}
 use Rattle.words.specs.declared.Moved.{Moved}
 use Rattle.words.specs.declared.Moved.the-variants as Mv
-use Rattle.binding.specs.Kinds.{Heads, moved-cell, handed-cell}
+use Rattle.binding.specs.Kinds.{moved-cell, handed-cell}
 use Rattle.writers.specs.declared.Registers.{Registers}
 use Rattle.writers.specs.declared.Stepped.{Stepped}
 use Rattle.writers.specs.declared.Stepped.the-variants.{Enter, Halt}
-use Rattle.writers.specs.Memory.{Given, StandsFor}
+use Rattle.writers.specs.Memory.{Given, object-part, StandsFor}
 use Rattle.writers.proofs.Effects.{halted-then}
 use Rattle.writers.proofs.View.{alone}
 use Rattle.frames.specs.Performs.{Loaded, Performs, Returns}
@@ -37,7 +37,7 @@ use Rattle.frames.proofs.Returning.{planned-as, caller-binds, caller-lacks, res
 use Rattle.watched_step.specs.declared.calls.Handed.{Handed}
 use Rattle.watched_step.specs.declared.calls.Handed.the-variants as H
 use Rattle.watched_step.specs.Watched.{PlaceOf}
-use Rattle.watched_step.specs.Calls.{SeesIn, hands, handed-as}
+use Rattle.watched_step.specs.Calls.{hands, handed-as, HandsOver, BindsWord}
 use Rattle.watched_step.proofs.Laws.{stopped-as, at-place}
 
 -- ---- what is handed over
@@ -56,12 +56,12 @@ module _ (s : List ℕ) (v : View watched) (pr a : ℕ) (at : procedureAt s (v .
   hands-nothing e n = rw (optional-none a e, result-none n)
 
   pub hands-too-little : a ≡ 255 → eqb t 255 ≡ false → handed-as (qualOf s) (H.Halt 18) ≡ hands (programOf s) v a
-  unfolding hands handed-as handed demand ensure halted amiss _>>_
+  unfolding hands handed-as handed-cell handed demand ensure halted amiss _>>_
   hands-too-little e n = rw (optional-none a e, result-some n)
 
   module _ (there : a ≡ 255 → ⊥) where
     pub hands-too-much : eqb t 255 ≡ true → handed-as (qualOf s) (H.Halt 18) ≡ hands (programOf s) v a
-    unfolding hands handed-as demand ensure halted amiss _>>_
+    unfolding hands handed-as handed-cell demand ensure halted amiss _>>_
     hands-too-much n = rw (optional-some a there, result-none n)
 
     module _ (n : eqb t 255 ≡ false) (m : Moved) (is : handed-cell (qualOf s) m ≡ handed watched (programOf s) v (some a)) where
@@ -70,11 +70,11 @@ module _ (s : List ℕ) (v : View watched) (pr a : ℕ) (at : procedureAt s (v .
       hands-value = rw (optional-some a there, result-some n) is
 
       pub hands-word : {w : ℕ} → m ≡ Mv.To w → handed-as (qualOf s) (H.Is w) ≡ hands (programOf s) v a
-      unfolding handed-as handed-cell
+      unfolding handed-as
       hands-word e = rw e at hands-value
 
       pub hands-halt : {k : ℕ} → m ≡ Mv.Halt k → handed-as (qualOf s) (H.Halt k) ≡ hands (programOf s) v a
-      unfolding handed-as handed-cell
+      unfolding handed-as
       hands-halt e = rw e at hands-value
 
 -- ---- the frame that waits
@@ -92,8 +92,7 @@ module _ (s words : List ℕ) (r b : Registers) (a : ℕ) (above : r .base + (r 
       rw (B .procedure) (rw same at (B .running .procedure))
 
   module _ (table : List ℕ) (L : Loaded s table) (w : ℕ) (is-cell : IsCell w) (m : Moved)
-      (is : (g : Program) (v : View watched) (c : Cell watched) → Heads s v (take (r .used) words) → slot-in watched (qualOf s) w ≡ cell c
-      → moved-cell (qualOf s) m ≡ moved watched g v (innerIn s (getD table (b .procedure) 0) a) c) where
+      (is : BindsWord s (object-part r words) (innerIn s (getD table (b .procedure) 0) a) w m) where
     -- the value, bound to the variable that is kept
     bound-kept : (out : List ℕ) (c : Given) (t : State watched) → c .sheet ≡ s → StandsFor watched c words out r t
         → to-caller watched (programOf s) (view (length words) (length out) t) (view (length words) (length out) t .caller) (some (as-cell (slot-in watched (qualOf s) w)))
@@ -134,7 +133,7 @@ unfolding plan plan-return hands
 returned g v a = tested-both _ (handed watched g v (optional a)) (λ c. to-caller watched g v (v .caller) c)
 
 module _ (s words words′ : List ℕ) (r : Registers) (a pr : ℕ) (A : PlaceOf s r pr) (h : Handed)
-    (is : (v : View watched) → procedureAt s (v .procedure) ≡ pr → SeesIn s v words r → handed-as (qualOf s) h ≡ hands (programOf s) v a) where
+    (is : HandsOver s words r pr a h) where
   return-is : (c : Given) (out : List ℕ) (t : State watched) → c .sheet ≡ s → StandsFor watched c words out r t
       → plan watched (programOf s) (view (length words) (length out) t) (Return a)
       ≡ (handed-as (qualOf s) h >>= λ d. to-caller watched (programOf s) (view (length words) (length out) t) (view (length words) (length out) t .caller) d)
@@ -153,12 +152,12 @@ module _ (s words words′ : List ℕ) (r : Registers) (a pr : ℕ) (A : PlaceOf
 
   pub gives-word : (o : Stepped) {w : ℕ} → h ≡ H.Is w → ((out : List ℕ) → Returns watched s words words′ out r o (some (as-cell (slot-in watched (qualOf s) w))))
       → (input out : List ℕ) → Performs watched s input words words′ out out r o (Return a)
-  unfolding handed-as _>>=_
+  unfolding handed-as handed-cell _>>=_
   gives-word o {w} e back input out c t same i S =
       let v = view (length words) (length out) t in
       planned-as c words′ out s r t o _ (to-caller watched (programOf s) v (v .caller) (some (as-cell (slot-in watched (qualOf s) w)))) (return-is c out t same S ∙ rw e) (back out c t same S)
 
   pub gives-halt : {k : ℕ} → h ≡ H.Halt k → (input out : List ℕ) → Performs watched s input words words out out r (Halt k) (Return a)
-  unfolding handed-as
+  unfolding handed-as handed-cell
   gives-halt {k} e input out c t same i S =
       stopped-as c words out s r t S k _ (return-is c out t same S ∙ rw (e, halted-then watched k))

@@ -2,29 +2,27 @@
 use Prim.Native.Nat.{ℕ, _+_, _≤_, _<_}
 use mathlib.Core.Path.{_≡_}
 use mathlib.Core.List.{List, _++_, map}
-use mathlib.Core.Option.{Option, none, some}
+use mathlib.Core.Option.{Option, none}
 use lib.ListN.{take, drop}
 use Rattle.model.specs.Qualified.{Qual}
 use Rattle.model.specs.Program.{Program}
 use Rattle.model.specs.Rules.{optional}
 use Rattle.model.specs.Outcome.{Res, ok, _>>=_, _>>_}
 use Rattle.model.specs.Modes.{watched, demand}
-use Rattle.model.specs.Machine.{Cell, View, actuals, handed, returns-well}
+use Rattle.model.specs.Machine.{Cell, View, moved, actual, actuals, handed, returns-well}
 use Rattle.sheet.specs.Layout.{proceduresOf, formalsAt, variablesAt, procedureAt}
 use Rattle.sheet.specs.Meaning.{qualOf, programOf}
 use Rattle.words.specs.Word.{cell, slot-in, as-cell}
-use Rattle.words.specs.Sees.{Sees}
 use Rattle.words.specs.Answers.{halted, IsCell}
 use Rattle.words.specs.declared.Number.{Number}
 use Rattle.words.specs.declared.Number.the-variants as N
+use Rattle.words.specs.declared.Moved.{Moved}
+use Rattle.words.specs.declared.Moved.the-variants as M
+use Rattle.binding.specs.Kinds.{Heads, moved-cell, handed-cell}
 use Rattle.writers.specs.declared.Registers.{Registers}
-use Rattle.writers.specs.Memory.{GapOnly}
+use Rattle.writers.specs.Memory.{SeesIn, GapOnly}
 use Rattle.watched_step.specs.declared.calls.Handed.{Handed}
 use Rattle.watched_step.specs.declared.calls.Handed.the-variants as H
-
--- what a view sees of the running frame's part of the memory and of the objects' part
-abbrev pub SeesIn : List ℕ → View watched → List ℕ → Registers → Type 0
-SeesIn s v words r = Sees watched (qualOf s) v (take (r .variables) (drop (r .base) words)) (take (r .used) words)
 
 -- ---- a call
 
@@ -34,6 +32,11 @@ pub record Callee (s : List ℕ) (k pr : ℕ) : Type 0 where
   pub formals : formalsAt s pr ≤ variablesAt s pr
   pub known : k < proceduresOf s
   pub small : k < 64
+
+-- the answer is actual j of a call of the procedure at pr with variables from b on, in every view that sees these words
+abbrev pub BindsActual : (s words : List ℕ) → Registers → (pr b j : ℕ) → Moved → Type 0
+BindsActual s words r pr b j m =
+    (v : View watched) (k : ℕ) → procedureAt s k ≡ pr → SeesIn watched (qualOf s) v words r → moved-cell (qualOf s) m ≡ actual watched (programOf s) v k b j
 
 -- the cells of n words from a place on
 abbrev pub cells-at : (s words : List ℕ) → (at n : ℕ) → List (Cell watched)
@@ -47,14 +50,14 @@ before cs r = r >>= λ ds. ok (cs ++ ds)
 pub record Bound (s words words′ : List ℕ) (r : Registers) (k b at j n : ℕ) : Type 0 where
   pub gap : GapOnly words words′ r
   pub cells : map (slot-in watched (qualOf s)) (take j (drop at words′)) ≡ map cell (cells-at s words′ at j)
-  pub planned : (v : View watched) → SeesIn s v words r
+  pub planned : (v : View watched) → SeesIn watched (qualOf s) v words r
       → actuals watched (programOf s) v k b 0 (j + n) ≡ before (cells-at s words′ at j) (actuals watched (programOf s) v k b j n)
 
 -- all f of them were; or the first that was not is the stop, and those before it left words in the gap alone
 abbrev pub Binds : (s words words′ : List ℕ) → Registers → (k b at f : ℕ) → Number → Type 0
 Binds s words words′ r k b at f (N.Is n) = Bound s words words′ r k b at f 0
 Binds s words words′ r k b at f (N.Halt x) =
-    GapOnly words words′ r × ((v : View watched) → SeesIn s v words r → actuals watched (programOf s) v k b 0 f ≡ halted watched x)
+    GapOnly words words′ r × ((v : View watched) → SeesIn watched (qualOf s) v words r → actuals watched (programOf s) v k b 0 f ≡ halted watched x)
 
 -- ---- a return
 
@@ -66,11 +69,21 @@ hands g v a = do
 
 unfoldable pub handed-as : (ℕ → Qual) → Handed → Res (Option (Cell watched))
 handed-as qual H.Nothing = ok none
-handed-as qual (H.Is w) = ok (some (as-cell (slot-in watched qual w)))
-handed-as qual (H.Halt k) = halted watched k
+handed-as qual (H.Is w) = handed-cell qual (M.To w)
+handed-as qual (H.Halt k) = handed-cell qual (M.Halt k)
+
+-- the answer is that, in every view that sees these words while the procedure at pr runs
+abbrev pub HandsOver : (s words : List ℕ) → Registers → (pr a : ℕ) → Handed → Type 0
+HandsOver s words r pr a h =
+    (v : View watched) → procedureAt s (v .procedure) ≡ pr → SeesIn watched (qualOf s) v words r → handed-as (qualOf s) h ≡ hands (programOf s) v a
 
 -- a word that is handed over is a cell's
 abbrev pub HandedOk : Handed → Type 0
 HandedOk H.Nothing = Unit {0}
 HandedOk (H.Is w) = IsCell w
 HandedOk (H.Halt k) = Unit {0}
+
+-- a word bound to a type, by the heads of the objects in h
+abbrev pub BindsWord : (s h : List ℕ) → Qual → (w : ℕ) → Moved → Type 0
+BindsWord s h q w m =
+    (g : Program) (v : View watched) (c : Cell watched) → Heads s v h → slot-in watched (qualOf s) w ≡ cell c → moved-cell (qualOf s) m ≡ moved watched g v q c

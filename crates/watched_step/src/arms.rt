@@ -1,4 +1,6 @@
-// Each operation but call and return: what it asks for (crate guards), done (crate writers). pr is the place of the running procedure's PR.
+// Each operation but call and return: what it asks for (crate watched_plan), done (crate writers). pr is the place of the running procedure's PR.
+use sheet::bytes::byte;
+use sheet::places::type_at;
 use watched_plan::add_guarded;
 use watched_plan::array_made_as;
 use watched_plan::bind_guarded;
@@ -16,8 +18,6 @@ use watched_plan::sized;
 use watched_plan::store_guarded;
 use watched_plan::subtract_guarded;
 use watched_plan::takes_integer;
-use sheet::bytes::byte;
-use sheet::places::type_at;
 use words::Moved;
 use words::Number;
 use words::Stored;
@@ -33,28 +33,20 @@ use writers::jump;
 use writers::put_output;
 use writers::store_cell;
 use writers::take_input;
-ghost use mathlib.Core.Path.{_≡_};
 ghost use mathlib.Core.List.{List};
 ghost use Prim.Native.Nat.{ℕ, _-_, _<_};
-ghost use lib.ListN.{length, take, drop};
+ghost use lib.ListN.{length};
 ghost use Rattle.model.specs.Modes.{watched};
-ghost use Rattle.model.specs.Machine.{View, plan};
 ghost use Rattle.model.specs.declared.Operation.the-variants as Op;
-ghost use Rattle.sheet.specs.Layout.{procedureAt, ownerAt, namedOf};
-ghost use Rattle.sheet.specs.Meaning.{qualOf, innerIn, programOf};
-ghost use Rattle.words.specs.Sees.{Sees};
-ghost use Rattle.words.specs.Answers.{MovedOk, StoredOk, given, moved-to, stored};
 ghost use Rattle.words.specs.declared.Number.the-variants.{Is};
-ghost use Rattle.writers.specs.Memory.{Given, Sane};
-ghost use Rattle.writers.specs.Steps.{Does};
-ghost use Rattle.frames.specs.Performs.{Performs};
-ghost use Rattle.watched_step.specs.Watched.{PlaceOf, array-into, record-into};
+ghost use Rattle.writers.specs.Memory.{Sane};
+ghost use Rattle.frames.specs.Performs.{Performs, PerformsInside};
+ghost use Rattle.watched_step.specs.Watched.{PlaceOf, PlansNumber, PlansMoved, PlansStored, array-for, record-for, DoesInside};
 
 // What is read of the running frame's part of the memory and of the objects' part.
 fn bind_in(s: &[u8], pr: u32, memory: &[u64], r: Registers, a: u8, b: u8) -> Moved
     requires { ⌜ Sane (length (now memory)) r ⌝ }
-    ensures { λ m. ⌜ MovedOk m ⌝ }
-    ensures { λ m. ⌜ ((v : View watched) → procedureAt (now (s .entry)) (v .procedure) ≡ pr → Sees watched (qualOf (now (s .entry))) v (take (r .variables) (drop (r .base) (now (memory .entry)))) (take (r .used) (now (memory .entry))) → moved-to watched (qualOf (now (s .entry))) a m ≡ plan watched (programOf (now (s .entry))) v (Op.Bind a b)) ⌝ }
+    ensures { λ m. ⌜ PlansMoved (now (s .entry)) pr (now (memory .entry)) r (Op.Bind a b) a m ⌝ }
 {
     let base = r.base;
     let end = base + r.variables;
@@ -64,8 +56,7 @@ fn bind_in(s: &[u8], pr: u32, memory: &[u64], r: Registers, a: u8, b: u8) -> Mov
 
 fn fetch_in(s: &[u8], pr: u32, memory: &[u64], r: Registers, a: u8, b: u8, c: u8) -> Moved
     requires { ⌜ Sane (length (now memory)) r ⌝ }
-    ensures { λ m. ⌜ MovedOk m ⌝ }
-    ensures { λ m. ⌜ ((v : View watched) → procedureAt (now (s .entry)) (v .procedure) ≡ pr → Sees watched (qualOf (now (s .entry))) v (take (r .variables) (drop (r .base) (now (memory .entry)))) (take (r .used) (now (memory .entry))) → moved-to watched (qualOf (now (s .entry))) a m ≡ plan watched (programOf (now (s .entry))) v (Op.Fetch a b c)) ⌝ }
+    ensures { λ m. ⌜ PlansMoved (now (s .entry)) pr (now (memory .entry)) r (Op.Fetch a b c) a m ⌝ }
 {
     let base = r.base;
     let end = base + r.variables;
@@ -75,8 +66,7 @@ fn fetch_in(s: &[u8], pr: u32, memory: &[u64], r: Registers, a: u8, b: u8, c: u8
 
 fn get_in(s: &[u8], pr: u32, memory: &[u64], r: Registers, a: u8, b: u8, k: u16) -> Moved
     requires { ⌜ Sane (length (now memory)) r ⌝ }
-    ensures { λ m. ⌜ MovedOk m ⌝ }
-    ensures { λ m. ⌜ ((v : View watched) → procedureAt (now (s .entry)) (v .procedure) ≡ pr → Sees watched (qualOf (now (s .entry))) v (take (r .variables) (drop (r .base) (now (memory .entry)))) (take (r .used) (now (memory .entry))) → moved-to watched (qualOf (now (s .entry))) a m ≡ plan watched (programOf (now (s .entry))) v (Op.GetSlot a b k)) ⌝ }
+    ensures { λ m. ⌜ PlansMoved (now (s .entry)) pr (now (memory .entry)) r (Op.GetSlot a b k) a m ⌝ }
 {
     let base = r.base;
     let end = base + r.variables;
@@ -86,7 +76,7 @@ fn get_in(s: &[u8], pr: u32, memory: &[u64], r: Registers, a: u8, b: u8, k: u16)
 
 fn size_in(s: &[u8], pr: u32, memory: &[u64], r: Registers, a: u8, b: u8) -> Number
     requires { ⌜ Sane (length (now memory)) r ⌝ }
-    ensures { λ m. ⌜ ((v : View watched) → procedureAt (now (s .entry)) (v .procedure) ≡ pr → Sees watched (qualOf (now (s .entry))) v (take (r .variables) (drop (r .base) (now (memory .entry)))) (take (r .used) (now (memory .entry))) → given watched a m ≡ plan watched (programOf (now (s .entry))) v (Op.Size a b)) ⌝ }
+    ensures { λ n. ⌜ PlansNumber (now (s .entry)) pr (now (memory .entry)) r (Op.Size a b) a n ⌝ }
 {
     let base = r.base;
     let end = base + r.variables;
@@ -96,8 +86,7 @@ fn size_in(s: &[u8], pr: u32, memory: &[u64], r: Registers, a: u8, b: u8) -> Num
 
 fn store_in(s: &[u8], memory: &[u64], r: Registers, a: u8, b: u8, c: u8) -> Stored
     requires { ⌜ Sane (length (now memory)) r ⌝ }
-    ensures { λ m. ⌜ StoredOk (take (r .used) (now (memory .entry))) m ⌝ }
-    ensures { λ m. ⌜ ((v : View watched) → Sees watched (qualOf (now (s .entry))) v (take (r .variables) (drop (r .base) (now (memory .entry)))) (take (r .used) (now (memory .entry))) → stored watched (qualOf (now (s .entry))) m ≡ plan watched (programOf (now (s .entry))) v (Op.Store a b c)) ⌝ }
+    ensures { λ m. ⌜ ((pr : ℕ) → PlansStored (now (s .entry)) pr (now (memory .entry)) r (Op.Store a b c) m) ⌝ }
 {
     let base = r.base;
     let end = base + r.variables;
@@ -107,8 +96,7 @@ fn store_in(s: &[u8], memory: &[u64], r: Registers, a: u8, b: u8, c: u8) -> Stor
 
 fn set_in(s: &[u8], pr: u32, memory: &[u64], r: Registers, a: u8, b: u8, k: u16) -> Stored
     requires { ⌜ Sane (length (now memory)) r ⌝ }
-    ensures { λ m. ⌜ StoredOk (take (r .used) (now (memory .entry))) m ⌝ }
-    ensures { λ m. ⌜ ((v : View watched) → procedureAt (now (s .entry)) (v .procedure) ≡ pr → Sees watched (qualOf (now (s .entry))) v (take (r .variables) (drop (r .base) (now (memory .entry)))) (take (r .used) (now (memory .entry))) → stored watched (qualOf (now (s .entry))) m ≡ plan watched (programOf (now (s .entry))) v (Op.SetSlot a b k)) ⌝ }
+    ensures { λ m. ⌜ PlansStored (now (s .entry)) pr (now (memory .entry)) r (Op.SetSlot a b k) m ⌝ }
 {
     let base = r.base;
     let end = base + r.variables;
@@ -120,7 +108,7 @@ pub fn set(s: &[u8], pr: u32, memory: &mut [u64], r: Registers, a: u8, k: u16) -
     requires { ⌜ Sane (length (now memory)) r ⌝ }
     requires { ⌜ r .next < 65536 ⌝ }
     requires { ⌜ PlaceOf (now s) r pr ⌝ }
-    ensures { λ o. ⌜ ((input out : List ℕ) → Performs watched (now (s .entry)) input (now (memory .entry)) (now (memory .exit)) out out r o (Op.Set a k)) ⌝ }
+    ensures { λ o. ⌜ PerformsInside watched (now (s .entry)) (now (memory .entry)) (now (memory .exit)) r o (Op.Set a k) ⌝ }
 {
     give_number(memory, r, a, set_guarded(s, pr, a, k))
 }
@@ -129,7 +117,7 @@ pub fn add(s: &[u8], pr: u32, memory: &mut [u64], r: Registers, a: u8, b: u8, c:
     requires { ⌜ Sane (length (now memory)) r ⌝ }
     requires { ⌜ r .next < 65536 ⌝ }
     requires { ⌜ PlaceOf (now s) r pr ⌝ }
-    ensures { λ o. ⌜ ((input out : List ℕ) → Performs watched (now (s .entry)) input (now (memory .entry)) (now (memory .exit)) out out r o (Op.Add a b c)) ⌝ }
+    ensures { λ o. ⌜ PerformsInside watched (now (s .entry)) (now (memory .entry)) (now (memory .exit)) r o (Op.Add a b c) ⌝ }
 {
     let base = r.base;
     let end = base + r.variables;
@@ -141,7 +129,7 @@ pub fn subtract(s: &[u8], pr: u32, memory: &mut [u64], r: Registers, a: u8, b: u
     requires { ⌜ Sane (length (now memory)) r ⌝ }
     requires { ⌜ r .next < 65536 ⌝ }
     requires { ⌜ PlaceOf (now s) r pr ⌝ }
-    ensures { λ o. ⌜ ((input out : List ℕ) → Performs watched (now (s .entry)) input (now (memory .entry)) (now (memory .exit)) out out r o (Op.Subtract a b c)) ⌝ }
+    ensures { λ o. ⌜ PerformsInside watched (now (s .entry)) (now (memory .entry)) (now (memory .exit)) r o (Op.Subtract a b c) ⌝ }
 {
     let base = r.base;
     let end = base + r.variables;
@@ -153,7 +141,7 @@ pub fn less(s: &[u8], pr: u32, memory: &mut [u64], r: Registers, a: u8, b: u8, c
     requires { ⌜ Sane (length (now memory)) r ⌝ }
     requires { ⌜ r .next < 65536 ⌝ }
     requires { ⌜ PlaceOf (now s) r pr ⌝ }
-    ensures { λ o. ⌜ ((input out : List ℕ) → Performs watched (now (s .entry)) input (now (memory .entry)) (now (memory .exit)) out out r o (Op.Less a b c)) ⌝ }
+    ensures { λ o. ⌜ PerformsInside watched (now (s .entry)) (now (memory .entry)) (now (memory .exit)) r o (Op.Less a b c) ⌝ }
 {
     let base = r.base;
     let end = base + r.variables;
@@ -165,7 +153,7 @@ pub fn bind(s: &[u8], pr: u32, memory: &mut [u64], r: Registers, a: u8, b: u8) -
     requires { ⌜ Sane (length (now memory)) r ⌝ }
     requires { ⌜ r .next < 65536 ⌝ }
     requires { ⌜ PlaceOf (now s) r pr ⌝ }
-    ensures { λ o. ⌜ ((input out : List ℕ) → Performs watched (now (s .entry)) input (now (memory .entry)) (now (memory .exit)) out out r o (Op.Bind a b)) ⌝ }
+    ensures { λ o. ⌜ PerformsInside watched (now (s .entry)) (now (memory .entry)) (now (memory .exit)) r o (Op.Bind a b) ⌝ }
 {
     let m = bind_in(s, pr, memory, r, a, b);
     give_moved(memory, r, a, m)
@@ -175,7 +163,7 @@ pub fn fetch(s: &[u8], pr: u32, memory: &mut [u64], r: Registers, a: u8, b: u8, 
     requires { ⌜ Sane (length (now memory)) r ⌝ }
     requires { ⌜ r .next < 65536 ⌝ }
     requires { ⌜ PlaceOf (now s) r pr ⌝ }
-    ensures { λ o. ⌜ ((input out : List ℕ) → Performs watched (now (s .entry)) input (now (memory .entry)) (now (memory .exit)) out out r o (Op.Fetch a b c)) ⌝ }
+    ensures { λ o. ⌜ PerformsInside watched (now (s .entry)) (now (memory .entry)) (now (memory .exit)) r o (Op.Fetch a b c) ⌝ }
 {
     let m = fetch_in(s, pr, memory, r, a, b, c);
     give_moved(memory, r, a, m)
@@ -185,7 +173,7 @@ pub fn size(s: &[u8], pr: u32, memory: &mut [u64], r: Registers, a: u8, b: u8) -
     requires { ⌜ Sane (length (now memory)) r ⌝ }
     requires { ⌜ r .next < 65536 ⌝ }
     requires { ⌜ PlaceOf (now s) r pr ⌝ }
-    ensures { λ o. ⌜ ((input out : List ℕ) → Performs watched (now (s .entry)) input (now (memory .entry)) (now (memory .exit)) out out r o (Op.Size a b)) ⌝ }
+    ensures { λ o. ⌜ PerformsInside watched (now (s .entry)) (now (memory .entry)) (now (memory .exit)) r o (Op.Size a b) ⌝ }
 {
     let n = size_in(s, pr, memory, r, a, b);
     give_number(memory, r, a, n)
@@ -203,7 +191,7 @@ pub fn get_slot(
     requires { ⌜ Sane (length (now memory)) r ⌝ }
     requires { ⌜ r .next < 65536 ⌝ }
     requires { ⌜ PlaceOf (now s) r pr ⌝ }
-    ensures { λ o. ⌜ ((input out : List ℕ) → Performs watched (now (s .entry)) input (now (memory .entry)) (now (memory .exit)) out out r o (Op.GetSlot a b k)) ⌝ }
+    ensures { λ o. ⌜ PerformsInside watched (now (s .entry)) (now (memory .entry)) (now (memory .exit)) r o (Op.GetSlot a b k) ⌝ }
 {
     let m = get_in(s, pr, memory, r, a, b, k);
     give_moved(memory, r, a, m)
@@ -212,7 +200,7 @@ pub fn get_slot(
 pub fn store(s: &[u8], memory: &mut [u64], r: Registers, a: u8, b: u8, c: u8) -> Stepped
     requires { ⌜ Sane (length (now memory)) r ⌝ }
     requires { ⌜ r .next < 65536 ⌝ }
-    ensures { λ o. ⌜ ((input out : List ℕ) → Performs watched (now (s .entry)) input (now (memory .entry)) (now (memory .exit)) out out r o (Op.Store a b c)) ⌝ }
+    ensures { λ o. ⌜ PerformsInside watched (now (s .entry)) (now (memory .entry)) (now (memory .exit)) r o (Op.Store a b c) ⌝ }
 {
     let m = store_in(s, memory, r, a, b, c);
     store_cell(memory, r, m)
@@ -230,7 +218,7 @@ pub fn set_slot(
     requires { ⌜ Sane (length (now memory)) r ⌝ }
     requires { ⌜ r .next < 65536 ⌝ }
     requires { ⌜ PlaceOf (now s) r pr ⌝ }
-    ensures { λ o. ⌜ ((input out : List ℕ) → Performs watched (now (s .entry)) input (now (memory .entry)) (now (memory .exit)) out out r o (Op.SetSlot a b k)) ⌝ }
+    ensures { λ o. ⌜ PerformsInside watched (now (s .entry)) (now (memory .entry)) (now (memory .exit)) r o (Op.SetSlot a b k) ⌝ }
 {
     let m = set_in(s, pr, memory, r, a, b, k);
     store_cell(memory, r, m)
@@ -239,7 +227,7 @@ pub fn set_slot(
 pub fn jump_zero(memory: &[u64], r: Registers, a: u8, k: u16) -> Stepped
     requires { ⌜ Sane (length (now memory)) r ⌝ }
     requires { ⌜ r .next < 65536 ⌝ }
-    ensures { λ o. ⌜ ((s input out : List ℕ) → Performs watched s input (now (memory .entry)) (now (memory .entry)) out out r o (Op.JumpZero a k)) ⌝ }
+    ensures { λ o. ⌜ ((s : List ℕ) → PerformsInside watched s (now (memory .entry)) (now (memory .entry)) r o (Op.JumpZero a k)) ⌝ }
 {
     let base = r.base;
     let end = base + r.variables;
@@ -273,7 +261,7 @@ pub fn take(s: &[u8], pr: u32, input: &[u32], memory: &mut [u64], r: Registers, 
 fn give_array(s: &[u8], pr: u32, memory: &mut [u64], r: Registers, a: u8, n: Number) -> Stepped
     requires { ⌜ Sane (length (now memory)) r ⌝ }
     requires { ⌜ r .next < 65536 ⌝ }
-    ensures { λ o. ⌜ ((c : Given) (out : List ℕ) → c .sheet ≡ (now (s .entry)) → Does watched c (now (memory .entry)) (now (memory .exit)) out out r o (array-into (r .base - r .used) a (innerIn (now (s .entry)) pr a) n)) ⌝ }
+    ensures { λ o. ⌜ DoesInside (now (s .entry)) (now (memory .entry)) (now (memory .exit)) r o (array-for (now (s .entry)) pr r a n) ⌝ }
 {
     match n {
         Number::Is(x) => {
@@ -291,7 +279,7 @@ fn make_array(s: &[u8], pr: u32, memory: &mut [u64], r: Registers, a: u8, n: u32
     requires { ⌜ Sane (length (now memory)) r ⌝ }
     requires { ⌜ r .next < 65536 ⌝ }
     requires { ⌜ n < r .base - r .used ⌝ }
-    ensures { λ o. ⌜ ((c : Given) (out : List ℕ) → c .sheet ≡ (now (s .entry)) → Does watched c (now (memory .entry)) (now (memory .exit)) out out r o (array-into (r .base - r .used) a (innerIn (now (s .entry)) pr a) (Is n))) ⌝ }
+    ensures { λ o. ⌜ DoesInside (now (s .entry)) (now (memory .entry)) (now (memory .exit)) r o (array-for (now (s .entry)) pr r a (Is n)) ⌝ }
 {
     let stop = array_made_as(s, pr, a);
     if stop == 0 {
@@ -306,7 +294,7 @@ pub fn new_array(s: &[u8], pr: u32, memory: &mut [u64], r: Registers, a: u8, b: 
     requires { ⌜ Sane (length (now memory)) r ⌝ }
     requires { ⌜ r .next < 65536 ⌝ }
     requires { ⌜ PlaceOf (now s) r pr ⌝ }
-    ensures { λ o. ⌜ ((input out : List ℕ) → Performs watched (now (s .entry)) input (now (memory .entry)) (now (memory .exit)) out out r o (Op.NewArray a b)) ⌝ }
+    ensures { λ o. ⌜ PerformsInside watched (now (s .entry)) (now (memory .entry)) (now (memory .exit)) r o (Op.NewArray a b) ⌝ }
 {
     let base = r.base;
     let end = base + r.variables;
@@ -319,7 +307,7 @@ fn make_record(s: &[u8], pr: u32, memory: &mut [u64], r: Registers, a: u8, n: u3
     requires { ⌜ Sane (length (now memory)) r ⌝ }
     requires { ⌜ r .next < 65536 ⌝ }
     requires { ⌜ n < r .base - r .used ⌝ }
-    ensures { λ o. ⌜ ((c : Given) (out : List ℕ) → c .sheet ≡ (now (s .entry)) → Does watched c (now (memory .entry)) (now (memory .exit)) out out r o (record-into (r .base - r .used) a (innerIn (now (s .entry)) pr a) (ownerAt (now (s .entry)) pr) (namedOf (now (s .entry)) (ownerAt (now (s .entry)) pr)) n)) ⌝ }
+    ensures { λ o. ⌜ DoesInside (now (s .entry)) (now (memory .entry)) (now (memory .exit)) r o (record-for (now (s .entry)) pr r a n) ⌝ }
 {
     let stop = record_made_as(s, pr, a);
     if stop == 0 {
@@ -334,7 +322,7 @@ pub fn new_record(s: &[u8], pr: u32, memory: &mut [u64], r: Registers, a: u8) ->
     requires { ⌜ Sane (length (now memory)) r ⌝ }
     requires { ⌜ r .next < 65536 ⌝ }
     requires { ⌜ PlaceOf (now s) r pr ⌝ }
-    ensures { λ o. ⌜ ((input out : List ℕ) → Performs watched (now (s .entry)) input (now (memory .entry)) (now (memory .exit)) out out r o (Op.NewRecord a)) ⌝ }
+    ensures { λ o. ⌜ PerformsInside watched (now (s .entry)) (now (memory .entry)) (now (memory .exit)) r o (Op.NewRecord a) ⌝ }
 {
     let n = byte(s, type_at(byte(s, pr as usize, 2)), 3) as u32;
     if (n as usize) < r.base - r.used {

@@ -19,25 +19,22 @@ ghost use mathlib.Core.List.{List};
 ghost use mathlib.Core.Option.{none, some};
 ghost use Prim.Native.Nat.{ℕ, _+_, _-_, _^_, _≤_, _<_};
 ghost use lib.ListN.{length, take};
-ghost use Rattle.model.specs.Program.{Program};
 ghost use Rattle.model.specs.Modes.{watched};
-ghost use Rattle.model.specs.Machine.{Cell, View, moved, actual};
 ghost use Rattle.model.specs.declared.Operation.the-variants as Op;
 ghost use Rattle.sheet.specs.Layout.{proceduresOf, procedureAt};
-ghost use Rattle.sheet.specs.Meaning.{qualOf, innerIn, programOf};
-ghost use Rattle.words.specs.Word.{cell, slot-in, as-cell};
+ghost use Rattle.sheet.specs.Meaning.{qualOf, innerIn};
+ghost use Rattle.words.specs.Word.{slot-in, as-cell};
 ghost use Rattle.words.specs.Answers.{IsCell, MovedOk};
-ghost use Rattle.binding.specs.Kinds.{Heads, moved-cell};
 ghost use Rattle.writers.specs.Memory.{Sane};
-ghost use Rattle.frames.specs.Performs.{Loaded, Performs, Returns};
+ghost use Rattle.frames.specs.Performs.{Loaded, PerformsInside, Returns};
 ghost use Rattle.watched_step.specs.Watched.{PlaceOf};
-ghost use Rattle.watched_step.specs.Calls.{SeesIn, Callee, Binds, hands, handed-as, HandedOk};
+ghost use Rattle.watched_step.specs.Calls.{Callee, BindsActual, Binds, HandsOver, HandedOk, BindsWord};
 
 // Actual j of a call of the procedure at pr with variables from b on.
 fn actual_in(s: &[u8], pr: u32, memory: &[u64], r: Registers, b: u8, j: u8) -> Moved
     requires { ⌜ Sane (length (now memory)) r ⌝ }
     ensures { λ m. ⌜ MovedOk m ⌝ }
-    ensures { λ m. ⌜ ((v : View watched) (k : ℕ) → procedureAt (now (s .entry)) k ≡ pr → SeesIn (now (s .entry)) v (now (memory .entry)) r → moved-cell (qualOf (now (s .entry))) m ≡ actual watched (programOf (now (s .entry))) v k b j) ⌝ }
+    ensures { λ m. ⌜ BindsActual (now (s .entry)) (now (memory .entry)) r pr b j m ⌝ }
 {
     let base = r.base;
     let end = base + r.variables;
@@ -80,7 +77,7 @@ fn call_at(s: &[u8], pr: u32, memory: &mut [u64], r: Registers, a: u8, b: u8, k:
     requires { ⌜ Sane (length (now memory)) r ⌝ }
     requires { ⌜ (r .next < 65536) × (r .first < 2 ^ 32) ⌝ }
     requires { ⌜ Callee (now s) k pr ⌝ }
-    ensures { λ o. ⌜ ((input out : List ℕ) → Performs watched (now (s .entry)) input (now (memory .entry)) (now (memory .exit)) out out r o (Op.Call a b k)) ⌝ }
+    ensures { λ o. ⌜ PerformsInside watched (now (s .entry)) (now (memory .entry)) (now (memory .exit)) r o (Op.Call a b k) ⌝ }
 {
     let place = pr as usize;
     if (a != 255) & (byte(s, place, 5) == 255) {
@@ -113,7 +110,7 @@ pub fn call(
     requires { ⌜ Sane (length (now memory)) r ⌝ }
     requires { ⌜ (r .next < 65536) × (r .first < 2 ^ 32) ⌝ }
     requires { ⌜ k < proceduresOf (now s) ⌝ }
-    ensures { λ o. ⌜ ((input out : List ℕ) → Performs watched (now (s .entry)) input (now (memory .entry)) (now (memory .exit)) out out r o (Op.Call a b k)) ⌝ }
+    ensures { λ o. ⌜ PerformsInside watched (now (s .entry)) (now (memory .entry)) (now (memory .exit)) r o (Op.Call a b k) ⌝ }
 {
     call_at(s, table[k as usize], memory, r, a, b, k)
 }
@@ -129,7 +126,7 @@ enum Handed {
 fn handed_by(s: &[u8], pr: u32, memory: &[u64], r: Registers, a: u8) -> Handed
     requires { ⌜ Sane (length (now memory)) r ⌝ }
     ensures { λ h. ⌜ HandedOk h ⌝ }
-    ensures { λ h. ⌜ ((v : View watched) → procedureAt (now (s .entry)) (v .procedure) ≡ pr → SeesIn (now (s .entry)) v (now (memory .entry)) r → handed-as (qualOf (now (s .entry))) h ≡ hands (programOf (now (s .entry))) v a) ⌝ }
+    ensures { λ h. ⌜ HandsOver (now (s .entry)) (now (memory .entry)) r pr a h ⌝ }
 {
     let none = byte(s, pr as usize, 5) == 255;
     if a == 255 {
@@ -171,7 +168,7 @@ fn resume_without(s: &[u8], memory: &[u64], r: Registers) -> Stepped
 fn bind_kept(s: &[u8], pr: u32, memory: &[u64], used: usize, a: u8, w: u64) -> Moved
     requires { ⌜ used ≤ length (now memory) ⌝ }
     ensures { λ m. ⌜ MovedOk m ⌝ }
-    ensures { λ m. ⌜ ((g : Program) (v : View watched) (c : Cell watched) → Heads (now (s .entry)) v (take used (now (memory .entry))) → slot-in watched (qualOf (now (s .entry))) w ≡ cell c → moved-cell (qualOf (now (s .entry))) m ≡ moved watched g v (innerIn (now (s .entry)) pr a) c) ⌝ }
+    ensures { λ m. ⌜ BindsWord (now (s .entry)) (take used (now (memory .entry))) (innerIn (now (s .entry)) pr a) w m ⌝ }
 {
     bind_word(s, &memory[..used], inner_of(s, pr, a), w)
 }
@@ -212,7 +209,7 @@ pub fn give_back(
     requires { ⌜ Loaded (now s) (now table) ⌝ }
     requires { ⌜ Sane (length (now memory)) r ⌝ }
     requires { ⌜ PlaceOf (now s) r pr ⌝ }
-    ensures { λ o. ⌜ ((input out : List ℕ) → Performs watched (now (s .entry)) input (now (memory .entry)) (now (memory .exit)) out out r o (Op.Return a)) ⌝ }
+    ensures { λ o. ⌜ PerformsInside watched (now (s .entry)) (now (memory .entry)) (now (memory .exit)) r o (Op.Return a) ⌝ }
 {
     match handed_by(s, pr, memory, r, a) {
         Handed::Nothing => resume_without(s, memory, r),

@@ -13,7 +13,7 @@ use Rattle.model.specs.Modes.{Mode}
 use Rattle.model.specs.Machine.{Cell}
 use Rattle.words.specs.Word.{Slot, cell}
 use Rattle.words.proofs.Laws.{map-set}
-use Rattle.writers.specs.Steps.{set-first}
+use Rattle.writers.specs.Steps.{set-first, put-word}
 
 -- ---- lists
 
@@ -33,10 +33,7 @@ map-replicate {B = B} f (suc n) a = ap (λ (r : List B). f a ∷ r) (map-replica
 
 -- ---- a variable is written
 
--- the words with variable a of a frame of so many variables from a base on written
-abbrev pub put-word : (words : List ℕ) (base variables a w : ℕ) → List ℕ
-put-word words base variables a w = cond (ltb a variables) (set words (base + a) w) words
-
+-- as the code writes it
 pub put-word-is : (words : List ℕ) (base variables a w : ℕ) → base + variables ≤ length words
     → take base words ++ (set (take variables (drop base words)) a w ++ drop variables (drop base words)) ≡ put-word words base variables a w
 put-word-is words base variables a w h = go (ltb a variables) refl

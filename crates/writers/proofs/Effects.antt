@@ -23,9 +23,9 @@ use Rattle.words.specs.Answers.{halted, Inside}
 use Rattle.words.proofs.Laws.{map-set, slot-zero}
 use Rattle.writers.specs.declared.Registers.{Registers}
 use Rattle.writers.specs.declared.Stepped.the-variants.{Go, Halt}
-use Rattle.writers.specs.Memory.{Given, slots, Sane, GapOnly, Stands, StandsFor, flat-objects, flat-frames}
-use Rattle.writers.specs.Steps.{After, Does, onward, set-first, Allotted}
-use Rattle.writers.proofs.Change.{put-word, put-word-is, length-put-word, put-word-before, put-word-frame, set-variable, map-take, map-drop, map-replicate}
+use Rattle.writers.specs.Memory.{Given, slots, Sane, object-part, GapOnly, Stands, StandsFor, flat-objects, flat-frames}
+use Rattle.writers.specs.Steps.{After, Does, onward, set-first, put-word, Allotted}
+use Rattle.writers.proofs.Change.{length-put-word, put-word-before, put-word-frame, set-variable, map-take, map-drop, map-replicate}
 use Rattle.writers.proofs.Flat.{set-at-cell, found-fits, flat-snoc, size-is, length-objects}
 use Rattle.writers.proofs.View.{used-is, head-is}
 
@@ -221,14 +221,9 @@ pub record Put {A : Type 0} (f : ℕ → A) (words words′ : List ℕ) (r : Reg
   pub frame : drop (r .base) (map f words′) ≡ set-first (r .variables) (drop (r .base) (map f words)) a x
 
 pub puts : {A : Type 0} (f : ℕ → A) (words words′ : List ℕ) (r : Registers) (a w : ℕ) (x : A) → Sane (length words) r → f w ≡ x
-    → words′
-    ≡ take (r .base) words
-    ++ (set (take (r .variables) (drop (r .base) words)) a w ++ drop (r .variables) (drop (r .base) words))
-    → Put f words words′ r a x
-puts f words words′ r a w x sane is e =
+    → words′ ≡ put-word words (r .base) (r .variables) a w → Put f words words′ r a x
+puts f words words′ r a w x sane is q =
     let room = sane .room in
-    let frame = sane .frame in
-    let q : words′ ≡ put-word words (r .base) (r .variables) a w = e ∙ put-word-is words (r .base) (r .variables) a w (omega arith) in
     record {
       long = rw q (length-put-word words (r .base) (r .variables) a w);
       objects = rw q (put-word-before f words (r .base) (r .variables) a w (r .used) room);
@@ -278,7 +273,7 @@ does-put m c words out r x h (state (frame p i vs) fs os input put) S =
 module _ {m : Mode} {c : Given} {words out : List ℕ} {r : Registers} {p i : ℕ} {vs : List (Cell m)} {fs : List (Frame m)} {os : List (Object m)}
     {input put : List ℕ} (S : Stands m c words out r p i vs fs os input put) where
   -- an object with a head in the objects' part is one of the state's, of that size
-  pub there : (a j : ℕ) → Inside (take (r .used) words) a j → (o : Object m) × ((find os a ≡ some o) × (j < length (cells-of o)))
+  pub there : (a j : ℕ) → Inside (object-part r words) a j → (o : Object m) × ((find os a ≡ some o) × (j < length (cells-of o)))
   there a j I = go (find os a) refl
     where
       go : (f : Option (Object m)) → find os a ≡ f → (o : Object m) × ((find os a ≡ some o) × (j < length (cells-of o)))
@@ -292,8 +287,8 @@ module _ {m : Mode} {c : Given} {words out : List ℕ} {r : Registers} {p i : �
           let b = I .below in
           (o, (e, omega arith))
 
-  pub stored-at : (words′ : List ℕ) (a j w : ℕ) (d : Cell m) → slot-in m (qualOf (c .sheet)) w ≡ cell d → Inside (take (r .used) words) a j
-      → words′ ≡ set (take (r .used) words) (a + 1 + j) w ++ drop (r .used) words
+  pub stored-at : (words′ : List ℕ) (a j w : ℕ) (d : Cell m) → slot-in m (qualOf (c .sheet)) w ≡ cell d → Inside (object-part r words) a j
+      → words′ ≡ set (object-part r words) (a + 1 + j) w ++ drop (r .used) words
       → Stands m c words′ out (onward r (r .next + 1) (r .used) (r .taken) (r .put)) p (suc i) vs fs (update os a j d) input put
   stored-at words′ a j w d is I e =
       let o = there a j I in
@@ -305,17 +300,17 @@ module _ {m : Mode} {c : Given} {words out : List ℕ} {r : Registers} {p i : �
       let frame = S .sane .frame in
       let k : a + 1 + j ≡ suc (a + j) = omega arith in
       let h : suc (a + j) < r .used = omega arith in
-      let n : length (take (r .used) words) ≡ r .used = length-take-le (r .used) words (omega arith) in
-      let h′ : a + 1 + j < length (take (r .used) words) = omega arith in
+      let n : length (object-part r words) ≡ r .used = length-take-le (r .used) words (omega arith) in
+      let h′ : a + 1 + j < length (object-part r words) = omega arith in
       let q : words′ ≡ set words (a + 1 + j) w =
-      e ∙ sym (set-append-left (take (r .used) words) (drop (r .used) words) (a + 1 + j) w h′) ∙ ap (λ (x : List ℕ). set x (a + 1 + j) w) (take-append-drop (r .used) words) in
+      e ∙ sym (set-append-left (object-part r words) (drop (r .used) words) (a + 1 + j) w h′) ∙ ap (λ (x : List ℕ). set x (a + 1 + j) w) (take-append-drop (r .used) words) in
       let s : slots m c words′ ≡ set (slots m c words) (suc (a + j)) (cell d) = rw (q, map-set, is, k) in
       goes-on S words′ (r .next + 1) (suc i) (r .used) vs (update os a j d) (add-one (r .next) ∙ ap suc (S .next)) (rw (q, length-set)) room refl
       (rw s (take-set-lt (r .used) (slots m c words) (suc (a + j)) (cell d) h ∙ rw (S .objects) (set-at-cell os a j (o .0) d (o .1 .0) b)))
       (rw s (drop-set-lt (r .base) (slots m c words) (suc (a + j)) (cell d) (omega arith) ∙ S .frames))
 
-pub does-store : (m : Mode) (c : Given) (words words′ out : List ℕ) (r : Registers) (a j w : ℕ) (d : Cell m) → slot-in m (qualOf (c .sheet)) w ≡ cell d → Inside (take (r .used) words) a j
-    → words′ ≡ set (take (r .used) words) (a + 1 + j) w ++ drop (r .used) words
+pub does-store : (m : Mode) (c : Given) (words words′ out : List ℕ) (r : Registers) (a j w : ℕ) (d : Cell m) → slot-in m (qualOf (c .sheet)) w ≡ cell d → Inside (object-part r words) a j
+    → words′ ≡ set (object-part r words) (a + 1 + j) w ++ drop (r .used) words
     → Does m c words words′ out out r (Go (onward r (r .next + 1) (r .used) (r .taken) (r .put))) (ok (M.store a j d))
 unfolding apply _>>=_
 does-store m c words words′ out r a j w d is I e (state (frame p i vs) fs os input put) S = (refl, stored-at S words′ a j w d is I e)
@@ -374,10 +369,7 @@ module _ (words zeros : List ℕ) (used w n : ℕ) (fits : used + 1 + n ≤ leng
 
 pub allots : (m : Mode) (q : ℕ → Qual) (words zeros words′ : List ℕ) (r : Registers) (a w n v : ℕ) → Sane (length words) r → r .used + (n + 1) ≤ r .base
     → zeros ≡ replicate (length (midOf (r .used + 1) (r .used + 1 + n - (r .used + 1)) (set words (r .used) w))) 0
-    → words′
-    ≡ take (r .base) (laid words zeros (r .used) w n)
-    ++ (set (take (r .variables) (drop (r .base) (laid words zeros (r .used) w n))) a v
-    ++ drop (r .variables) (drop (r .base) (laid words zeros (r .used) w n)))
+    → words′ ≡ put-word (laid words zeros (r .used) w n) (r .base) (r .variables) a v
     → Allotted m q words words′ r a w n v
 allots m q words zeros words′ r a w n v sane room cleared e =
     let frame = sane .frame in

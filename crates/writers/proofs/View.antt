@@ -7,17 +7,17 @@ use mathlib.Core.List.{List, [], _∷_, _++_, map}
 use mathlib.Core.Option.{Option, none, some}
 use borrow.Author.Tests.{lt-ltb, le-ltb}
 use lib.Dec.{ltb}
-use lib.ListN.{length, getD, take, drop, length-append, length-map, length-drop, List·getD-map}
+use lib.ListN.{length, getD, drop, length-append, length-map, length-drop, List·getD-map}
 use lib.Seq.{getD-drop, getD-at, getD-append-add, drop-drop, drop-append-add, length-take-le, take-at}
 use Rattle.model.specs.Modes.{Mode}
 use Rattle.model.specs.Machine.{Cell, empty, Object, cells-of, head-of, cell-of, find, Frame, frame, State, state, object-units, frame-units, view, caller-place, first-of}
 use Rattle.sheet.specs.Layout.{instructionAt, procedureAt}
 use Rattle.sheet.specs.Meaning.{qualOf}
 use Rattle.words.specs.Word.{low, payload, Slot, cell, place, slot-in, as-head}
-use Rattle.words.specs.Sees.{head-size, heads-in, Sees}
+use Rattle.words.specs.Sees.{head-size, heads-in}
 use Rattle.words.proofs.Laws.{slot-at, place-word}
 use Rattle.writers.specs.declared.Registers.{Registers}
-use Rattle.writers.specs.Memory.{Given, slots, Stands, StandsFor, flat-objects, flat-frames}
+use Rattle.writers.specs.Memory.{Given, slots, object-part, frame-part, SeesIn, Stands, StandsFor, flat-objects, flat-frames}
 use Rattle.writers.proofs.Change.{map-take, map-drop}
 use Rattle.writers.proofs.Flat.{size-is, heads, cells-at, length-objects, length-frames}
 
@@ -44,37 +44,37 @@ module _ {m : Mode} {c : Given} {words out : List ℕ} {r : Registers} {p i : �
       omega (arith, length-drop (r .base) (slots m c words), length-map words (slot-in m (qualOf (c .sheet))), ap length (S .frames)) in
       e ∙ rw (length-append, length-map, length-frames) (omega arith)
 
-  pub objects-part : slots m c (take (r .used) words) ≡ flat-objects os
+  pub objects-part : slots m c (object-part r words) ≡ flat-objects os
   objects-part = map-take (slot-in m (qualOf (c .sheet))) (r .used) words ∙ S .objects
 
-  pub variables-part : slots m c (take (r .variables) (drop (r .base) words)) ≡ map cell vs
+  pub variables-part : slots m c (frame-part r words) ≡ map cell vs
   variables-part =
       rw (map-take, map-drop, S .frames) (take-at (map cell vs) (flat-frames (c .sheet) fs) (r .variables) (length-map vs cell ∙ sym (S .variables)))
 
-  pub variable-is : (x : ℕ) → slot-in m (qualOf (c .sheet)) (getD (take (r .variables) (drop (r .base) words)) x 0) ≡ cell (getD vs x empty)
+  pub variable-is : (x : ℕ) → slot-in m (qualOf (c .sheet)) (getD (frame-part r words) x 0) ≡ cell (getD vs x empty)
   variable-is x =
-      sym (slot-at m (qualOf (c .sheet)) (take (r .variables) (drop (r .base) words)) x)
+      sym (slot-at m (qualOf (c .sheet)) (frame-part r words) x)
       ∙ ap (λ (l : List (Slot m)). getD l x (cell empty)) variables-part
       ∙ List·getD-map cell vs x empty
 
-  pub head-is : (a : ℕ) → heads-in m (qualOf (c .sheet)) (take (r .used) words) a ≡ head-of (find os a)
+  pub head-is : (a : ℕ) → heads-in m (qualOf (c .sheet)) (object-part r words) a ≡ head-of (find os a)
   head-is a =
-      ap as-head (sym (slot-at m (qualOf (c .sheet)) (take (r .used) words) a))
+      ap as-head (sym (slot-at m (qualOf (c .sheet)) (object-part r words) a))
       ∙ ap (λ (l : List (Slot m)). as-head (getD l a (cell empty))) objects-part
       ∙ heads os a
 
   pub cell-is : (a j n : ℕ) → head-size (head-of (find os a)) ≡ some n → j < n
-      → slot-in m (qualOf (c .sheet)) (getD (take (r .used) words) (a + 1 + j) 0) ≡ cell (cell-of (find os a) j)
+      → slot-in m (qualOf (c .sheet)) (getD (object-part r words) (a + 1 + j) 0) ≡ cell (cell-of (find os a) j)
   cell-is a j n = go (find os a) refl
     where
       go : (f : Option (Object m)) → find os a ≡ f → head-size (head-of f) ≡ some n → j < n
-          → slot-in m (qualOf (c .sheet)) (getD (take (r .used) words) (a + 1 + j) 0) ≡ cell (cell-of f j)
+          → slot-in m (qualOf (c .sheet)) (getD (object-part r words) (a + 1 + j) 0) ≡ cell (cell-of f j)
       go none e size below = let z : _≡_ {A = ℕ} 0 1 = cc in absurd (omega arith)
       go (some o) e size below =
           let many : some (length (cells-of o)) ≡ some n = sym (size-is o) ∙ size in
           let same : length (cells-of o) ≡ n = cc in
           let at : a + 1 + j ≡ suc (a + j) = omega arith in
-          rw (at, ← slot-at m (qualOf (c .sheet)) (take (r .used) words) (suc (a + j)), objects-part) (cells-at os a j o e (omega arith))
+          rw (at, ← slot-at m (qualOf (c .sheet)) (object-part r words) (suc (a + j)), objects-part) (cells-at os a j o e (omega arith))
 
 -- ---- the frame that waits
 
@@ -135,7 +135,7 @@ caller-is-in {m} {c} {words = words} {r = r} (frame q k us ∷ fs) S =
 
 module _ (m : Mode) (c : Given) (words out : List ℕ) (r : Registers) where
   pub view-sees : (t : State m) → StandsFor m c words out r t
-      → Sees m (qualOf (c .sheet)) (view (length words) (length out) t) (take (r .variables) (drop (r .base) words)) (take (r .used) words)
+      → SeesIn m (qualOf (c .sheet)) (view (length words) (length out) t) words r
   view-sees (state (frame p i vs) fs os input put) S =
       record { variable = variable-is S; head = head-is S; cell = cell-is S }
 

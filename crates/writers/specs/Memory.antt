@@ -6,12 +6,14 @@ use mathlib.Core.Path.{_≡_}
 use mathlib.Core.List.{List, [], _∷_, _++_, map}
 use mathlib.Core.Option.{some}
 use lib.ListN.{length, take, drop}
+use Rattle.model.specs.Qualified.{Qual}
 use Rattle.model.specs.Modes.{Mode}
-use Rattle.model.specs.Machine.{Cell, Object, cells-of, head-of, Frame, frame, State, state}
+use Rattle.model.specs.Machine.{Cell, Object, cells-of, head-of, Frame, frame, State, state, View}
 use Rattle.model.specs.Run.{written}
 use Rattle.sheet.specs.Layout.{proceduresOf, variablesAt, instructionAt, procedureAt}
 use Rattle.sheet.specs.Meaning.{qualOf}
 use Rattle.words.specs.Word.{Slot, cell, head, place, slot-in}
+use Rattle.words.specs.Sees.{Sees}
 use Rattle.writers.specs.declared.Registers.{Registers}
 
 -- what a run is given and does not change
@@ -46,10 +48,21 @@ pub record Sane (n : ℕ) (r : Registers) : Type 0 where
   pub small : n ≤ 65536
   pub procedure : r .procedure < 64
 
+-- the two parts of the memory that an instruction reads: the objects, and the running frame's variables
+abbrev pub object-part : Registers → List ℕ → List ℕ
+object-part r words = take (r .used) words
+
+abbrev pub frame-part : Registers → List ℕ → List ℕ
+frame-part r words = take (r .variables) (drop (r .base) words)
+
+-- a view sees the words of the memory
+abbrev pub SeesIn : (m : Mode) → (qual : ℕ → Qual) → View m → (words : List ℕ) → Registers → Type 0
+SeesIn m qual v words r = Sees m qual v (frame-part r words) (object-part r words)
+
 -- the words differ only in the gap between the objects and the frames
 pub record GapOnly (words words′ : List ℕ) (r : Registers) : Type 0 where
   pub long : length words′ ≡ length words
-  pub objects : take (r .used) words′ ≡ take (r .used) words
+  pub objects : object-part r words′ ≡ object-part r words
   pub frames : drop (r .base) words′ ≡ drop (r .base) words
 
 -- the words seen by a machine: an element's number stands for its type in the sheet

@@ -8,8 +8,9 @@ use lib.Dec.{leb, ltb}
 use lib.ListN.{length, drop, set, replicate}
 use lib.ListN as list
 use Rattle.model.specs.Outcome.{Stop, stop-number, input-ended, output-full, memory-full, Res, ok, stop, stuck, ensure, found, _>>=_, _>>_}
-use Rattle.model.specs.Modes.{Mode, Carried, ElementInfo, TypeInfo, carried}
-use Rattle.model.specs.Qualified.{Qual}
+use Rattle.model.specs.Rights.{array-rights, record-rights}
+use Rattle.model.specs.Qualified.{Qual, element}
+use Rattle.model.specs.Modes.{Mode, carried, element-info, type-info, array-kind, record-kind, bind}
 use Rattle.model.specs.Machine.{word, empty, filled, State, Next, go, finished, Effect, put, take, jump, skip, new-array, new-record, apply}
 use Rattle.sheet.specs.Meaning.{programOf}
 use Rattle.words.specs.Word.{cell, slot-in}
@@ -70,6 +71,10 @@ Does m c words words′ before output r o e =
 abbrev pub set-first : {A : Type 0} → ℕ → List A → ℕ → A → List A
 set-first n l a x = cond (ltb a n) (set l a x) l
 
+-- the words with variable a of a frame, of so many variables from a base on, replaced by another; a variable that the frame has not is not
+abbrev pub put-word : (words : List ℕ) → (base variables a w : ℕ) → List ℕ
+put-word words base variables a w = cond (ltb a variables) (set words (base + a) w) words
+
 -- the words after an object was allotted: its head and n blank cells after the other objects, its name in variable a; the rest is as it was
 pub record Allotted (m : Mode) (qual : ℕ → Qual) (words words′ : List ℕ) (r : Registers) (a head n name : ℕ) : Type 0 where
   pub long : length words′ ≡ length words
@@ -95,9 +100,17 @@ put-effect m free n = number-as m n >>= λ x. (ensure output-full (ltb 0 free) >
 unfoldable pub take-effect : (m : Mode) → ℕ → Option ℕ → Res (Effect m)
 take-effect m a next = found input-ended next >>= λ n. ok (take a (filled (word n) (carried m 0)))
 
--- a new array, or a new record, where so many units are free; what is kept with it, and beside its name
-unfoldable pub array-effect : (m : Mode) → (room a : ℕ) → ElementInfo m → Carried m → Number → Res (Effect m)
-array-effect m room a e k n = number-as m n >>= λ x. (ensure memory-full (leb (suc x) room) >> ok (new-array a e x k))
+-- a new array of n cells for variable a of type q, where so many units are free
+unfoldable pub array-effect : (m : Mode) → (room a : ℕ) → Qual → Number → Res (Effect m)
+array-effect m room a q n = do
+  x ← number-as m n
+  ensure memory-full (leb (suc x) room)
+  k ← bind m q (array-kind (element-info m (element q))) (carried m array-rights)
+  ok (new-array a (element-info m (element q)) x k)
 
-unfoldable pub record-effect : (m : Mode) → (room a : ℕ) → TypeInfo m → Carried m → (slots : ℕ) → Res (Effect m)
-record-effect m room a t k slots = ensure memory-full (leb (suc slots) room) >> ok (new-record a t slots k)
+-- a new record of type t, which names so many rights, for the same
+unfoldable pub record-effect : (m : Mode) → (room a : ℕ) → Qual → (t named slots : ℕ) → Res (Effect m)
+record-effect m room a q t named slots = do
+  ensure memory-full (leb (suc slots) room)
+  k ← bind m q (record-kind (type-info m t)) (carried m (record-rights named))
+  ok (new-record a (type-info m t) slots k)

@@ -9,16 +9,16 @@ use words::object_word;
 use words::record_word;
 use words::write;
 ghost use mathlib.Core.Path.{_≡_};
-ghost use mathlib.Core.List.{List, _++_};
+ghost use mathlib.Core.List.{List};
 ghost use Prim.Native.Nat.{ℕ, _+_, _-_, _≤_, _<_};
-ghost use lib.ListN.{length, take, drop, set};
+ghost use lib.ListN.{length, drop};
 ghost use Rattle.model.specs.Qualified.{Qual};
 ghost use Rattle.model.specs.Modes.{Mode, plain};
 ghost use Rattle.model.specs.Machine.{first-of};
 ghost use Rattle.sheet.specs.Meaning.{qualOf};
 ghost use Rattle.words.specs.Answers.{MovedOk, StoredOk, given, moved-to, stored};
-ghost use Rattle.writers.specs.Memory.{Given, Sane};
-ghost use Rattle.writers.specs.Steps.{Does, onward, Allotted, jumped, put-effect, take-effect, array-effect, record-effect};
+ghost use Rattle.writers.specs.Memory.{Given, Sane, object-part};
+ghost use Rattle.writers.specs.Steps.{Does, onward, put-word, Allotted, jumped, put-effect, take-effect, array-effect, record-effect};
 
 // The registers: the running frame's procedure, next instruction, where its instructions start in the sheet, its count of variables and where they
 // start in the memory; where the objects end; the input words taken and the output words put.
@@ -60,7 +60,7 @@ pub fn at_next(r: Registers, next: usize) -> Registers
 // Variable a of the running frame becomes a word.
 pub fn put_variable(memory: &mut [u64], base: usize, variables: usize, a: u8, w: u64)
     requires { ⌜ (base + variables ≤ length (now memory)) ⌝ }
-    ensures { λ _. ⌜ now (memory .exit) ≡ take base (now (memory .entry)) ++ (set (take variables (drop base (now (memory .entry)))) a w ++ drop variables (drop base (now (memory .entry)))) ⌝ }
+    ensures { λ _. ⌜ now (memory .exit) ≡ put-word (now (memory .entry)) base variables a w ⌝ }
 {
     let end = base + variables;
     write(&mut memory[base..end], a as usize, w);
@@ -100,7 +100,7 @@ pub fn give_moved(memory: &mut [u64], r: Registers, a: u8, m: Moved) -> Stepped
 pub fn store_cell(memory: &mut [u64], r: Registers, m: Stored) -> Stepped
     requires { ⌜ Sane (length (now memory)) r ⌝ }
     requires { ⌜ r .next < 65536 ⌝ }
-    ensures { λ o. ⌜ ((mode : Mode) (c : Given) (out : List ℕ) → StoredOk (take (r .used) (now (memory .entry))) m → Does mode c (now (memory .entry)) (now (memory .exit)) out out r o (stored mode (qualOf (c .sheet)) m)) ⌝ }
+    ensures { λ o. ⌜ ((mode : Mode) (c : Given) (out : List ℕ) → StoredOk (object-part r (now (memory .entry))) m → Does mode c (now (memory .entry)) (now (memory .exit)) out out r o (stored mode (qualOf (c .sheet)) m)) ⌝ }
 {
     match m {
         Stored::At(o, i, w) => {
@@ -204,10 +204,11 @@ pub fn allot(memory: &mut [u64], r: Registers, a: u8, head: u64, n: u32, name: u
     }
 }
 
+// A new array, or a new record, of the plain machine, whatever its type.
 pub fn give_array(memory: &mut [u64], r: Registers, a: u8, n: Number) -> Stepped
     requires { ⌜ Sane (length (now memory)) r ⌝ }
     requires { ⌜ r .next < 65536 ⌝ }
-    ensures { λ o. ⌜ ((c : Given) (out : List ℕ) → Does plain c (now (memory .entry)) (now (memory .exit)) out out r o (array-effect plain (r .base - r .used) a tt tt n)) ⌝ }
+    ensures { λ o. ⌜ ((c : Given) (out : List ℕ) (q : Qual) → Does plain c (now (memory .entry)) (now (memory .exit)) out out r o (array-effect plain (r .base - r .used) a q n)) ⌝ }
 {
     match n {
         Number::Is(x) => {
@@ -224,7 +225,7 @@ pub fn give_array(memory: &mut [u64], r: Registers, a: u8, n: Number) -> Stepped
 pub fn give_record(memory: &mut [u64], r: Registers, a: u8, slots: u8) -> Stepped
     requires { ⌜ Sane (length (now memory)) r ⌝ }
     requires { ⌜ r .next < 65536 ⌝ }
-    ensures { λ o. ⌜ ((c : Given) (out : List ℕ) → Does plain c (now (memory .entry)) (now (memory .exit)) out out r o (record-effect plain (r .base - r .used) a tt tt slots)) ⌝ }
+    ensures { λ o. ⌜ ((c : Given) (out : List ℕ) (q : Qual) (t named : ℕ) → Does plain c (now (memory .entry)) (now (memory .exit)) out out r o (record-effect plain (r .base - r .used) a q t named slots)) ⌝ }
 {
     let n = slots as u32;
     if (n as usize) < r.base - r.used {

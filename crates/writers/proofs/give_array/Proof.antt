@@ -4,16 +4,11 @@ use Rattle.model.specs.Outcome.{memory-full}
 use Rattle.model.specs.Modes.{plain}
 use Rattle.sheet.specs.Meaning.{qualOf}
 use Rattle.writers.proofs.Effects.{does-array, does-stop, does-halt}
-use Rattle.writers.proofs.Planned.{array-there, array-full, array-halt}
+use Rattle.writers.proofs.Planned.{array-plain, array-full, array-halt}
 use native.Mathlib.Omega.{arith}
 use borrow.Author.Needs.{needs}
 use Rattle.writers.proofs.give_array.Statement.{statement}
 use Rattle.writers.proofs.give_array.Tie as tie
-use Rattle.writers.proofs.give_array.Reads as reads
-use Rattle.writers.proofs.give_array.Lts as lts
-use Rattle.words.proofs.array_word.Reads as array-word-reads
-use Rattle.words.proofs.object_word.Reads as object-word-reads
-use Rattle.writers.proofs.allot.Reads as allot-reads
 
 enum-known-n : tie.Need-enum-known-n
 enum-known-n c = search needs
@@ -41,18 +36,18 @@ same-length c = search needs
 
 returns : tie.Need-returns
 returns c =
-    let s = c .before .before .before .before .before .before .before .before .before .before .before .before .before .args in λ g out. let room : s .r .used + (c .before .before .before .before .before .before .before .before .before .before .n .given .0 .0 + 1) ≤ s .r .base = omega arith in rw (c .before .before .allot .ensures .0, c .before .before .before .before .before .before .before .before .before .before .n .given .1, array-there plain _ _ _ tt tt (c .before .before .before .before .before .before .before .if1 .taken)) (does-array plain g _ _ out (s .r) (s .a) _ _ _ tt room (c .before .before .before .before .before .object-word .ensures plain (qualOf (g .sheet))) (c .before .before .allot .ensures .1 plain (qualOf (g .sheet))) tt (c .before .before .before .array-word .ensures plain (qualOf (g .sheet))))
+    let s = c .before .before .before .before .before .before .before .before .before .before .before .before .before .args in λ g out q. let room : s .r .used + (c .before .before .before .before .before .before .before .before .before .before .n .given .0 .0 + 1) ≤ s .r .base = omega arith in rw (c .before .before .allot .ensures .0, c .before .before .before .before .before .before .before .before .before .before .n .given .1, array-plain _ _ _ q (c .before .before .before .before .before .before .before .if1 .taken)) (does-array plain g _ _ out (s .r) (s .a) _ _ _ tt room (c .before .before .before .before .before .object-word .ensures plain (qualOf (g .sheet))) (c .before .before .allot .ensures .1 plain (qualOf (g .sheet))) tt (c .before .before .before .array-word .ensures plain (qualOf (g .sheet))))
 
 enum-known-n-2 : tie.Need-enum-known-n-2
 enum-known-n-2 c = search needs
 
 returns-2 : tie.Need-returns-2
 returns-2 c =
-    λ g out. rw (c .before .before .before .n .given .1, array-full plain _ _ _ tt tt (c .if1 .left)) (does-stop plain g _ out (c .before .before .before .before .before .before .args .r) memory-full)
+    λ g out q. rw (c .before .before .before .n .given .1, array-full plain _ _ _ q (c .if1 .left)) (does-stop plain g _ out (c .before .before .before .before .before .before .args .r) memory-full)
 
 returns-3 : tie.Need-returns-3
 returns-3 c =
-    λ g out. rw (c .before .n2 .given .1, array-halt) (does-halt plain g _ out (c .before .before .before .before .args .r) _)
+    λ g out q. rw (c .before .n2 .given .1, array-halt) (does-halt plain g _ out (c .before .before .before .before .args .r) _)
 
 pub give-array-spec : {M : Type 1} → statement M
 give-array-spec =

@@ -22,7 +22,7 @@ returns c =
     let args = c .before .before .before .before .before .before .before .args in
     let fetch-in = c .before .before .before .before .fetch-in in
     let give-moved = c .before .before .give-moved in
-    λ s input out. performs-if-seeing plain s input (now (args .memory)) (give-moved .last .0) out out (args .r) (give-moved .result) _ (λ q. moved-to plain q (args .a) (fetch-in .result)) (MovedOk (fetch-in .result)) (λ d. give-moved .ensures plain d out) (λ v R S. fetch-in .ensures (qualOf s) (programOf s) v (args .a) S)
+    λ s input out. performs-if-seeing plain s input (now (args .memory)) (give-moved .last .0) out out (args .r) (give-moved .result) _ (λ q. moved-to plain q (args .a) (fetch-in .result)) (MovedOk (fetch-in .result)) (λ d. give-moved .ensures plain d out) (λ v R S. fetch-in .ensures (args .a) (qualOf s) (programOf s) v S)
 
 pub fetch-spec : {M : Type 1} → statement M
 fetch-spec = tie.close (tie.spec fetch-in-requires give-moved-requires same-length returns)

@@ -28,7 +28,7 @@ returns : tie.Need-returns
 returns c =
     let args = c .before .before .before .before .args in
     let set-at = c .set-at in
-    λ q g v S. set-at .ensures q g v _ (sees-cut plain q v (now (args .memory)) _ (args .r) S)
+    λ q g v S. set-at .ensures q g v _ (sees-cut plain q v (now (args .memory)) (args .r) S)
 
 pub set-in-spec : {M : Type 1} → statement M
 set-in-spec =

@@ -22,7 +22,7 @@ returns c =
     let args = c .before .before .before .before .before .before .before .args in
     let size-in = c .before .before .before .before .size-in in
     let give-number = c .before .before .give-number in
-    λ s input out. performs-seeing plain s input (now (args .memory)) (give-number .last .0) out out (args .r) (give-number .result) _ (λ q. given plain (args .a) (size-in .result)) (λ d. give-number .ensures plain d out) (λ v R S. size-in .ensures (qualOf s) (programOf s) v (args .a) S)
+    λ s input out. performs-seeing plain s input (now (args .memory)) (give-number .last .0) out out (args .r) (give-number .result) _ (λ q. given plain (args .a) (size-in .result)) (λ d. give-number .ensures plain d out) (λ v R S. size-in .ensures (args .a) (qualOf s) (programOf s) v S)
 
 pub size-spec : {M : Type 1} → statement M
 size-spec = tie.close (tie.spec size-in-requires give-number-requires same-length returns)

@@ -34,7 +34,7 @@ returns : tie.Need-returns
 returns c =
     let args = c .before .before .before .before .before .args in
     let array-size-of = c .array-size-of in
-    λ q g v a S. array-size-of .ensures q g v a (sees-cut plain q v (now (args .memory)) _ (args .r) S)
+    λ a q g v S. array-size-of .ensures q g v a (sees-cut plain q v (now (args .memory)) (args .r) S)
 
 pub size-in-spec : {M : Type 1} → statement M
 size-in-spec =

@@ -34,7 +34,7 @@ returns : tie.Need-returns
 returns c =
     let args = c .before .before .before .before .before .args in
     let store-at = c .store-at in
-    λ q g v S. store-at .ensures q g v (sees-cut plain q v (now (args .memory)) _ (args .r) S)
+    λ q g v S. store-at .ensures q g v (sees-cut plain q v (now (args .memory)) (args .r) S)
 
 pub store-in-spec : {M : Type 1} → statement M
 store-in-spec =

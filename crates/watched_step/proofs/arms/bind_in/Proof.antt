@@ -35,7 +35,7 @@ returns : tie.Need-returns
 returns c =
     let args = c .before .before .before .before .before .before .args in
     let bind-guarded = c .bind-guarded in
-    (bind-guarded .ensures .0, λ v at S. bind-guarded .ensures .1 v at (sees-cut watched (qualOf (now (args .s))) v (now (args .memory)) _ (args .r) S))
+    (bind-guarded .ensures .0, λ v at S. bind-guarded .ensures .1 v at (sees-cut watched (qualOf (now (args .s))) v (now (args .memory)) (args .r) S))
 
 pub bind-in-spec : {M : Type 1} → statement M
 bind-in-spec =

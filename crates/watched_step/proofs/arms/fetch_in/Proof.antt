@@ -35,7 +35,7 @@ returns : tie.Need-returns
 returns c =
     let args = c .before .before .before .before .before .before .args in
     let fetch-guarded = c .fetch-guarded in
-    (fetch-guarded .ensures .0, λ v at S. fetch-guarded .ensures .1 v at (sees-cut watched (qualOf (now (args .s))) v (now (args .memory)) _ (args .r) S))
+    (fetch-guarded .ensures .0, λ v at S. fetch-guarded .ensures .1 v at (sees-cut watched (qualOf (now (args .s))) v (now (args .memory)) (args .r) S))
 
 pub fetch-in-spec : {M : Type 1} → statement M
 fetch-in-spec =

@@ -35,7 +35,7 @@ returns : tie.Need-returns
 returns c =
     let args = c .before .before .before .before .before .before .args in
     let get-guarded = c .get-guarded in
-    (get-guarded .ensures .0, λ v at S. get-guarded .ensures .1 v at (sees-cut watched (qualOf (now (args .s))) v (now (args .memory)) _ (args .r) S))
+    (get-guarded .ensures .0, λ v at S. get-guarded .ensures .1 v at (sees-cut watched (qualOf (now (args .s))) v (now (args .memory)) (args .r) S))
 
 pub get-in-spec : {M : Type 1} → statement M
 get-in-spec =

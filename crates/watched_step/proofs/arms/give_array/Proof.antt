@@ -3,7 +3,7 @@ use borrow.Author.Needs.{needs}
 use Rattle.model.specs.Modes.{watched}
 use Rattle.model.specs.Outcome.{memory-full}
 use Rattle.writers.proofs.Effects.{does-stop, does-halt}
-use Rattle.watched_step.proofs.Laws.{array-full, array-halt}
+use Rattle.writers.proofs.Planned.{array-full, array-halt}
 use Rattle.watched_step.proofs.arms.give_array.Statement.{statement}
 use Rattle.watched_step.proofs.arms.give_array.Tie as tie
 
@@ -36,7 +36,7 @@ returns-2 c =
     let args = c .before .before .before .before .before .before .before .args in
     let n = c .before .before .before .n in
     let if1 = c .if1 in
-    λ d out q. rw (n .given .1, array-full _ _ _ _ (if1 .left)) (does-stop watched d _ out (args .r) memory-full)
+    λ d out q. rw (n .given .1, array-full watched _ _ _ _ (if1 .left)) (does-stop watched d _ out (args .r) memory-full)
 
 returns-3 : tie.Need-returns-3
 returns-3 c =

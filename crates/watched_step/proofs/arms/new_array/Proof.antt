@@ -3,9 +3,7 @@ use borrow.Author.Needs.{needs}
 use Rattle.model.specs.Modes.{watched}
 use denote.Ref.{now}
 use Rattle.sheet.specs.Meaning.{qualOf, programOf}
-use Rattle.sheet.specs.Meaning.{innerIn}
-use Prim.Native.Nat.{_-_}
-use Rattle.watched_step.specs.Watched.{array-into}
+use Rattle.watched_step.specs.Watched.{array-for}
 use Rattle.frames.proofs.Performs.{sees-cut}
 use Rattle.watched_step.proofs.Laws.{arrays, performs-roomy}
 use Rattle.watched_step.proofs.arms.new_array.Statement.{statement}
@@ -41,7 +39,7 @@ returns c =
     let pre = c .before .before .before .before .before .before .before .before .before .before .pre in
     let sized = c .before .before .before .before .sized in
     let give-array = c .before .before .give-array in
-    λ input out. performs-roomy (now (args .s)) input (now (args .memory)) (give-array .last .1 .1 .0) out out (args .r) (give-array .result) _ (λ z. array-into (args .r .base - args .r .used) (args .a) (innerIn (now (args .s)) (args .pr) (args .a)) (sized .result)) (λ d q. give-array .ensures d out q) (args .pr) (pre .1 .1) (λ v at free S. arrays (programOf (now (args .s))) v _ _ _ (rw at) free (sized .ensures (programOf (now (args .s))) v _ (sees-cut watched (qualOf (now (args .s))) v (now (args .memory)) _ (args .r) S)))
+    λ input out. performs-roomy (now (args .s)) input (now (args .memory)) (give-array .last .1 .1 .0) out out (args .r) (give-array .result) _ (λ z. array-for (now (args .s)) (args .pr) (args .r) (args .a) (sized .result)) (λ d q. give-array .ensures d out q) (args .pr) (pre .1 .1) (λ v at free S. arrays (programOf (now (args .s))) v _ _ _ (rw at) free (sized .ensures (programOf (now (args .s))) v _ (sees-cut watched (qualOf (now (args .s))) v (now (args .memory)) (args .r) S)))
 
 pub new-array-spec : {M : Type 1} → statement M
 new-array-spec =

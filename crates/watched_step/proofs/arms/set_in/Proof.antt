@@ -35,7 +35,7 @@ returns : tie.Need-returns
 returns c =
     let args = c .before .before .before .before .before .before .args in
     let set-slot-guarded = c .set-slot-guarded in
-    (set-slot-guarded .ensures .0, λ v at S. set-slot-guarded .ensures .1 v at (sees-cut watched (qualOf (now (args .s))) v (now (args .memory)) _ (args .r) S))
+    (set-slot-guarded .ensures .0, λ v at S. set-slot-guarded .ensures .1 v at (sees-cut watched (qualOf (now (args .s))) v (now (args .memory)) (args .r) S))
 
 pub set-in-spec : {M : Type 1} → statement M
 set-in-spec =

@@ -35,7 +35,7 @@ returns : tie.Need-returns
 returns c =
     let args = c .before .before .before .before .before .before .args in
     let size-guarded = c .size-guarded in
-    λ v at S. size-guarded .ensures v at (sees-cut watched (qualOf (now (args .s))) v (now (args .memory)) _ (args .r) S)
+    λ v at S. size-guarded .ensures v at (sees-cut watched (qualOf (now (args .s))) v (now (args .memory)) (args .r) S)
 
 pub size-in-spec : {M : Type 1} → statement M
 size-in-spec =

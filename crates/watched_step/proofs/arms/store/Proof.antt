@@ -23,7 +23,7 @@ returns c =
     let args = c .before .before .before .before .before .before .before .before .args in
     let store-in = c .before .before .before .before .store-in in
     let store-cell = c .before .before .store-cell in
-    λ input out. performs-seeing (now (args .s)) input (now (args .memory)) (store-cell .last .0) out out (args .r) (store-cell .result) _ (λ z. stored watched (qualOf z) (store-in .result)) (λ d q. store-cell .ensures watched d out (store-in .ensures .0)) _ (λ h. refl) (λ v at S. store-in .ensures .1 v S)
+    λ input out. performs-seeing (now (args .s)) input (now (args .memory)) (store-cell .last .0) out out (args .r) (store-cell .result) _ (λ z. stored watched (qualOf z) (store-in .result)) (λ d q. store-cell .ensures watched d out (store-in .ensures 0 .0)) _ (λ h. refl) (store-in .ensures _ .1)
 
 pub store-spec : {M : Type 1} → statement M
 store-spec = tie.close (tie.spec store-in-requires store-cell-requires same-length returns)

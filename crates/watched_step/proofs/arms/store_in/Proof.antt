@@ -35,7 +35,7 @@ returns : tie.Need-returns
 returns c =
     let args = c .before .before .before .before .before .before .args in
     let store-guarded = c .store-guarded in
-    (store-guarded .ensures .0, λ v S. store-guarded .ensures .1 v (sees-cut watched (qualOf (now (args .s))) v (now (args .memory)) _ (args .r) S))
+    λ pr. (store-guarded .ensures .0, λ v at S. store-guarded .ensures .1 v (sees-cut watched (qualOf (now (args .s))) v (now (args .memory)) (args .r) S))
 
 pub store-in-spec : {M : Type 1} → statement M
 store-in-spec =

@@ -43,7 +43,7 @@ returns c =
     let args = c .before .before .before .before .before .before .before .args in
     let read = c .before .before .read in
     let actual-word = c .actual-word in
-    (actual-word .ensures .0, λ v k at S. actual-word .ensures .1 v k (args .b) (S .head) at (ap (slot-in watched (qualOf (now (args .s)))) (read .ensures) ∙ sees-cut watched (qualOf (now (args .s))) v (now (args .memory)) _ (args .r) S .variable _))
+    (actual-word .ensures .0, λ v k at S. actual-word .ensures .1 v k (args .b) (S .head) at (ap (slot-in watched (qualOf (now (args .s)))) (read .ensures) ∙ sees-cut watched (qualOf (now (args .s))) v (now (args .memory)) (args .r) S .variable _))
 
 pub actual-in-spec : {M : Type 1} → statement M
 actual-in-spec =

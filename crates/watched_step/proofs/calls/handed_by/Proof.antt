@@ -83,7 +83,7 @@ returns-4 c =
     let read = c .before .before .before .before .before .read in
     let result-word = c .before .before .before .result-word in
     let x = c .before .x in
-    (rw (x .given .1) at (result-word .ensures .0), λ v at S. hands-word (now (args .s)) v (args .pr) (args .a) at (byte .ensures) (if1 .left) (if3 .left) (result-word .result) (result-word .ensures .1 v (args .a) (S .head) at (ap (slot-in watched (qualOf (now (args .s)))) (read .ensures) ∙ sees-cut watched (qualOf (now (args .s))) v (now (args .memory)) _ (args .r) S .variable _)) (x .given .1))
+    (rw (x .given .1) at (result-word .ensures .0), λ v at S. hands-word (now (args .s)) v (args .pr) (args .a) at (byte .ensures) (if1 .left) (if3 .left) (result-word .result) (result-word .ensures .1 v (args .a) (S .head) at (ap (slot-in watched (qualOf (now (args .s)))) (read .ensures) ∙ sees-cut watched (qualOf (now (args .s))) v (now (args .memory)) (args .r) S .variable _)) (x .given .1))
 
 returns-5 : tie.Need-returns-5
 unfolding resultAt
@@ -95,7 +95,7 @@ returns-5 c =
     let read = c .before .before .before .before .before .read in
     let result-word = c .before .before .before .result-word in
     let k = c .before .k in
-    (tt, λ v at S. hands-halt (now (args .s)) v (args .pr) (args .a) at (byte .ensures) (if1 .left) (if3 .left) (result-word .result) (result-word .ensures .1 v (args .a) (S .head) at (ap (slot-in watched (qualOf (now (args .s)))) (read .ensures) ∙ sees-cut watched (qualOf (now (args .s))) v (now (args .memory)) _ (args .r) S .variable _)) (k .given .1))
+    (tt, λ v at S. hands-halt (now (args .s)) v (args .pr) (args .a) at (byte .ensures) (if1 .left) (if3 .left) (result-word .result) (result-word .ensures .1 v (args .a) (S .head) at (ap (slot-in watched (qualOf (now (args .s)))) (read .ensures) ∙ sees-cut watched (qualOf (now (args .s))) v (now (args .memory)) (args .r) S .variable _)) (k .given .1))
 
 pub handed-by-spec : {M : Type 1} → statement M
 handed-by-spec =
