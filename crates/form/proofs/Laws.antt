@@ -13,12 +13,13 @@ use Rattle.model.specs.Refusal.{torn, stray-mark, bad-edition, off-scale, Tests
 use Rattle.model.specs.declared.Verdict.the-variants.{Accepted}
 use Rattle.model.proofs.Verdicts.{left-accepted, right-accepted, accepted-tests, passed-test, both-true, all-held}
 use Rattle.sheet.specs.Bytes.{byteAt, wordAt, wholeAt, Mark, mark, markedAt}
-use Rattle.sheet.specs.Layout.{hd-mark, editionOf, typesOf, qualsOf, qualAt, proceduresOf, slotsOf, ownerAt, formalsAt, variablesAt, instructionsAt, variableAt, instructionAt, codeAt, kAt, procedureAt}
+use Rattle.sheet.specs.Layout.{hd-mark, editionOf, typesOf, qualsOf, qualAt, proceduresOf, formalsAt, variablesAt, instructionsAt, variableAt, instructionAt, codeAt, kAt, procedureAt}
 use Rattle.sheet.specs.Places.{Places}
 use Rattle.sheet.specs.Reader.{recordAt, pastAt, leftAt}
 use Rattle.sheet.proofs.Laws.{whole-true, record-inside, record-byte, hd-sized}
+use Rattle.form.specs.declared.scale.Limits.{Limits}
 use Rattle.form.specs.Scale.{all-below, below-or-none, header-scale, actuals-scale}
-use Rattle.form.specs.WellFormed.{length-tests, record-tests, header-tests, layout-tests, instruction-tests-at, instruction-tests, call-tests-at, call-tests}
+use Rattle.form.specs.WellFormed.{length-tests, record-tests, header-tests, layout-tests, limitsAt, instruction-tests-at, instruction-tests, call-tests-at, call-tests}
 
 -- ---- single tests
 -- f holds of each number below n
@@ -76,11 +77,10 @@ unfolding instructionAt
 instruction-from s pr first i e = omega arith
 
 -- the tests of an instruction, from what was read of its procedure
-pub instruction-here : (s : List ℕ) (pr v n owner slots i at : ℕ)
-    → v ≡ variablesAt s pr → n ≡ instructionsAt s pr → owner ≡ ownerAt s pr → slots ≡ slotsOf s owner → at ≡ instructionAt s pr i
-    → instruction-tests-at s v n owner slots i at ≡ instruction-tests s pr i
+pub instruction-here : (s : List ℕ) (pr i at : ℕ) (l : Limits) → l ≡ limitsAt s pr → at ≡ instructionAt s pr i
+    → instruction-tests-at s l i at ≡ instruction-tests s pr i
 unfolding instruction-tests
-instruction-here s pr v n owner slots i at p q r t e = rw (p, q, t, r, e)
+instruction-here s pr i at l p e = rw (p, e)
 
 pub call-here : (s : List ℕ) (pr v i at : ℕ) → v ≡ variablesAt s pr → at ≡ instructionAt s pr i
     → _≡_ {A = List Tests} (tests at (call-tests-at s v at) ∷ []) (call-tests s pr i)

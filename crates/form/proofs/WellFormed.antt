@@ -1,77 +1,44 @@
 -- What a well-formed sheet has: each law from the one fact that none of 1 to 5 is given.
 use Prim.Native.Nat.{ℕ, _+_, _-_, _<_, _≤_}
-use mathlib.Core.Path.{_≡_, refl, sym, _∙_}
+use mathlib.Core.Path.{_≡_}
 use mathlib.Core.List.{List, [], _∷_, _++_}
-use mathlib.Core.Bool.{Bool, true, false, _&&_, _||_, cond}
+use mathlib.Core.Bool.{true, not, _&&_, _||_}
+use mathlib.Core.Option.{Option, none, some}
 use mathlib.Core.Logic.{_⊎_, inl, inr, ⊎-elim}
 use native.Mathlib.Omega.{arith}
 use lib.ListN.{length}
 use lib.Dec.{eqb, ltb, leb}
-use borrow.Author.Tests.{ltb-true, leb-true, eqb-true, eqb-false, eq-eqb, ne-eqb, lt-ltb, le-leb}
+use borrow.Author.Tests.{ltb-true, leb-true, eqb-true, eq-eqb, ne-eqb, lt-ltb}
 use Rattle.model.specs.Rules.{callee}
 use Rattle.model.specs.Refusal.{overlong, torn, off-scale, failure, verdict, each}
-use Rattle.model.specs.declared.Operation.{Operation}
-use Rattle.model.specs.declared.Operation.the-variants.{Call, Return}
+use Rattle.model.specs.declared.Operation.the-variants.{Call}
 use Rattle.model.specs.declared.Verdict.the-variants.{Accepted}
 use Rattle.model.proofs.Verdicts.{left-accepted, right-accepted, each-accepted, accepted-tests, passed-test, both-true, either-true, implied, Held, all-held}
 use Rattle.sheet.specs.Bytes.{byteAt}
 use Rattle.sheet.specs.Layout.{ty-mark, qt-mark, vr-mark, in-mark, typesOf, qualsOf, proceduresOf, typeAt, namedOf, slotsOf, slotOf, qualAt, baseOf, rightsOf, elementOf, ownerAt, formalsAt, variablesAt, resultAt, instructionsAt, variableAt, innerAt, needAt, instructionAt, codeAt, kAt, procedureAt}
-use Rattle.sheet.specs.Decode.{decode, operationAt}
-use Rattle.form.specs.Scale.{all-below, below-or-none, type-scale, rights-scale, qual-scale, procedure-scale, variable-scale, from-to, uses-b, uses-c, a-scale, b-scale, c-scale, k-scale, instruction-scale, actuals-scale}
-use Rattle.form.specs.WellFormed.{length-tests, header-tests, type-tests, qual-tests, variable-tests, instruction-tests-at, instruction-tests, procedure-tests, leftover-tests, layout-tests, call-tests-at, call-tests, procedure-calls, calls-tests, form-tests}
+use Rattle.sheet.specs.Instructions.{Line, table, line-of}
+use Rattle.sheet.specs.Decode.{unlisted, operation-by, decode, fieldsAt, operationAt}
+use Rattle.sheet.specs.declared.decode.Fields.{Fields}
+use Rattle.sheet.proofs.Instructions.{by-line}
+use Rattle.form.specs.declared.scale.Limits.{Limits}
+use Rattle.form.specs.Scale.{all-below, below-or-none, type-scale, rights-scale, qual-scale, procedure-scale, variable-scale, line-limits, line-scale, instruction-scale, actuals-scale}
+use Rattle.form.specs.WellFormed.{length-tests, header-tests, type-tests, qual-tests, variable-tests, limitsAt, instruction-tests-at, instruction-tests, procedure-tests, leftover-tests, layout-tests, call-tests-at, call-tests, procedure-calls, calls-tests, form-tests}
 use Rattle.form.proofs.Laws.{all-below-true, due-below, record-formed, header-small}
 use Rattle.form.proofs.Procedures.{variables-accepted, instructions-accepted, head-whole, head-true, some-instruction}
 
 -- the fields of instruction i of procedure p
-abbrev pub code-in : List ℕ → ℕ → ℕ → ℕ
-code-in s p i = codeAt s (instructionAt s (procedureAt s p) i)
-
-abbrev pub a-in : List ℕ → ℕ → ℕ → ℕ
-a-in s p i = byteAt s (instructionAt s (procedureAt s p) i) 3
-
-abbrev pub b-in : List ℕ → ℕ → ℕ → ℕ
-b-in s p i = byteAt s (instructionAt s (procedureAt s p) i) 4
-
-abbrev pub c-in : List ℕ → ℕ → ℕ → ℕ
-c-in s p i = byteAt s (instructionAt s (procedureAt s p) i) 5
-
-abbrev pub k-in : List ℕ → ℕ → ℕ → ℕ
-k-in s p i = kAt s (instructionAt s (procedureAt s p) i)
+abbrev pub fields-in : List ℕ → ℕ → ℕ → Fields
+fields-in s p i = fieldsAt s (instructionAt s (procedureAt s p) i)
 
 -- ---- limits on plain numbers
-module _ (n slots k : ℕ) where
-  k-jump : (code : ℕ) → code ≡ 5 → k-scale n slots code k ≡ true → k < n
-  unfolding k-scale
-  k-jump code e h = ltb-true k n (rw e at h)
+line-held : (l : Limits) (f : Fields) (x : Option Line) → line-scale l f x ≡ true → (found : Line) → x ≡ some found → Held (line-limits l f found)
+unfolding line-scale
+line-held l f x h found e = all-held true _ (rw e at h) .1
 
-  k-slot : (code : ℕ) → 14 ≤ code → code ≤ 15 → k-scale n slots code k ≡ true → k < slots
-  unfolding k-scale
-  k-slot code l m h =
-      let a : code ≡ 1 → ⊥ = (λ e. omega arith) in
-      let b : code ≡ 16 → ⊥ = (λ e. omega arith) in
-      let c : code ≡ 5 → ⊥ = (λ e. omega arith) in
-      ltb-true k slots (rw (ne-eqb code 1 a, ne-eqb code 16 b, ne-eqb code 5 c, le-leb 14 code l, le-leb code 15 m) at h)
-
-a-named : (v code a : ℕ) → a-scale v code a ≡ true → (a < v) ⊎ ((16 ≤ code) × (a ≡ 255))
-unfolding a-scale
-a-named v code a h =
-    ⊎-elim (λ x. inl (ltb-true a v x))
-    (λ y. let z = both-true (leb 16 code) (eqb a 255) y in inr (leb-true 16 code (z .0), eqb-true a 255 (z .1)))
-    (either-true (ltb a v) (leb 16 code && eqb a 255) h)
-
-uses-b-call : uses-b 16 ≡ false
-unfolding uses-b
-uses-b-call = refl
-
-b-named : (v code b : ℕ) → b-scale v code b ≡ true → uses-b code ≡ true → b < v
-unfolding b-scale
-b-named v code b h u = go (eqb code 16) refl h
-  where
-    go : (t : Bool) → eqb code 16 ≡ t → t || below-or-none v (uses-b code) b ≡ true → b < v
-    go true e h =
-        let x : uses-b 16 ≡ true = rw (eqb-true code 16 e) at u in
-        absurd (let z : _≡_ {A = ℕ} 0 1 = cc uses-b-call in omega arith)
-    go false e h = due-below v b (uses-b code) h u
+no-line : (l : Limits) (f : Fields) (x : Option Line) → line-scale l f x ≡ true → x ≡ none → ⊥
+unfolding line-scale
+no-line l f none h e = absurd (let z : _≡_ {A = ℕ} 0 1 = cc in omega arith)
+no-line l f (some found) h e = absurd (let z : _≡_ {A = ℕ} 0 1 = cc in omega arith)
 
 actuals-named : (f b v : ℕ) → actuals-scale f b v ≡ true → (j : ℕ) → j < f → b + j < v
 unfolding actuals-scale
@@ -80,74 +47,29 @@ actuals-named f b v h j l =
     let m : b + f ≤ v = leb-true (b + f) v (rw (ne-eqb f 0 n) at h) in
     omega arith
 
--- ---- the procedure that an operation calls
-module _ (code k : ℕ) where
-  callee-other : (j : ℕ) (x y : Operation) → (j ≡ 16 → ⊥) → callee x ≡ 0 → callee y ≡ cond (eqb code 16) k 0
-      → callee (cond (eqb code j) x y) ≡ cond (eqb code 16) k 0
-  callee-other j x y n e f = go (eqb code j) refl
-    where
-      go : (t : Bool) → eqb code j ≡ t → callee (cond t x y) ≡ cond (eqb code 16) k 0
-      go true h =
-          let q : code ≡ 16 → ⊥ = (λ m. n (sym (eqb-true code j h) ∙ m)) in
-          rw (ne-eqb code 16 q) e
-      go false h = f
-
-  pub callee-decode : (a b c : ℕ) → callee (decode code a b c k) ≡ cond (eqb code 16) k 0
-  unfolding callee decode
-  callee-decode a b c =
-      callee-other 1 _ _ (eqb-false 1 16 refl) refl
-      (callee-other 2 _ _ (eqb-false 2 16 refl) refl
-      (callee-other 3 _ _ (eqb-false 3 16 refl) refl
-      (callee-other 4 _ _ (eqb-false 4 16 refl) refl
-      (callee-other 5 _ _ (eqb-false 5 16 refl) refl
-      (callee-other 6 _ _ (eqb-false 6 16 refl) refl
-      (callee-other 7 _ _ (eqb-false 7 16 refl) refl
-      (callee-other 8 _ _ (eqb-false 8 16 refl) refl
-      (callee-other 9 _ _ (eqb-false 9 16 refl) refl
-      (callee-other 10 _ _ (eqb-false 10 16 refl) refl
-      (callee-other 11 _ _ (eqb-false 11 16 refl) refl
-      (callee-other 12 _ _ (eqb-false 12 16 refl) refl
-      (callee-other 13 _ _ (eqb-false 13 16 refl) refl
-      (callee-other 14 _ _ (eqb-false 14 16 refl) refl
-      (callee-other 15 _ _ (eqb-false 15 16 refl) refl
-      (last (eqb code 16))))))))))))))))
-    where
-      last : (t : Bool) → callee (cond t (Call a b k) (Return a)) ≡ cond t k 0
-      last true = refl
-      last false = refl
-
--- only code 16 is a call's
-module _ (code a b c k x y z : ℕ) where
-  not-call : (j : ℕ) (o o′ : Operation) → (o ≡ Call x y z → ⊥) → cond (eqb code j) o o′ ≡ Call x y z → o′ ≡ Call x y z
-  not-call j o o′ n e = go (eqb code j) e
-    where
-      go : (t : Bool) → cond t o o′ ≡ Call x y z → o′ ≡ Call x y z
-      go true e = absurd (n e)
-      go false e = e
-
-  pub call-decoded : decode code a b c k ≡ Call x y z → (code ≡ 16) × (b ≡ y) × (k ≡ z)
-  unfolding decode
-  call-decoded e =
-      last (eqb code 16) refl
-      (not-call 15 _ _ (λ q. absurd (let n : _≡_ {A = ℕ} 0 1 = cc in omega arith))
-      (not-call 14 _ _ (λ q. absurd (let n : _≡_ {A = ℕ} 0 1 = cc in omega arith))
-      (not-call 13 _ _ (λ q. absurd (let n : _≡_ {A = ℕ} 0 1 = cc in omega arith))
-      (not-call 12 _ _ (λ q. absurd (let n : _≡_ {A = ℕ} 0 1 = cc in omega arith))
-      (not-call 11 _ _ (λ q. absurd (let n : _≡_ {A = ℕ} 0 1 = cc in omega arith))
-      (not-call 10 _ _ (λ q. absurd (let n : _≡_ {A = ℕ} 0 1 = cc in omega arith))
-      (not-call 9 _ _ (λ q. absurd (let n : _≡_ {A = ℕ} 0 1 = cc in omega arith))
-      (not-call 8 _ _ (λ q. absurd (let n : _≡_ {A = ℕ} 0 1 = cc in omega arith))
-      (not-call 7 _ _ (λ q. absurd (let n : _≡_ {A = ℕ} 0 1 = cc in omega arith))
-      (not-call 6 _ _ (λ q. absurd (let n : _≡_ {A = ℕ} 0 1 = cc in omega arith))
-      (not-call 5 _ _ (λ q. absurd (let n : _≡_ {A = ℕ} 0 1 = cc in omega arith))
-      (not-call 4 _ _ (λ q. absurd (let n : _≡_ {A = ℕ} 0 1 = cc in omega arith))
-      (not-call 3 _ _ (λ q. absurd (let n : _≡_ {A = ℕ} 0 1 = cc in omega arith))
-      (not-call 2 _ _ (λ q. absurd (let n : _≡_ {A = ℕ} 0 1 = cc in omega arith))
-      (not-call 1 _ _ (λ q. absurd (let n : _≡_ {A = ℕ} 0 1 = cc in omega arith)) e)))))))))))))))
-    where
-      last : (t : Bool) → eqb code 16 ≡ t → cond t (Call a b k) (Return a) ≡ Call x y z → (code ≡ 16) × (b ≡ y) × (k ≡ z)
-      last true h e = (eqb-true code 16 h, cc, cc)
-      last false h e = absurd (let n : _≡_ {A = ℕ} 0 1 = cc in omega arith)
+-- ---- only code 16 is a call's
+call-decoded : (f : Fields) (a b k : ℕ) → decode f ≡ Call a b k → (f .code ≡ 16) × (f .b ≡ b) × (f .k ≡ k)
+unfolding decode operation-by unlisted table
+call-decoded f a b k =
+    by-line (f .code) (λ x. operation-by f x ≡ Call a b k → (f .code ≡ 16) × (f .b ≡ b) × (f .k ≡ k))
+    (λ e q. absurd (let n : _≡_ {A = ℕ} 0 1 = cc in omega arith))
+    (λ e q. absurd (let n : _≡_ {A = ℕ} 0 1 = cc in omega arith))
+    (λ e q. absurd (let n : _≡_ {A = ℕ} 0 1 = cc in omega arith))
+    (λ e q. absurd (let n : _≡_ {A = ℕ} 0 1 = cc in omega arith))
+    (λ e q. absurd (let n : _≡_ {A = ℕ} 0 1 = cc in omega arith))
+    (λ e q. absurd (let n : _≡_ {A = ℕ} 0 1 = cc in omega arith))
+    (λ e q. absurd (let n : _≡_ {A = ℕ} 0 1 = cc in omega arith))
+    (λ e q. absurd (let n : _≡_ {A = ℕ} 0 1 = cc in omega arith))
+    (λ e q. absurd (let n : _≡_ {A = ℕ} 0 1 = cc in omega arith))
+    (λ e q. absurd (let n : _≡_ {A = ℕ} 0 1 = cc in omega arith))
+    (λ e q. absurd (let n : _≡_ {A = ℕ} 0 1 = cc in omega arith))
+    (λ e q. absurd (let n : _≡_ {A = ℕ} 0 1 = cc in omega arith))
+    (λ e q. absurd (let n : _≡_ {A = ℕ} 0 1 = cc in omega arith))
+    (λ e q. absurd (let n : _≡_ {A = ℕ} 0 1 = cc in omega arith))
+    (λ e q. absurd (let n : _≡_ {A = ℕ} 0 1 = cc in omega arith))
+    (λ e q. (e, cc, cc))
+    (λ e q. absurd (let n : _≡_ {A = ℕ} 0 1 = cc in omega arith))
+    (λ e q. absurd (let n : _≡_ {A = ℕ} 0 1 = cc in omega arith))
 
 -- ---- a well-formed sheet
 module _ (s : List ℕ) (wf : verdict (form-tests s) ≡ Accepted) where
@@ -295,8 +217,7 @@ module _ (s : List ℕ) (wf : verdict (form-tests s) ≡ Accepted) where
     module _ (i : ℕ) (m : i < instructionsAt s (procedureAt s p)) where
       instruction-formed :
           (instructionAt s (procedureAt s p) i + 8 ≤ length s)
-          × (instruction-scale (variablesAt s (procedureAt s p)) (instructionsAt s (procedureAt s p)) (ownerAt s (procedureAt s p)) (slotsOf s (ownerAt s (procedureAt s p))) i
-          (code-in s p i) (a-in s p i) (b-in s p i) (c-in s p i) (k-in s p i) ≡ true)
+          × (instruction-scale (limitsAt s (procedureAt s p)) (fields-in s p i) i ≡ true)
       unfolding instruction-tests instruction-tests-at
       instruction-formed =
           let pr = procedureAt s p in
@@ -307,50 +228,26 @@ module _ (s : List ℕ) (wf : verdict (form-tests s) ≡ Accepted) where
       pub instruction-whole : instructionAt s (procedureAt s p) i + 8 ≤ length s
       instruction-whole = instruction-formed .0
 
-      pub code-known : (1 ≤ code-in s p i) × (code-in s p i ≤ 17)
+      instruction-held :
+          (line-scale (limitsAt s (procedureAt s p)) (fields-in s p i) (line-of (fields-in s p i .code)) ≡ true)
+          × (not (eqb (i + 1) (instructionsAt s (procedureAt s p))) || eqb (fields-in s p i .code) 17 ≡ true)
       unfolding instruction-scale
-      code-known =
-          let code = code-in s p i in
-          let h = both-true (leb 1 code) (leb code 17) (all-held true _ (instruction-formed .1) .1 .0) in
-          (leb-true 1 code (h .0), leb-true code 17 (h .1))
+      instruction-held = both-true _ _ (instruction-formed .1)
 
-      -- a is a variable, or 255 of a call or a return
-      pub a-below : (a-in s p i < variablesAt s (procedureAt s p)) ⊎ ((16 ≤ code-in s p i) × (a-in s p i ≡ 255))
-      unfolding instruction-scale
-      a-below = a-named _ _ _ (all-held true _ (instruction-formed .1) .1 .1 .0)
+      -- the table of instructions has its code
+      pub code-known : line-of (fields-in s p i .code) ≡ none → ⊥
+      code-known = no-line _ _ _ (instruction-held .0)
 
-      pub b-below : uses-b (code-in s p i) ≡ true → b-in s p i < variablesAt s (procedureAt s p)
-      unfolding instruction-scale
-      b-below u = b-named _ _ _ (all-held true _ (instruction-formed .1) .1 .1 .1 .0) u
-
-      pub c-below : uses-c (code-in s p i) ≡ true → c-in s p i < variablesAt s (procedureAt s p)
-      unfolding instruction-scale c-scale
-      c-below u = due-below _ _ _ (all-held true _ (instruction-formed .1) .1 .1 .1 .1 .0) u
-
-      -- a jump goes to an instruction of the procedure
-      pub jump-below : code-in s p i ≡ 5 → k-in s p i < instructionsAt s (procedureAt s p)
-      unfolding instruction-scale
-      jump-below e = k-jump _ _ _ _ e (all-held true _ (instruction-formed .1) .1 .1 .1 .1 .1 .0)
-
-      pub slot-named : 14 ≤ code-in s p i → code-in s p i ≤ 15 → k-in s p i < slotsOf s (ownerAt s (procedureAt s p))
-      unfolding instruction-scale
-      slot-named f g = k-slot _ _ _ _ f g (all-held true _ (instruction-formed .1) .1 .1 .1 .1 .1 .0)
-
-      -- codes 13 to 15 have an owner
-      pub owner-there : 13 ≤ code-in s p i → code-in s p i ≤ 15 → 2 ≤ ownerAt s (procedureAt s p)
-      unfolding instruction-scale
-      owner-there f g =
-          let code = code-in s p i in
-          leb-true 2 (ownerAt s (procedureAt s p))
-          (implied (from-to 13 15 code) _ (all-held true _ (instruction-formed .1) .1 .1 .1 .1 .1 .1 .0) (rw (le-leb 13 code f, le-leb code 15 g)))
+      -- its fields are within the limits of its code's line
+      pub limits-held : (found : Line) → line-of (fields-in s p i .code) ≡ some found
+          → Held (line-limits (limitsAt s (procedureAt s p)) (fields-in s p i) found)
+      limits-held = line-held _ _ _ (instruction-held .0)
 
       -- the last instruction is a return
-      pub last-returns : i + 1 ≡ instructionsAt s (procedureAt s p) → code-in s p i ≡ 17
-      unfolding instruction-scale
+      pub last-returns : i + 1 ≡ instructionsAt s (procedureAt s p) → fields-in s p i .code ≡ 17
       last-returns e =
           let n = instructionsAt s (procedureAt s p) in
-          eqb-true (code-in s p i) 17
-          (implied (eqb (i + 1) n) _ (all-held true _ (instruction-formed .1) .1 .1 .1 .1 .1 .1 .1 .0) (eq-eqb (i + 1) n e))
+          eqb-true (fields-in s p i .code) 17 (implied (eqb (i + 1) n) _ (instruction-held .1) (eq-eqb (i + 1) n e))
 
       call-passed : failure (call-tests-at s (variablesAt s (procedureAt s p)) (instructionAt s (procedureAt s p) i)) ≡ 0
       unfolding calls-tests procedure-calls call-tests
@@ -360,9 +257,9 @@ module _ (s : List ℕ) (wf : verdict (form-tests s) ≡ Accepted) where
           let c = each-accepted (procedure-calls s) (proceduresOf s) calls-accepted p l in
           accepted-tests at (call-tests-at s (variablesAt s pr) at) (each-accepted (call-tests s pr) (instructionsAt s pr) c i m)
 
-      call-held : code-in s p i ≡ 16
-          → (ltb (k-in s p i) (proceduresOf s) ≡ true)
-          × (actuals-scale (formalsAt s (procedureAt s (k-in s p i))) (b-in s p i) (variablesAt s (procedureAt s p)) ≡ true)
+      call-held : fields-in s p i .code ≡ 16
+          → (ltb (fields-in s p i .k) (proceduresOf s) ≡ true)
+          × (actuals-scale (formalsAt s (procedureAt s (fields-in s p i .k))) (fields-in s p i .b) (variablesAt s (procedureAt s p)) ≡ true)
       unfolding call-tests-at
       call-held e =
           let at = instructionAt s (procedureAt s p) i in
@@ -370,32 +267,44 @@ module _ (s : List ℕ) (wf : verdict (form-tests s) ≡ Accepted) where
           (h .0, passed-test off-scale _ [] (h .1) .0)
 
       -- a call names a procedure of the sheet, and as many variables as that has formals
-      pub call-below : code-in s p i ≡ 16 → k-in s p i < proceduresOf s
+      pub call-below : fields-in s p i .code ≡ 16 → fields-in s p i .k < proceduresOf s
       call-below e = ltb-true _ _ (call-held e .0)
 
-      pub actual-below : code-in s p i ≡ 16 → (j : ℕ) → j < formalsAt s (procedureAt s (k-in s p i))
-          → b-in s p i + j < variablesAt s (procedureAt s p)
+      pub actual-below : fields-in s p i .code ≡ 16 → (j : ℕ) → j < formalsAt s (procedureAt s (fields-in s p i .k))
+          → fields-in s p i .b + j < variablesAt s (procedureAt s p)
       actual-below e = actuals-named _ _ _ (call-held e .1)
 
       -- the same of the operation itself
       pub actuals-there : (a b k : ℕ) → operationAt s (instructionAt s (procedureAt s p) i) ≡ Call a b k
           → (j : ℕ) → j < formalsAt s (procedureAt s k) → b + j < variablesAt s (procedureAt s p)
       unfolding operationAt
-      actuals-there a b k e =
-          let told = call-decoded (code-in s p i) (a-in s p i) (b-in s p i) (c-in s p i) (k-in s p i) a b k e in
-          rw (told .1, told .2) at (actual-below (told .0))
+      actuals-there a b k e = let told = call-decoded (fields-in s p i) a b k e in rw (told .1, told .2) at (actual-below (told .0))
 
       pub callee-below : callee (operationAt s (instructionAt s (procedureAt s p) i)) < proceduresOf s
-      unfolding operationAt
+      unfolding operationAt decode operation-by unlisted table callee
       callee-below =
-          let at = instructionAt s (procedureAt s p) i in
-          rw (callee-decode (codeAt s at) (kAt s at) (byteAt s at 3) (byteAt s at 4) (byteAt s at 5)) (go (eqb (codeAt s at) 16) refl)
-        where
-          go : (t : Bool) → eqb (code-in s p i) 16 ≡ t → cond t (k-in s p i) 0 < proceduresOf s
-          go true e = call-below (eqb-true _ _ e)
-          go false e = form-small .2
+          let main = form-small .2 in
+          by-line (fields-in s p i .code) (λ x. callee (operation-by (fields-in s p i) x) < proceduresOf s)
+          (λ e. main)
+          (λ e. main)
+          (λ e. main)
+          (λ e. main)
+          (λ e. main)
+          (λ e. main)
+          (λ e. main)
+          (λ e. main)
+          (λ e. main)
+          (λ e. main)
+          (λ e. main)
+          (λ e. main)
+          (λ e. main)
+          (λ e. main)
+          (λ e. main)
+          call-below
+          (λ e. main)
+          (λ e. main)
 
-    pub last-return : code-in s p (instructionsAt s (procedureAt s p) - 1) ≡ 17
+    pub last-return : fields-in s p (instructionsAt s (procedureAt s p) - 1) .code ≡ 17
     last-return =
         let n = instructionsAt s (procedureAt s p) in
         last-returns (n - 1) (omega (arith, instructions-some)) (omega (arith, instructions-some))

@@ -1,11 +1,15 @@
 -- Document 01, "Bytes of a worksheet" and "Instructions": the limits of each record's fields, as rules on plain numbers. 5 where one is exceeded.
 -- t, q and p are the header's counts of types, qualified types and procedures.
 use Prim.Native.Nat.{ℕ, zero, suc, _+_}
-use mathlib.Core.List.{List, [], _∷_}
-use mathlib.Core.Bool.{Bool, true, not, _&&_, _||_, cond}
+use mathlib.Core.List.{List, [], _∷_, _++_}
+use mathlib.Core.Bool.{Bool, true, false, not, _&&_, _||_, cond}
+use mathlib.Core.Option.{Option, none, some}
 use lib.Dec.{ltb, leb, eqb}
 use Rattle.model.specs.Rights.{within, none-above, array-rights}
 use Rattle.model.specs.Refusal.{all}
+use Rattle.sheet.specs.Instructions.{Operand, variable, variable-or-none, first-actual, unused, Constant, any-number, instruction-number, slot-number, procedure-number, no-number, Home, anywhere, owned, Line, line, line-of}
+use Rattle.sheet.specs.declared.decode.Fields.{Fields}
+use Rattle.form.specs.declared.scale.Limits.{Limits}
 
 -- f holds of each number below n
 abbrev pub all-below : ℕ → (ℕ → Bool) → Bool
@@ -53,48 +57,44 @@ procedure-scale t q i owner f v result n =
 unfoldable pub variable-scale : (q f x inner need : ℕ) → Bool
 variable-scale q f x inner need = all (ltb inner q ∷ below-or-none q (ltb x f) need ∷ [])
 
--- ---- IN: "Codes are 1..17, and a variable named is below v. Unused a, b, c are 255, unused k is 0."
+-- ---- IN, by the table of instructions. What waits for the procedure called is not limited here.
+-- "a variable named is below v. Unused a, b, c are 255"
+unfoldable pub operand-limits : (v : ℕ) → Operand → ℕ → List Bool
+operand-limits v variable x = ltb x v ∷ []
+operand-limits v variable-or-none x = (ltb x v || eqb x 255) ∷ []
+operand-limits v first-actual x = []
+operand-limits v unused x = eqb x 255 ∷ []
 
--- the codes from m to n
-abbrev pub from-to : ℕ → ℕ → ℕ → Bool
-from-to m n code = leb m code && leb code n
+-- "(k<n)"; "14 and 15 need k below its slots"; "unused k is 0"
+unfoldable pub constant-limits : (n slots : ℕ) → Constant → ℕ → List Bool
+constant-limits n slots any-number k = []
+constant-limits n slots instruction-number k = ltb k n ∷ []
+constant-limits n slots slot-number k = ltb k slots ∷ []
+constant-limits n slots procedure-number k = []
+constant-limits n slots no-number k = eqb k 0 ∷ []
 
--- b is a variable of 2 to 4, 6, 9 to 12, 14 and 15; c of 2 to 4, 10 and 11
-unfoldable pub uses-b : ℕ → Bool
-uses-b code = from-to 2 4 code || eqb code 6 || from-to 9 12 code || from-to 14 15 code
+-- "Codes 13 to 15 need an owner"
+unfoldable pub home-limits : (owner : ℕ) → Home → List Bool
+home-limits owner anywhere = []
+home-limits owner owned = leb 2 owner ∷ []
 
-unfoldable pub uses-c : ℕ → Bool
-uses-c code = from-to 2 4 code || from-to 10 11 code
+-- `limits` is what they depend on: the procedure's variables, instructions and owner, and that owner's slots
+unfoldable pub line-limits : (limits : Limits) → Fields → Line → List Bool
+line-limits l f (line code operation a b c k home) =
+    operand-limits (l .variables) a (f .a)
+    ++ (operand-limits (l .variables) b (f .b)
+    ++ (operand-limits (l .variables) c (f .c)
+    ++ (constant-limits (l .instructions) (l .slots) k (f .k)
+    ++ home-limits (l .owner) home)))
 
--- a: a variable of every code; of 16 "255: drop the result", of 17 "return a (or 255)"
-unfoldable pub a-scale : (v code a : ℕ) → Bool
-a-scale v code a = ltb a v || (leb 16 code && eqb a 255)
+-- "Codes are 1..17"
+unfoldable pub line-scale : Limits → Fields → Option Line → Bool
+line-scale l f none = false
+line-scale l f (some found) = all (line-limits l f found)
 
--- b of a call waits for the procedure called
-unfoldable pub b-scale : (v code b : ℕ) → Bool
-b-scale v code b = eqb code 16 || below-or-none v (uses-b code) b
-
-unfoldable pub c-scale : (v code c : ℕ) → Bool
-c-scale v code c = below-or-none v (uses-c code) c
-
--- k: any of 1; "k<n" of 5; "14 and 15 need k below its slots"; of 16 it waits; else 0
-unfoldable pub k-scale : (n slots code k : ℕ) → Bool
-k-scale n slots code k =
-    eqb code 1 || eqb code 16 || cond (eqb code 5) (ltb k n) (cond (from-to 14 15 code) (ltb k slots) (eqb k 0))
-
--- IN number i of a procedure with v variables and n instructions, whose owner has `slots` slots:
--- "Codes 13 to 15 need an owner"; "The last IN of a procedure is a return."
-unfoldable pub instruction-scale : (v n owner slots i code a b c k : ℕ) → Bool
-instruction-scale v n owner slots i code a b c k =
-    all (
-    from-to 1 17 code ∷
-    a-scale v code a ∷
-    b-scale v code b ∷
-    c-scale v code c ∷
-    k-scale n slots code k ∷
-    (not (from-to 13 15 code) || leb 2 owner) ∷
-    (not (eqb (i + 1) n) || eqb code 17) ∷
-    [])
+-- IN number i: "The last IN of a procedure is a return."
+unfoldable pub instruction-scale : Limits → Fields → (i : ℕ) → Bool
+instruction-scale l f i = line-scale l f (line-of (f .code)) && (not (eqb (i + 1) (l .instructions)) || eqb (f .code) 17)
 
 -- ---- a call of a procedure with f formals: "b (255 exactly if f is 0, else b to b+f−1 all below v)"
 unfoldable pub actuals-scale : (f b v : ℕ) → Bool

@@ -8,6 +8,8 @@ use lib.Dec.{leb, ltb, eqb}
 use Rattle.model.specs.Refusal.{overlong, torn, stray-mark, bad-edition, off-scale, Test, test, Tests, tests, each}
 use Rattle.sheet.specs.Bytes.{byteAt, wholeAt, Mark, markedAt}
 use Rattle.sheet.specs.Layout.{hd-mark, ty-mark, qt-mark, pr-mark, vr-mark, in-mark, hd-size, ty-size, qt-size, pr-size, vr-size, in-size, editionOf, typesOf, qualsOf, proceduresOf, typeAt, namedOf, slotsOf, slotOf, qualAt, baseOf, rightsOf, elementOf, ownerAt, formalsAt, variablesAt, resultAt, instructionsAt, variableAt, innerAt, needAt, instructionAt, codeAt, kAt, procedureAt}
+use Rattle.sheet.specs.Decode.{fieldsAt}
+use Rattle.form.specs.declared.scale.Limits.{Limits}
 use Rattle.form.specs.Scale.{header-scale, type-scale, qual-scale, procedure-scale, variable-scale, instruction-scale, actuals-scale}
 
 -- 1: "more than 32,768 bytes"
@@ -54,15 +56,17 @@ variable-tests s pr x =
     record-tests s (variableAt pr x) vr-size vr-mark
     (variable-scale (qualsOf s) (formalsAt s pr) x (innerAt s pr x) (needAt s pr x))
 
--- IN number i, at `at`, in a procedure with v variables and n instructions, whose owner has `slots` slots
-unfoldable pub instruction-tests-at : List ℕ → (v n owner slots i at : ℕ) → List Tests
-instruction-tests-at s v n owner slots i at =
-    record-tests s at in-size in-mark
-    (instruction-scale v n owner slots i (codeAt s at) (byteAt s at 3) (byteAt s at 4) (byteAt s at 5) (kAt s at))
+-- what the limits of the INs of the procedure at `pr` depend on
+abbrev pub limitsAt : List ℕ → ℕ → Limits
+limitsAt s pr =
+    record { variables = variablesAt s pr; instructions = instructionsAt s pr; owner = ownerAt s pr; slots = slotsOf s (ownerAt s pr) }
+
+-- IN number i, at `at`, in a procedure of such limits
+unfoldable pub instruction-tests-at : List ℕ → Limits → (i at : ℕ) → List Tests
+instruction-tests-at s l i at = record-tests s at in-size in-mark (instruction-scale l (fieldsAt s at) i)
 
 unfoldable pub instruction-tests : List ℕ → (pr i : ℕ) → List Tests
-instruction-tests s pr i =
-    instruction-tests-at s (variablesAt s pr) (instructionsAt s pr) (ownerAt s pr) (slotsOf s (ownerAt s pr)) i (instructionAt s pr i)
+instruction-tests s pr i = instruction-tests-at s (limitsAt s pr) i (instructionAt s pr i)
 
 -- procedure p, at `pr`: its PR, VRs, INs
 unfoldable pub procedure-tests-at : List ℕ → (p pr : ℕ) → List Tests

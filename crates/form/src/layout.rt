@@ -5,6 +5,7 @@ use crate::records::instruction_record;
 use crate::records::qual_record;
 use crate::records::type_record;
 use crate::records::variable_record;
+use crate::scale::Limits;
 use model::Verdict;
 use reader::left_after;
 use sheet::bytes::byte;
@@ -18,7 +19,7 @@ ghost use Rattle.model.specs.Refusal.{verdict, each};
 ghost use Rattle.sheet.specs.Layout.{proceduresOf, variablesAt, instructionsAt};
 ghost use Rattle.sheet.specs.Places.{Places};
 ghost use Rattle.sheet.specs.Reader.{pastAt};
-ghost use Rattle.form.specs.WellFormed.{length-tests, type-tests, qual-tests, variable-tests, instruction-tests, procedure-tests-at, procedure-tests, leftover-tests, layout-tests};
+ghost use Rattle.form.specs.WellFormed.{length-tests, type-tests, qual-tests, variable-tests, limitsAt, instruction-tests, procedure-tests-at, procedure-tests, leftover-tests, layout-tests};
 
 fn types_pass(s: &[u8], t: u8) -> Verdict
     ensures { λ r. ⌜ r ≡ verdict (each t (type-tests (now (s .entry)))) ⌝ }
@@ -63,17 +64,32 @@ fn variables_pass(s: &[u8], pr: u32) -> Verdict
     Verdict::Accepted
 }
 
+// What the limits of the INs of the procedure at a place depend on.
+fn limits_at(s: &[u8], pr: u32) -> Limits
+    ensures { λ r. ⌜ r ≡ limitsAt (now (s .entry)) pr ⌝ }
+{
+    let at = pr as usize;
+    let variables = byte(s, at, 4);
+    let instructions = word(s, at, 6);
+    let owner = byte(s, at, 2);
+    let slots = byte(s, type_at(owner), 3);
+    Limits {
+        variables,
+        instructions,
+        owner,
+        slots,
+    }
+}
+
 fn instructions_pass(s: &[u8], pr: u32) -> Verdict
     ensures { λ r. ⌜ r ≡ verdict (each (instructionsAt (now (s .entry)) pr) (instruction-tests (now (s .entry)) pr)) ⌝ }
 {
-    let owner = byte(s, pr as usize, 2);
-    let slots = byte(s, type_at(owner), 3);
-    let vars = byte(s, pr as usize, 4);
-    let n = word(s, pr as usize, 6);
+    let l = limits_at(s, pr);
+    let n = l.instructions;
     let first = instruction_at(s, pr, 0);
     let mut i: u16 = 0;
     while i < n {
-        let v = instruction_record(s, vars, n, owner, slots, i, first + 8 * (i as usize));
+        let v = instruction_record(s, l, i, first + 8 * (i as usize));
         let Verdict::Accepted = v else {
             return v;
         };

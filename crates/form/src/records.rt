@@ -1,9 +1,10 @@
 // One record of each kind: whole, under its mark, within its limits.
+use crate::scale::Limits;
 use crate::scale::below_or_none;
 use crate::scale::header_scale;
+use crate::scale::instruction_scale;
 use crate::scale::procedure_scale;
 use crate::scale::qual_scale;
-use crate::scale::scale_by_code;
 use crate::scale::variable_scale;
 use model::Verdict;
 use reader::first_record;
@@ -11,6 +12,7 @@ use sheet::bytes::byte;
 use sheet::bytes::marked;
 use sheet::bytes::whole;
 use sheet::bytes::word;
+use sheet::fetch::fields_whole;
 use sheet::places::qual_at;
 use sheet::places::type_at;
 use sheet::places::variable_at;
@@ -132,24 +134,12 @@ pub fn variable_record(s: &[u8], pr: u32, x: u8) -> Verdict
     record(s, at, 4, b'V', b'R', scale)
 }
 
-// IN number i, which stands whole at a place, in a procedure with v variables, n instructions and an owner with so many slots. It is read without asking again where the sheet ends.
-fn whole_instruction(s: &[u8], v: u8, n: u16, owner: u8, slots: u8, i: u16, at: usize) -> Verdict
+// IN number i, which stands whole at a place. It is read without asking again where the sheet ends.
+fn whole_instruction(s: &[u8], l: Limits, i: u16, at: usize) -> Verdict
     requires { ⌜ at + 8 ≤ length (now s) ⌝ }
-    ensures { λ r. ⌜ r ≡ verdict (instruction-tests-at (now (s .entry)) v n owner slots i at) ⌝ }
+    ensures { λ r. ⌜ r ≡ verdict (instruction-tests-at (now (s .entry)) l i at) ⌝ }
 {
-    let k = (s[at + 6] as u16) + 256 * (s[at + 7] as u16);
-    let scale = scale_by_code(
-        v,
-        n,
-        owner,
-        slots,
-        i,
-        s[at + 2],
-        s[at + 3],
-        s[at + 4],
-        s[at + 5],
-        k,
-    );
+    let scale = instruction_scale(l, fields_whole(s, at), i);
     if (s[at] == b'I') & (s[at + 1] == b'N') {
         if scale {
             return Verdict::Accepted;
@@ -160,19 +150,11 @@ fn whole_instruction(s: &[u8], v: u8, n: u16, owner: u8, slots: u8, i: u16, at: 
 }
 
 // IN number i, at a place.
-pub fn instruction_record(
-    s: &[u8],
-    v: u8,
-    n: u16,
-    owner: u8,
-    slots: u8,
-    i: u16,
-    at: usize,
-) -> Verdict
-    ensures { λ r. ⌜ r ≡ verdict (instruction-tests-at (now (s .entry)) v n owner slots i at) ⌝ }
+pub fn instruction_record(s: &[u8], l: Limits, i: u16, at: usize) -> Verdict
+    ensures { λ r. ⌜ r ≡ verdict (instruction-tests-at (now (s .entry)) l i at) ⌝ }
 {
     if whole(s, at, 8) {
-        return whole_instruction(s, v, n, owner, slots, i, at);
+        return whole_instruction(s, l, i, at);
     }
     Verdict::Refused(2, at)
 }

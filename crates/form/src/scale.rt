@@ -1,9 +1,11 @@
 // The limits of each record's fields, as tests on plain numbers. They are branch-free, so that each is its definition read aloud.
 use rights::has_none_above;
 use rights::is_within;
+use sheet::decode::Fields;
 ghost use mathlib.Core.Path.{_≡_};
 ghost use mathlib.Core.Bool.{cond};
-ghost use Rattle.form.specs.Scale.{below-or-none, header-scale, rights-scale, qual-scale, procedure-scale, variable-scale, uses-b, uses-c, a-scale, b-scale, c-scale, k-scale, instruction-scale, actuals-scale};
+ghost use Rattle.sheet.specs.Instructions.{line-of};
+ghost use Rattle.form.specs.Scale.{below-or-none, header-scale, rights-scale, qual-scale, procedure-scale, variable-scale, line-scale, instruction-scale, actuals-scale};
 
 pub fn pick(t: bool, a: bool, b: bool) -> bool
     ensures { λ r. ⌜ r ≡ cond t a b ⌝ }
@@ -62,107 +64,56 @@ pub fn variable_scale(q: u8, f: u8, x: u8, inner: u8, need: u8) -> bool
     (inner < q) & below_or_none(q, x < f, need)
 }
 
-fn uses_b(code: u8) -> bool
-    ensures { λ r. ⌜ r ≡ uses-b code ⌝ }
-{
-    (2 <= code) & (code <= 4)
-        | (code == 6)
-        | (9 <= code) & (code <= 12)
-        | (14 <= code) & (code <= 15)
+// What the limits of an IN depend on: its procedure's variables, instructions and owner, and that owner's slots.
+pub struct Limits {
+    pub variables: u8,
+    pub instructions: u16,
+    pub owner: u8,
+    pub slots: u8,
 }
 
-fn uses_c(code: u8) -> bool
-    ensures { λ r. ⌜ r ≡ uses-c code ⌝ }
+// The limits of the fields of an IN, line by line as in the table of instructions; no line, no IN.
+fn line_scale(l: Limits, f: Fields) -> bool
+    ensures { λ r. ⌜ r ≡ line-scale l f (line-of (f .code)) ⌝ }
 {
-    (2 <= code) & (code <= 4) | (10 <= code) & (code <= 11)
-}
-
-fn a_scale(v: u8, code: u8, a: u8) -> bool
-    ensures { λ r. ⌜ r ≡ a-scale v code a ⌝ }
-{
-    (a < v) | (16 <= code) & (a == 255)
-}
-
-fn b_scale(v: u8, code: u8, b: u8) -> bool
-    ensures { λ r. ⌜ r ≡ b-scale v code b ⌝ }
-{
-    (code == 16) | below_or_none(v, uses_b(code), b)
-}
-
-fn c_scale(v: u8, code: u8, c: u8) -> bool
-    ensures { λ r. ⌜ r ≡ c-scale v code c ⌝ }
-{
-    below_or_none(v, uses_c(code), c)
-}
-
-fn k_scale(n: u16, slots: u8, code: u8, k: u16) -> bool
-    ensures { λ r. ⌜ r ≡ k-scale n slots code k ⌝ }
-{
-    let slot = (14 <= code) & (code <= 15);
-    (code == 1) | (code == 16) | pick(code == 5, k < n, pick(slot, k < (slots as u16), k == 0))
-}
-
-fn instruction_scale(
-    v: u8,
-    n: u16,
-    owner: u8,
-    slots: u8,
-    i: u16,
-    code: u8,
-    a: u8,
-    b: u8,
-    c: u8,
-    k: u16,
-) -> bool
-    ensures { λ r. ⌜ r ≡ instruction-scale v n owner slots i code a b c k ⌝ }
-{
-    let record = (13 <= code) & (code <= 15);
-    let last = (i as u32) + 1 == (n as u32);
-    (1 <= code)
-        & (code <= 17)
-        & a_scale(v, code, a)
-        & b_scale(v, code, b)
-        & c_scale(v, code, c)
-        & k_scale(n, slots, code, k)
-        & (!record | (2 <= owner))
-        & (!last | (code == 17))
-}
-
-// The same, once for each code: the tests on the code are then settled when this is compiled, and few are left for each.
-pub fn scale_by_code(
-    v: u8,
-    n: u16,
-    owner: u8,
-    slots: u8,
-    i: u16,
-    code: u8,
-    a: u8,
-    b: u8,
-    c: u8,
-    k: u16,
-) -> bool
-    ensures { λ r. ⌜ r ≡ instruction-scale v n owner slots i code a b c k ⌝ }
-{
+    let a = f.a < l.variables;
+    let b = f.b < l.variables;
+    let c = f.c < l.variables;
+    let a_or_none = a | (f.a == 255);
+    let no_b = f.b == 255;
+    let no_c = f.c == 255;
+    let no_k = f.k == 0;
+    let slot = f.k < (l.slots as u16);
+    let owned = 2 <= l.owner;
+    let code = f.code;
     match code {
-        1 => instruction_scale(v, n, owner, slots, i, 1, a, b, c, k),
-        2 => instruction_scale(v, n, owner, slots, i, 2, a, b, c, k),
-        3 => instruction_scale(v, n, owner, slots, i, 3, a, b, c, k),
-        4 => instruction_scale(v, n, owner, slots, i, 4, a, b, c, k),
-        5 => instruction_scale(v, n, owner, slots, i, 5, a, b, c, k),
-        6 => instruction_scale(v, n, owner, slots, i, 6, a, b, c, k),
-        7 => instruction_scale(v, n, owner, slots, i, 7, a, b, c, k),
-        8 => instruction_scale(v, n, owner, slots, i, 8, a, b, c, k),
-        9 => instruction_scale(v, n, owner, slots, i, 9, a, b, c, k),
-        10 => instruction_scale(v, n, owner, slots, i, 10, a, b, c, k),
-        11 => instruction_scale(v, n, owner, slots, i, 11, a, b, c, k),
-        12 => instruction_scale(v, n, owner, slots, i, 12, a, b, c, k),
-        13 => instruction_scale(v, n, owner, slots, i, 13, a, b, c, k),
-        14 => instruction_scale(v, n, owner, slots, i, 14, a, b, c, k),
-        15 => instruction_scale(v, n, owner, slots, i, 15, a, b, c, k),
-        16 => instruction_scale(v, n, owner, slots, i, 16, a, b, c, k),
-        17 => instruction_scale(v, n, owner, slots, i, 17, a, b, c, k),
-        _ => instruction_scale(v, n, owner, slots, i, code, a, b, c, k),
+        1 => a & no_b & no_c,
+        2 => a & b & c & no_k,
+        3 => a & b & c & no_k,
+        4 => a & b & c & no_k,
+        5 => a & no_b & no_c & (f.k < l.instructions),
+        6 => a & b & no_c & no_k,
+        7 => a & no_b & no_c & no_k,
+        8 => a & no_b & no_c & no_k,
+        9 => a & b & no_c & no_k,
+        10 => a & b & c & no_k,
+        11 => a & b & c & no_k,
+        12 => a & b & no_c & no_k,
+        13 => a & no_b & no_c & no_k & owned,
+        14 => a & b & no_c & slot & owned,
+        15 => a & b & no_c & slot & owned,
+        16 => a_or_none & no_c,
+        17 => a_or_none & no_b & no_c & no_k,
+        _ => false,
     }
+}
+
+// IN number i.
+pub fn instruction_scale(l: Limits, f: Fields, i: u16) -> bool
+    ensures { λ r. ⌜ r ≡ instruction-scale l f i ⌝ }
+{
+    let last = (i as u32) + 1 == (l.instructions as u32);
+    line_scale(l, f) & (!last | (f.code == 17))
 }
 
 pub fn actuals_scale(f: u8, b: u8, v: u8) -> bool

@@ -1,60 +1,49 @@
 -- The variable that a call names for its result, by the bytes of its record.
 use Prim.Native.Nat.{ℕ}
-use mathlib.Core.Path.{_≡_, refl, sym, _∙_}
-use mathlib.Core.Bool.{Bool, true, false, cond}
+use mathlib.Core.Path.{_≡_, sym, ap, _∙_}
+use mathlib.Core.Bool.{cond}
 use mathlib.Core.List.{List}
 use mathlib.Core.Option.{none, some}
-use borrow.Author.Tests.{eqb-true, eqb-false, eq-eqb, ne-eqb}
+use native.Mathlib.Omega.{arith}
+use borrow.Author.Tests.{eq-eqb, ne-eqb}
 use lib.Dec.{eqb}
 use Rattle.model.specs.Rules.{optional}
 use Rattle.model.specs.Machine.{kept}
-use Rattle.model.specs.declared.Operation.{Operation}
-use Rattle.model.specs.declared.Operation.the-variants.{Call, Return}
 use Rattle.sheet.specs.Bytes.{byteAt}
-use Rattle.sheet.specs.Layout.{codeAt, kAt}
-use Rattle.sheet.specs.Decode.{decode, operationAt}
+use Rattle.sheet.specs.Layout.{codeAt}
+use Rattle.sheet.specs.Instructions.{table, line-in, line-of}
+use Rattle.sheet.specs.Decode.{unlisted, operation-by, decode, fieldsAt, operationAt}
+use Rattle.sheet.specs.declared.decode.Fields.{Fields}
+use Rattle.sheet.proofs.Instructions.{by-line}
 
-module _ (code a : ℕ) where
-  kept-other : (j : ℕ) (x y : Operation) → (j ≡ 16 → ⊥) → kept x ≡ none → kept y ≡ cond (eqb code 16) (optional a) none
-      → kept (cond (eqb code j) x y) ≡ cond (eqb code 16) (optional a) none
-  kept-other j x y n e f = go (eqb code j) refl
-    where
-      go : (t : Bool) → eqb code j ≡ t → kept (cond t x y) ≡ cond (eqb code 16) (optional a) none
-      go true h =
-          let q : code ≡ 16 → ⊥ = (λ m. n (sym (eqb-true code j h) ∙ m)) in
-          rw (ne-eqb code 16 q) e
-      go false h = f
-
-  kept-decode : (b c k : ℕ) → kept (decode code a b c k) ≡ cond (eqb code 16) (optional a) none
-  unfolding decode
-  kept-decode b c k =
-      kept-other 1 _ _ (eqb-false 1 16 refl) refl
-      (kept-other 2 _ _ (eqb-false 2 16 refl) refl
-      (kept-other 3 _ _ (eqb-false 3 16 refl) refl
-      (kept-other 4 _ _ (eqb-false 4 16 refl) refl
-      (kept-other 5 _ _ (eqb-false 5 16 refl) refl
-      (kept-other 6 _ _ (eqb-false 6 16 refl) refl
-      (kept-other 7 _ _ (eqb-false 7 16 refl) refl
-      (kept-other 8 _ _ (eqb-false 8 16 refl) refl
-      (kept-other 9 _ _ (eqb-false 9 16 refl) refl
-      (kept-other 10 _ _ (eqb-false 10 16 refl) refl
-      (kept-other 11 _ _ (eqb-false 11 16 refl) refl
-      (kept-other 12 _ _ (eqb-false 12 16 refl) refl
-      (kept-other 13 _ _ (eqb-false 13 16 refl) refl
-      (kept-other 14 _ _ (eqb-false 14 16 refl) refl
-      (kept-other 15 _ _ (eqb-false 15 16 refl) refl
-      (last (eqb code 16))))))))))))))))
-    where
-      last : (t : Bool) → kept (cond t (Call a b k) (Return a)) ≡ cond t (optional a) none
-      last true = refl
-      last false = refl
+kept-decode : (f : Fields) → kept (decode f) ≡ cond (eqb (f .code) 16) (optional (f .a)) none
+unfolding decode operation-by unlisted table line-in
+kept-decode f =
+    by-line (f .code) (λ x. kept (operation-by f x) ≡ cond (eqb (f .code) 16) (optional (f .a)) none)
+    (λ e. rw e)
+    (λ e. rw e)
+    (λ e. rw e)
+    (λ e. rw e)
+    (λ e. rw e)
+    (λ e. rw e)
+    (λ e. rw e)
+    (λ e. rw e)
+    (λ e. rw e)
+    (λ e. rw e)
+    (λ e. rw e)
+    (λ e. rw e)
+    (λ e. rw e)
+    (λ e. rw e)
+    (λ e. rw e)
+    (λ e. rw e)
+    (λ e. rw e)
+    (λ n. rw (ne-eqb (f .code) 16 (λ e. absurd (let m = sym (ap line-of e) ∙ n in let z : _≡_ {A = ℕ} 0 1 = cc in omega arith))))
 
 -- the variable is that of the operation at a place
 pub kept-of : (s : List ℕ) (at code a r : ℕ) → code ≡ byteAt s at 2 → a ≡ byteAt s at 3 → optional r ≡ cond (eqb code 16) (optional a) none
     → optional r ≡ kept (operationAt s at)
 unfolding operationAt codeAt
-kept-of s at code a r e d is =
-    is ∙ sym (kept-decode (codeAt s at) (byteAt s at 3) (byteAt s at 4) (byteAt s at 5) (kAt s at) ∙ rw (← e, ← d))
+kept-of s at code a r e d is = is ∙ sym (kept-decode (fieldsAt s at) ∙ rw (← e, ← d))
 
 -- 255 is none
 pub optional-none : (a : ℕ) → a ≡ 255 → optional a ≡ none

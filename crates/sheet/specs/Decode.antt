@@ -1,38 +1,33 @@
 -- Document 01, "Instructions": "An instruction read is its place together with one of seventeen kinds of work."
 use Prim.Native.Nat.{ℕ}
 use mathlib.Core.List.{List}
-use mathlib.Core.Bool.{Bool, cond}
-use lib.Dec.{eqb}
+use mathlib.Core.Option.{Option, none, some}
 use Rattle.sheet.specs.Bytes.{byteAt}
 use Rattle.sheet.specs.Layout.{codeAt, kAt, instructionAt}
+use Rattle.sheet.specs.Instructions.{Line, line, line-of}
+use Rattle.sheet.specs.declared.decode.Fields.{Fields}
 use Rattle.model.specs.declared.Operation.{Operation}
-use Rattle.model.specs.declared.Operation.the-variants.{Set, Add, Subtract, Less, JumpZero, Bind, Take, Put, NewArray, Fetch, Store, Size, NewRecord, GetSlot, SetSlot, Call, Return}
+use Rattle.model.specs.declared.Operation.the-variants.{Return}
 use Rattle.model.specs.declared.Instruction.{Instruction}
 
--- the operation of a code and its operands; the layout refuses codes outside 1..17
-unfoldable pub decode : (code a b c k : ℕ) → Operation
-decode code a b c k =
-    cond (eqb code 1) (Set a k)
-    (cond (eqb code 2) (Add a b c)
-    (cond (eqb code 3) (Subtract a b c)
-    (cond (eqb code 4) (Less a b c)
-    (cond (eqb code 5) (JumpZero a k)
-    (cond (eqb code 6) (Bind a b)
-    (cond (eqb code 7) (Take a)
-    (cond (eqb code 8) (Put a)
-    (cond (eqb code 9) (NewArray a b)
-    (cond (eqb code 10) (Fetch a b c)
-    (cond (eqb code 11) (Store a b c)
-    (cond (eqb code 12) (Size a b)
-    (cond (eqb code 13) (NewRecord a)
-    (cond (eqb code 14) (GetSlot a b k)
-    (cond (eqb code 15) (SetSlot a b k)
-    (cond (eqb code 16) (Call a b k)
-    (Return a))))))))))))))))
+-- no instruction: the layout refuses such a code (5), so that no run meets it; reading is total, and reads it as this
+unfoldable pub unlisted : Fields → Operation
+unlisted f = Return (f .a)
 
--- the operation of the IN at `at`: code, a, b, c, k
+-- the operation of a line, with the operands of the IN
+unfoldable pub operation-by : Fields → Option Line → Operation
+operation-by f none = unlisted f
+operation-by f (some (line code operation a b c k h)) = operation (f .a) (f .b) (f .c) (f .k)
+
+unfoldable pub decode : Fields → Operation
+decode f = operation-by f (line-of (f .code))
+
+-- the IN at `at`: "code, a, b, c, k (2 bytes)"
+abbrev pub fieldsAt : List ℕ → ℕ → Fields
+fieldsAt s at = record { code = codeAt s at; a = byteAt s at 3; b = byteAt s at 4; c = byteAt s at 5; k = kAt s at }
+
 unfoldable pub operationAt : List ℕ → ℕ → Operation
-operationAt s at = decode (codeAt s at) (byteAt s at 3) (byteAt s at 4) (byteAt s at 5) (kAt s at)
+operationAt s at = decode (fieldsAt s at)
 
 -- instruction i of procedure p, which stands at `pr`
 unfoldable pub instructionIn : List ℕ → (pr p i : ℕ) → Instruction

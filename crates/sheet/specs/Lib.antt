@@ -2,5 +2,6 @@ pub mod Bytes
 pub mod Layout
 pub mod Places
 pub mod Reader
+pub mod Instructions
 pub mod Decode
 pub mod Meaning

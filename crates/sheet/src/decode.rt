@@ -1,4 +1,4 @@
-// What an instruction says.
+// What an instruction says: its fields, and the operation that they are.
 use crate::bytes::byte;
 use crate::bytes::word;
 use crate::places::instruction_at;
@@ -7,27 +7,38 @@ use model::Operation;
 ghost use mathlib.Core.Path.{_≡_};
 ghost use Rattle.sheet.specs.Decode.{decode, operationAt, instructionIn};
 
-fn operation_of(code: u8, a: u8, b: u8, c: u8, k: u16) -> Operation
-    ensures { λ r. ⌜ r ≡ decode code a b c k ⌝ }
+// The fields of an IN.
+pub struct Fields {
+    pub code: u8,
+    pub a: u8,
+    pub b: u8,
+    pub c: u8,
+    pub k: u16,
+}
+
+// The operation of an instruction, by the table of codes; what no line has is read as a return.
+pub fn operation_of(f: Fields) -> Operation
+    ensures { λ r. ⌜ r ≡ decode f ⌝ }
 {
+    let code = f.code;
     match code {
-        1 => Operation::Set(a, k),
-        2 => Operation::Add(a, b, c),
-        3 => Operation::Subtract(a, b, c),
-        4 => Operation::Less(a, b, c),
-        5 => Operation::JumpZero(a, k),
-        6 => Operation::Bind(a, b),
-        7 => Operation::Take(a),
-        8 => Operation::Put(a),
-        9 => Operation::NewArray(a, b),
-        10 => Operation::Fetch(a, b, c),
-        11 => Operation::Store(a, b, c),
-        12 => Operation::Size(a, b),
-        13 => Operation::NewRecord(a),
-        14 => Operation::GetSlot(a, b, k),
-        15 => Operation::SetSlot(a, b, k),
-        16 => Operation::Call(a, b, k),
-        _ => Operation::Return(a),
+        1 => Operation::Set(f.a, f.k),
+        2 => Operation::Add(f.a, f.b, f.c),
+        3 => Operation::Subtract(f.a, f.b, f.c),
+        4 => Operation::Less(f.a, f.b, f.c),
+        5 => Operation::JumpZero(f.a, f.k),
+        6 => Operation::Bind(f.a, f.b),
+        7 => Operation::Take(f.a),
+        8 => Operation::Put(f.a),
+        9 => Operation::NewArray(f.a, f.b),
+        10 => Operation::Fetch(f.a, f.b, f.c),
+        11 => Operation::Store(f.a, f.b, f.c),
+        12 => Operation::Size(f.a, f.b),
+        13 => Operation::NewRecord(f.a),
+        14 => Operation::GetSlot(f.a, f.b, f.k),
+        15 => Operation::SetSlot(f.a, f.b, f.k),
+        16 => Operation::Call(f.a, f.b, f.k),
+        _ => Operation::Return(f.a),
     }
 }
 
@@ -35,13 +46,12 @@ fn operation_of(code: u8, a: u8, b: u8, c: u8, k: u16) -> Operation
 pub fn operation_at(s: &[u8], at: usize) -> Operation
     ensures { λ r. ⌜ r ≡ operationAt (now (s .entry)) at ⌝ }
 {
-    operation_of(
-        byte(s, at, 2),
-        byte(s, at, 3),
-        byte(s, at, 4),
-        byte(s, at, 5),
-        word(s, at, 6),
-    )
+    let code = byte(s, at, 2);
+    let a = byte(s, at, 3);
+    let b = byte(s, at, 4);
+    let c = byte(s, at, 5);
+    let k = word(s, at, 6);
+    operation_of(Fields { code, a, b, c, k })
 }
 
 // Instruction i of procedure p, which stands at pr.

@@ -2,5 +2,5 @@
 pub mod bytes; // single bytes and words, marks, what stands whole
 pub mod places; // where each record starts
 pub mod records; // one record as part of the sheet, where it ends, what is left
-pub mod decode; // the operation of an instruction
+pub mod decode; // the operation that the fields of an instruction are
 pub mod fetch; // the same where its record stands whole

@@ -5,33 +5,20 @@ use native.Mathlib.Omega.{arith}
 use borrow.Author.Needs.{needs}
 use Rattle.model.specs.Refusal.{verdict}
 use Rattle.model.proofs.Verdicts.{Passing, pass-start, pass-next, pass-stop, pass-end}
-use Rattle.sheet.specs.Bytes.{byteAt}
-use Rattle.sheet.specs.Layout.{slotsOf, variablesAt, instructionsAt, ownerAt}
 use Rattle.form.proofs.Laws.{instruction-from, instruction-here}
+use Rattle.form.specs.declared.scale.Limits.{Limits}
 use Rattle.form.specs.WellFormed.{instruction-tests}
 use Rattle.form.proofs.layout.instructions_pass.Statement.{statement}
 use Rattle.form.proofs.layout.instructions_pass.Tie as tie
 
 abbrev Inv-loop : tie.InvT-loop
-Inv-loop s pr owner slots vars n first i₀ i = Passing (instruction-tests s pr) n i
+Inv-loop s pr l n first i₀ i = Passing (instruction-tests s pr) n i
 
 abbrev μ-loop : tie.MeasureT-loop
-μ-loop s pr owner slots vars n first i₀ i = n - i
+μ-loop s pr l n first i₀ i = n - i
 
-byte-requires : tie.Need-byte-requires Inv-loop μ-loop
-byte-requires c κs = search needs
-
-type-at-requires : tie.Need-type-at-requires Inv-loop μ-loop
-type-at-requires c κs = search needs
-
-byte-requires-2 : tie.Need-byte-requires-2 Inv-loop μ-loop
-byte-requires-2 c κs = search needs
-
-byte-requires-3 : tie.Need-byte-requires-3 Inv-loop μ-loop
-byte-requires-3 c κs = search needs
-
-word-requires : tie.Need-word-requires Inv-loop μ-loop
-word-requires c κs = search needs
+limits-at-requires : tie.Need-limits-at-requires Inv-loop μ-loop
+limits-at-requires c κs = search needs
 
 instruction-at-requires : tie.Need-instruction-at-requires Inv-loop μ-loop
 instruction-at-requires c κs = search needs
@@ -58,22 +45,17 @@ enum-told-2 : tie.Need-enum-told-2 Inv-loop μ-loop
 enum-told-2 c = search needs
 
 as-defined : (c : tie.After-instruction-record Inv-loop μ-loop) →
-    let a = c .before .before .before .before .before .before .before .before .before .before .args in
+    let a = c .before .before .before .before .before .before .args in
     c .instruction-record .result ≡ verdict (instruction-tests (a .s .now) (a .pr) (c .before .before .loop .i))
-unfolding variablesAt instructionsAt ownerAt slotsOf
 as-defined c =
     let d = c .before .before .before in
     let at = instruction-from _ _ _ _ (d .instruction-at .ensures .0) in
-    let e = d .before .before .before in
-    let slots = e .byte2 .ensures ∙ ap (λ t. byteAt (e .before .before .before .before .args .s .now) t 3) (e .before .type-at .ensures) in
-    c .instruction-record .ensures
-    ∙ ap verdict (instruction-here _ _ _ _ _ _ _ _ (d .before .before .byte3 .ensures) (d .before .word .ensures) (e .before .before .byte .ensures) slots at)
+    c .instruction-record .ensures ∙ ap verdict (instruction-here _ _ _ _ _ (d .before .limits-at .ensures) at)
 
 returns : tie.Need-returns Inv-loop μ-loop
-unfolding instructionsAt
 returns c =
     let l = c .before .before .before in
-    rw (← l .before .before .before .word .ensures)
+    rw (← ap (λ (x : Limits). x .instructions) (l .before .before .before .limits-at .ensures))
     (pass-stop _ _ _ (l .before .loop .inv) (l .loop-test .taken) _ _ _ (as-defined (c .before .before)) (c .enum-told2 .given .1))
 
 add-i : tie.Need-add-i Inv-loop μ-loop
@@ -88,8 +70,8 @@ loop-again c =
     pass-next _ _ _ (l .before .loop .inv) (l .loop-test .taken) _ (as-defined (c .before .before)) (c .enum-told .given .1)
 
 returns-2 : tie.Need-returns-2 Inv-loop μ-loop
-unfolding instructionsAt
-returns-2 c = rw (← c .before .before .before .word .ensures) (pass-end _ _ _ (c .before .loop .inv) (c .loop-test .left))
+returns-2 c =
+    rw (← ap (λ (x : Limits). x .instructions) (c .before .before .before .limits-at .ensures)) (pass-end _ _ _ (c .before .loop .inv) (c .loop-test .left))
 
 pub instructions-pass-spec : {M : Type 1} → statement M
 instructions-pass-spec =
@@ -97,11 +79,7 @@ instructions-pass-spec =
     (tie.spec
     Inv-loop
     μ-loop
-    byte-requires
-    type-at-requires
-    byte-requires-2
-    byte-requires-3
-    word-requires
+    limits-at-requires
     instruction-at-requires
     loop-holds
     cast-instruction-record

@@ -1,66 +1,19 @@
--- The bytes read are those of the definition, and the record stands whole; each way through the other tests is a way through the definition.
-use Prim.Native.Nat.{_+_}
-use mathlib.Core.Path.{sym, _∙_}
-use native.Mathlib.Omega.{arith}
-use borrow.Author.Needs.{needs}
+-- The fields read are those of the definition, and the record stands whole; each way through the other tests is a way through the definition.
+use mathlib.Core.Path.{sym, ap, _∙_}
 use Rattle.model.specs.Refusal.{verdict, refuse, failure}
-use Rattle.sheet.specs.Bytes.{byteAt, wordAt}
-use Rattle.sheet.specs.Layout.{codeAt, kAt}
+use Rattle.form.specs.Scale.{instruction-scale}
 use Rattle.form.specs.WellFormed.{record-tests, instruction-tests-at}
 use Rattle.form.proofs.Laws.{whole-here, mark-here}
+use native.Mathlib.Omega.{arith}
+use borrow.Author.Needs.{needs}
 use Rattle.form.proofs.records.whole_instruction.Statement.{statement}
 use Rattle.form.proofs.records.whole_instruction.Tie as tie
 
-add-k : tie.Need-add-k
-add-k c = search needs
+fields-whole-requires : tie.Need-fields-whole-requires
+fields-whole-requires c κs = search needs
 
-shared-slice-read-k : tie.Need-shared-slice-read-k
-shared-slice-read-k c = search needs
-
-cast-k : tie.Need-cast-k
-cast-k c = omega (arith, c .shared-slice-known2 .given (c .before .before .args .at + 6) .fits)
-
-add-k-2 : tie.Need-add-k-2
-add-k-2 c = search needs
-
-shared-slice-read-k-2 : tie.Need-shared-slice-read-k-2
-shared-slice-read-k-2 c = search needs
-
-cast-k-2 : tie.Need-cast-k-2
-cast-k-2 c = omega (arith, c .shared-slice-known3 .given (c .before .before .before .args .at + 7) .fits)
-
-mul-k : tie.Need-mul-k
-mul-k c = omega (arith, c .shared-slice-known3 .given (c .before .before .before .args .at + 7) .fits)
-
-add-k-3 : tie.Need-add-k-3
-add-k-3 c = let a = c .before .before .before .args .at in omega (arith, c .shared-slice-known3 .given (a + 6) .fits, c .shared-slice-known3 .given (a + 7) .fits)
-
-add-scale-by-code : tie.Need-add-scale-by-code
-add-scale-by-code c = search needs
-
-shared-slice-read-scale-by-code : tie.Need-shared-slice-read-scale-by-code
-shared-slice-read-scale-by-code c = search needs
-
-add-scale-by-code-2 : tie.Need-add-scale-by-code-2
-add-scale-by-code-2 c = search needs
-
-shared-slice-read-scale-by-code-2 : tie.Need-shared-slice-read-scale-by-code-2
-shared-slice-read-scale-by-code-2 c = search needs
-
-add-scale-by-code-3 : tie.Need-add-scale-by-code-3
-add-scale-by-code-3 c = search needs
-
-shared-slice-read-scale-by-code-3 : tie.Need-shared-slice-read-scale-by-code-3
-shared-slice-read-scale-by-code-3 c = search needs
-
-add-scale-by-code-4 : tie.Need-add-scale-by-code-4
-add-scale-by-code-4 c = search needs
-
-shared-slice-read-scale-by-code-4 : tie.Need-shared-slice-read-scale-by-code-4
-shared-slice-read-scale-by-code-4 c = search needs
-
-scale-by-code-requires : tie.Need-scale-by-code-requires
-scale-by-code-requires c κs = search needs
+instruction-scale-requires : tie.Need-instruction-scale-requires
+instruction-scale-requires c κs = search needs
 
 shared-slice-read-if1 : tie.Need-shared-slice-read-if1
 shared-slice-read-if1 c = search needs
@@ -72,50 +25,26 @@ shared-slice-read-if1-2 : tie.Need-shared-slice-read-if1-2
 shared-slice-read-if1-2 c = search needs
 
 returns : tie.Need-returns
-unfolding verdict refuse failure record-tests instruction-tests-at codeAt kAt wordAt byteAt
+unfolding verdict refuse failure record-tests instruction-tests-at
 returns c =
-    let a = c .before .before .before .before .before .before .before .before .before .before .before .before .args in
-    let w = whole-here (a .s .now) (a .at) 8 (omega arith) in
-    let m = mark-here (a .s .now) (a .at) 73 78 ∙ c .before .if1 .taken in
-    rw (w, m, sym (c .before .before .before .before .scale-by-code .ensures) ∙ c .if2 .taken)
+    let a = c .before .before .before .before .before .before .before .args in let w = whole-here (a .s .now) (a .at) 8 (omega arith) in let m = mark-here (a .s .now) (a .at) 73 78 ∙ c .before .if1 .taken in let scale = c .before .before .before .before .instruction-scale .ensures ∙ ap (λ f. instruction-scale (a .l) f (a .i)) (c .before .before .before .before .before .fields-whole .ensures) in rw (w, m, sym scale ∙ c .if2 .taken)
 
 returns-2 : tie.Need-returns-2
-unfolding verdict refuse failure record-tests instruction-tests-at codeAt kAt wordAt byteAt
+unfolding verdict refuse failure record-tests instruction-tests-at
 returns-2 c =
-    let a = c .before .before .before .before .before .before .before .before .before .before .before .before .args in
-    let w = whole-here (a .s .now) (a .at) 8 (omega arith) in
-    let m = mark-here (a .s .now) (a .at) 73 78 ∙ c .before .if1 .taken in
-    rw (w, m, sym (c .before .before .before .before .scale-by-code .ensures) ∙ c .if2 .left)
+    let a = c .before .before .before .before .before .before .before .args in let w = whole-here (a .s .now) (a .at) 8 (omega arith) in let m = mark-here (a .s .now) (a .at) 73 78 ∙ c .before .if1 .taken in let scale = c .before .before .before .before .instruction-scale .ensures ∙ ap (λ f. instruction-scale (a .l) f (a .i)) (c .before .before .before .before .before .fields-whole .ensures) in rw (w, m, sym scale ∙ c .if2 .left)
 
 returns-3 : tie.Need-returns-3
-unfolding verdict refuse failure record-tests instruction-tests-at codeAt kAt wordAt byteAt
+unfolding verdict refuse failure record-tests instruction-tests-at
 returns-3 c =
-    let a = c .before .before .before .before .before .before .before .before .before .before .before .args in
-    let w = whole-here (a .s .now) (a .at) 8 (omega arith) in
-    let m = mark-here (a .s .now) (a .at) 73 78 ∙ c .if1 .left in
-    rw (w, m)
+    let a = c .before .before .before .before .before .before .args in let w = whole-here (a .s .now) (a .at) 8 (omega arith) in let m = mark-here (a .s .now) (a .at) 73 78 ∙ c .if1 .left in rw (w, m)
 
 pub whole-instruction-spec : {M : Type 1} → statement M
 whole-instruction-spec =
     tie.close
     (tie.spec
-    add-k
-    shared-slice-read-k
-    cast-k
-    add-k-2
-    shared-slice-read-k-2
-    cast-k-2
-    mul-k
-    add-k-3
-    add-scale-by-code
-    shared-slice-read-scale-by-code
-    add-scale-by-code-2
-    shared-slice-read-scale-by-code-2
-    add-scale-by-code-3
-    shared-slice-read-scale-by-code-3
-    add-scale-by-code-4
-    shared-slice-read-scale-by-code-4
-    scale-by-code-requires
+    fields-whole-requires
+    instruction-scale-requires
     shared-slice-read-if1
     add-if1
     shared-slice-read-if1-2
