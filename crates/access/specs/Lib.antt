@@ -1,1 +1,1 @@
-pub mod Callees
+pub mod Inner

@@ -13,15 +13,15 @@ use sheet::places::instruction_at;
 use sheet::places::qual_at;
 use sheet::places::variable_at;
 ghost use mathlib.Core.Path.{_≡_};
-ghost use Prim.Native.Nat.{_≤_, _<_};
+ghost use Prim.Native.Nat.{_<_};
 ghost use Rattle.model.specs.Refusal.{verdict, refuse, each};
 ghost use Rattle.model.specs.Rules.{type-rules, qual-rules, head-rules, variable-rules, instruction-rules, procedure-rules, access-rules, callee};
 ghost use Rattle.model.specs.declared.Verdict.the-variants.{Accepted};
-ghost use Rattle.sheet.specs.Layout.{typesOf, qualsOf, proceduresOf, variablesAt, instructionsAt, instructionAt, procedureAt};
+ghost use Rattle.sheet.specs.Layout.{proceduresOf, variablesAt, instructionsAt, instructionAt, procedureAt};
 ghost use Rattle.sheet.specs.Decode.{operationAt};
 ghost use Rattle.sheet.specs.Meaning.{programOf};
-ghost use Rattle.instruction_rules.specs.Ready.{Ready};
-ghost use Rattle.access.specs.Callees.{CalleesAt, Callees};
+ghost use Rattle.instruction_rules.specs.Inner.Ready.{Ready};
+ghost use Rattle.access.specs.Inner.Callees.{CalleesAt, Callees};
 
 // The verdict of one record.
 fn refused(number: u8, at: usize) -> Verdict

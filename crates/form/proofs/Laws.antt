@@ -14,7 +14,7 @@ use Rattle.model.specs.declared.Verdict.the-variants.{Accepted}
 use Rattle.model.proofs.Verdicts.{left-accepted, right-accepted, accepted-tests, passed-test, both-true, all-held}
 use Rattle.sheet.specs.Bytes.{byteAt, wordAt, wholeAt, Mark, mark, markedAt}
 use Rattle.sheet.specs.Layout.{hd-mark, editionOf, typesOf, qualsOf, qualAt, proceduresOf, formalsAt, variablesAt, instructionsAt, variableAt, instructionAt, codeAt, kAt, procedureAt}
-use Rattle.sheet.specs.Places.{Places}
+use Rattle.sheet.specs.Inner.Places.{Places}
 use Rattle.sheet.specs.Reader.{recordAt, pastAt, leftAt}
 use Rattle.sheet.proofs.Laws.{whole-true, record-inside, record-byte, hd-sized}
 use Rattle.form.specs.declared.scale.Limits.{Limits}

@@ -4,7 +4,7 @@ use mathlib.Core.Path.{_≡_, refl}
 use mathlib.Core.Bool.{Bool, true, false, cond}
 use mathlib.Core.List.{List, [], _∷_, _++_}
 use lib.Dec.{eqb}
-use Rattle.model.specs.Refusal.{off-scale, Test, test, Tests, each}
+use Rattle.model.specs.Refusal.{off-scale, test, each}
 use Rattle.model.proofs.Numbers.{in-range, all-in-range, all-append, all-each, all-one}
 use Rattle.sheet.specs.Layout.{typesOf, qualsOf, proceduresOf, variablesAt, instructionsAt, instructionAt, codeAt, procedureAt}
 use Rattle.form.specs.WellFormed.{length-tests, record-tests, header-tests, type-tests, qual-tests, head-tests, variable-tests, instruction-tests-at, instruction-tests, procedure-tests-at, procedure-tests, leftover-tests, layout-tests, call-tests-at, call-tests, procedure-calls, calls-tests, form-tests}

@@ -14,7 +14,6 @@ use Rattle.model.specs.Refusal.{overlong, torn, off-scale, failure, verdict, ea
 use Rattle.model.specs.declared.Operation.the-variants.{Call}
 use Rattle.model.specs.declared.Verdict.the-variants.{Accepted}
 use Rattle.model.proofs.Verdicts.{left-accepted, right-accepted, each-accepted, accepted-tests, passed-test, both-true, either-true, implied, Held, all-held}
-use Rattle.sheet.specs.Bytes.{byteAt}
 use Rattle.sheet.specs.Layout.{ty-mark, qt-mark, vr-mark, in-mark, typesOf, qualsOf, proceduresOf, typeAt, namedOf, slotsOf, slotOf, qualAt, baseOf, rightsOf, elementOf, ownerAt, formalsAt, variablesAt, resultAt, instructionsAt, variableAt, innerAt, needAt, instructionAt, codeAt, kAt, procedureAt}
 use Rattle.sheet.specs.Instructions.{Line, table, line-of}
 use Rattle.sheet.specs.Decode.{unlisted, operation-by, decode, fieldsAt, operationAt}
@@ -124,9 +123,6 @@ module _ (s : List ℕ) (wf : verdict (form-tests s) ≡ Accepted) where
         let e : 2 + (t - 2) ≡ t = omega arith in
         all-held true _ (record-formed s (typeAt t) 12 ty-mark _ (rw e at type-formed) .1) .1
 
-    pub named-few : namedOf s t ≤ 15
-    named-few = leb-true (namedOf s t) 15 (type-held .0)
-
     pub slots-few : slotsOf s t ≤ 8
     slots-few = leb-true (slotsOf s t) 8 (type-held .1 .0)
 
@@ -171,23 +167,9 @@ module _ (s : List ℕ) (wf : verdict (form-tests s) ≡ Accepted) where
         (λ y. let z = both-true (leb 2 o) (ltb o (typesOf s + 2)) y in inr (leb-true 2 o (z .0), ltb-true o (typesOf s + 2) (z .1)))
         (either-true (eqb o 0) (leb 2 o && ltb o (typesOf s + 2)) (h .0))
 
-    pub formals-few : formalsAt s (procedureAt s p) ≤ 8
-    unfolding procedure-scale
-    formals-few = leb-true (formalsAt s (procedureAt s p)) 8 (all-held true _ head-held .1 .1 .0)
-
     pub formals-first : formalsAt s (procedureAt s p) ≤ variablesAt s (procedureAt s p)
     unfolding procedure-scale
     formals-first = leb-true (formalsAt s (procedureAt s p)) (variablesAt s (procedureAt s p)) (all-held true _ head-held .1 .1 .1 .0)
-
-    pub variables-few : variablesAt s (procedureAt s p) ≤ 32
-    unfolding procedure-scale
-    variables-few = leb-true (variablesAt s (procedureAt s p)) 32 (all-held true _ head-held .1 .1 .1 .1 .0)
-
-    pub result-below : (resultAt s (procedureAt s p) ≡ 255 → ⊥) → resultAt s (procedureAt s p) < qualsOf s
-    unfolding procedure-scale
-    result-below n =
-        let r = resultAt s (procedureAt s p) in
-        ltb-true r (qualsOf s) (rw (ne-eqb r 255 n) at (all-held true _ head-held .1 .1 .1 .1 .1 .0))
 
     pub instructions-some : 1 ≤ instructionsAt s (procedureAt s p)
     instructions-some = some-instruction s procedures-accepted p l
@@ -303,17 +285,3 @@ module _ (s : List ℕ) (wf : verdict (form-tests s) ≡ Accepted) where
           call-below
           (λ e. main)
           (λ e. main)
-
-    pub last-return : fields-in s p (instructionsAt s (procedureAt s p) - 1) .code ≡ 17
-    last-return =
-        let n = instructionsAt s (procedureAt s p) in
-        last-returns (n - 1) (omega (arith, instructions-some)) (omega (arith, instructions-some))
-
-  -- procedure 0 is main: no owner, no formals, no result
-  pub main-plain : (ownerAt s (procedureAt s 0) ≡ 0) × (formalsAt s (procedureAt s 0) ≡ 0) × (resultAt s (procedureAt s 0) ≡ 255)
-  unfolding procedure-scale
-  main-plain =
-      let pr = procedureAt s 0 in
-      let h = both-true (eqb (ownerAt s pr) 0 && eqb (formalsAt s pr) 0) (eqb (resultAt s pr) 255) (all-held true _ (head-held 0 (form-small .2)) .1 .1 .1 .1 .1 .1 .1 .1 .0) in
-      let g = both-true (eqb (ownerAt s pr) 0) (eqb (formalsAt s pr) 0) (h .0) in
-      (eqb-true (ownerAt s pr) 0 (g .0), eqb-true (formalsAt s pr) 0 (g .1), eqb-true (resultAt s pr) 255 (h .1))

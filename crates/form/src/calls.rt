@@ -9,9 +9,9 @@ ghost use mathlib.Core.Path.{_≡_};
 ghost use Prim.Native.Nat.{_≤_, _<_};
 ghost use mathlib.Core.List.{[], _∷_};
 ghost use Rattle.model.specs.Refusal.{verdict, failure, tests, each};
-ghost use Rattle.sheet.specs.Layout.{proceduresOf, instructionsAt, instructionAt};
-ghost use Rattle.sheet.specs.Places.{Places};
-ghost use Rattle.form.specs.WellFormed.{call-tests-at, call-tests, procedure-calls, calls-tests, form-tests};
+ghost use Rattle.sheet.specs.Layout.{proceduresOf, instructionsAt};
+ghost use Rattle.sheet.specs.Inner.Places.{Places};
+ghost use Rattle.form.specs.WellFormed.{call-tests-at, call-tests, calls-tests, form-tests};
 
 // The number of the refusal of the IN at a place, in a procedure with v variables; 0 where there is none.
 fn call_number(s: &[u8], table: &[u32; 65], v: u8, at: usize) -> u8

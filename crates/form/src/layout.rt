@@ -17,7 +17,7 @@ ghost use mathlib.Core.List.{_++_};
 ghost use Prim.Native.Nat.{_-_, _≤_, _<_};
 ghost use Rattle.model.specs.Refusal.{verdict, each};
 ghost use Rattle.sheet.specs.Layout.{proceduresOf, variablesAt, instructionsAt};
-ghost use Rattle.sheet.specs.Places.{Places};
+ghost use Rattle.sheet.specs.Inner.Places.{Places};
 ghost use Rattle.sheet.specs.Reader.{pastAt};
 ghost use Rattle.form.specs.WellFormed.{length-tests, type-tests, qual-tests, variable-tests, limitsAt, instruction-tests, procedure-tests-at, procedure-tests, leftover-tests, layout-tests};
 

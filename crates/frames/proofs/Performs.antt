@@ -16,7 +16,7 @@ use Rattle.model.specs.declared.Operation.{Operation}
 use Rattle.model.specs.declared.Operation.the-variants as Op
 use Rattle.sheet.specs.Layout.{proceduresOf, procedureAt}
 use Rattle.sheet.specs.Meaning.{programOf, qualOf}
-use Rattle.sheet.specs.Places.{Places}
+use Rattle.sheet.specs.Inner.Places.{Places}
 use Rattle.words.specs.Sees.{Sees}
 use Rattle.words.specs.Answers.{Unless-stuck, number-as}
 use Rattle.words.specs.declared.Number.{Number}

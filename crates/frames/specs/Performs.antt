@@ -11,7 +11,7 @@ use Rattle.model.specs.Refusal.{verdict}
 use Rattle.model.specs.declared.Verdict.the-variants.{Accepted}
 use Rattle.model.specs.declared.Operation.{Operation}
 use Rattle.sheet.specs.Meaning.{programOf}
-use Rattle.sheet.specs.Places.{Places}
+use Rattle.sheet.specs.Inner.Places.{Places}
 use Rattle.form.specs.WellFormed.{form-tests}
 use Rattle.writers.specs.declared.Registers.{Registers}
 use Rattle.writers.specs.declared.Stepped.{Stepped}

@@ -5,8 +5,8 @@ use mathlib.Core.List.{List}
 use native.Mathlib.Omega.{arith}
 use lib.ListN.{getD}
 use Rattle.sheet.specs.Layout.{proceduresOf, procedureAt}
-use Rattle.sheet.specs.Places.{Places}
-use Rattle.instruction_rules.specs.Ready.{Ready}
+use Rattle.sheet.specs.Inner.Places.{Places}
+use Rattle.instruction_rules.specs.Inner.Ready.{Ready}
 
 module _ (s table : List ℕ) (r : Ready s table) (p : ℕ) (h : p < proceduresOf s) where
   pub has-room : p < 65

@@ -19,7 +19,7 @@ ghost use Rattle.model.specs.Refusal.{failure};
 ghost use Rattle.model.specs.Rules.{rule, callee};
 ghost use Rattle.sheet.specs.Layout.{proceduresOf, procedureAt};
 ghost use Rattle.sheet.specs.Meaning.{programOf};
-ghost use Rattle.instruction_rules.specs.Ready.{Ready};
+ghost use Rattle.instruction_rules.specs.Inner.Ready.{Ready};
 
 // An instruction of the procedure at a place: the number of its first refusal, 0 where there is none.
 pub fn instruction_number(s: &[u8], table: &[u32; 65], pr: u32, i: Instruction) -> u8

@@ -8,7 +8,7 @@ use Rattle.model.specs.Program.{Program}
 use Rattle.model.specs.declared.Operation.{Operation}
 use Rattle.model.specs.Outcome.{Stop, fuel-spent, wrong-kind, missing-right, Res, ok, stop, stuck}
 use Rattle.model.specs.Modes.{Mode, plain, watched}
-use Rattle.model.specs.Machine.{frame, State, state, View, plan, Next, go, finished, step}
+use Rattle.model.specs.Machine.{frame, State, state, View, plan, step}
 use Rattle.model.specs.Run.{End, stopped, stuck-at, words-put, end-in, Snapshot, shot, Moment, running, over, settle, end-of, advance, trace, run}
 use Rattle.model.proofs.Plans.{Comes, goes, stops, sticks, plan-comes}
 use Rattle.model.proofs.Ends.{steps-of, Way, run-ended}

@@ -8,12 +8,11 @@ use mathlib.Core.Option.{Option, none, some}
 use native.Mathlib.Omega.{arith}
 use lib.Dec.{leb, ltb}
 use borrow.Author.Tests.{leb-true, le-leb}
-use Rattle.model.specs.Qualified.{Qual, element}
+use Rattle.model.specs.Qualified.{Qual}
 use Rattle.model.specs.Program.{Program}
 use Rattle.model.specs.Refusal.{refusal-number, Gives, Test, test, Tests, tests, failure, refuse, verdict, span, each}
-use Rattle.model.specs.Rules.{optional, moves, integer-rule, integers-rule, new-array-rule, new-record-rule, fetch-rule, store-rule, size-rule, get-slot-rule, set-slot-rule, return-rule, kept-rule, closed-result, formal-rule, local-rule, declaration-rule, optional-variable, call-rule, closed-rule, rule, type-rules, qual-rules, variable-rule, variable-rules, instruction-rules, head-rules, procedure-rules, access-rules}
+use Rattle.model.specs.Rules.{optional, moves, integer-rule, integers-rule, new-array-rule, new-record-rule, fetch-rule, store-rule, size-rule, get-slot-rule, set-slot-rule, return-rule, kept-rule, formal-rule, local-rule, declaration-rule, optional-variable, call-rule, closed-rule, rule, type-rules, qual-rules, variable-rule, variable-rules, instruction-rules, head-rules, procedure-rules, access-rules}
 use Rattle.model.specs.declared.Verdict.{Verdict}
-use Rattle.model.specs.declared.Verdict.the-variants.{Accepted, Refused}
 use Rattle.model.specs.declared.Operation.{Operation}
 use Rattle.model.specs.declared.Operation.the-variants.{Set, Add, Subtract, Less, JumpZero, Bind, Take, Put, NewArray, Fetch, Store, Size, NewRecord, GetSlot, SetSlot, Call, Return}
 use Rattle.model.proofs.Verdicts.{both-true}

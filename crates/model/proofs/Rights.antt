@@ -1,13 +1,13 @@
 -- Laws of sets of rights, over any width.
 use Prim.Native.Nat.{ℕ, _+_, _*_, _-_, _/_, _%_, _≤_, _^_, min}
-use mathlib.Core.Path.{_≡_, sym, ap, _∙_}
+use mathlib.Core.Path.{_≡_, ap, _∙_}
 use mathlib.Core.Bool.{true}
 use native.Mathlib.Omega.{arith}
 use native.Mathlib.Nat.{zero-mul, div-add-mod'}
 use lib.Arith.{bin-ind}
-use lib.Bits.{bitAnd, and-step, and-le-l, and-self, and-zero-l, and-shr, and-mask}
+use lib.Bits.{bitAnd, and-step, and-le-l, and-self, and-zero-l, and-mask}
 use borrow.Author.Tests.{eq-eqb, eqb-true}
-use Rattle.model.specs.Rights.{Rights, within, has, none-above, record-rights}
+use Rattle.model.specs.Rights.{Rights, within, none-above, record-rights}
 
 -- a subset, one digit at a time
 record Digit (a b : ℕ) : Type 0 where

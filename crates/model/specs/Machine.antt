@@ -1,19 +1,19 @@
 -- The machines (document 01, "The two machines"): one text, read in the two modes of Modes.antt.
 -- A step first plans what an instruction asks for, which only reads, and then applies it: "A step that stops changes nothing".
 use Prim.Native.Nat.{ℕ, zero, suc, pred, _+_, _-_, _%_, _^_}
-use mathlib.Core.Bool.{Bool, true, false, _&&_, cond}
+use mathlib.Core.Bool.{Bool, true, false, cond}
 use mathlib.Core.List.{List, [], _∷_, _++_}
 use mathlib.Core.Option.{Option, none, some}
-use lib.Dec.{eqb, leb, ltb}
-use lib.ListN.{length, getD, getElem?, set, replicate}
+use lib.Dec.{leb, ltb}
+use lib.ListN.{length, getD, set, replicate}
 use Rattle.model.specs.Rights.{fetch-right, store-right, size-right, open-right, array-rights, record-rights}
-use Rattle.model.specs.Qualified.{Qual, integer, element, isArray}
+use Rattle.model.specs.Qualified.{Qual, element, isArray}
 use Rattle.model.specs.Program.{Program}
 use Rattle.model.specs.Rules.{optional, keeps}
 use Rattle.model.specs.declared.Operation.{Operation}
 use Rattle.model.specs.declared.Operation.the-variants.{Set, Add, Subtract, Less, JumpZero, Bind, Take, Put, NewArray, Fetch, Store, Size, NewRecord, GetSlot, SetSlot, Call, Return}
-use Rattle.model.specs.Outcome.{Stop, blank, past-end, input-ended, output-full, memory-full, Res, ok, stop, stuck, _>>=_, _>>_, ensure, found}
-use Rattle.model.specs.Modes.{Mode, plain, watched, Carried, ElementInfo, TypeInfo, carried, element-info, type-info, Kind, integer-kind, array-kind, record-kind, no-kind, amiss, demand, licence, is-of, bind, raise, bind-element, bind-result}
+use Rattle.model.specs.Outcome.{blank, past-end, input-ended, output-full, memory-full, Res, ok, stop, _>>=_, _>>_, ensure, found}
+use Rattle.model.specs.Modes.{Mode, Carried, ElementInfo, TypeInfo, carried, element-info, type-info, Kind, integer-kind, array-kind, record-kind, no-kind, amiss, demand, licence, is-of, bind, raise, bind-element, bind-result}
 
 -- ---- The state
 

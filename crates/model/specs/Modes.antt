@@ -1,14 +1,13 @@
 -- What differs between the plain and the watched machine (document 01, "The two machines"). The machine itself, Machine.antt, is one text.
 -- "The plain machine is the same without tests of kind and right and without rights": in mode `plain` nothing is kept beside a cell or with an object,
 -- no test of kind or right is made, and a value of the wrong kind is stuck.
-use Prim.Native.Nat.{ℕ, zero, suc}
+use Prim.Native.Nat.{ℕ}
 use mathlib.Core.Bool.{Bool, true, false, _&&_}
-use mathlib.Core.List.{List, [], _∷_}
 use mathlib.Core.Option.{Option, none, some}
 use lib.Dec.{eqb, leb}
 use Rattle.model.specs.Rights.{Rights, within, has}
-use Rattle.model.specs.Qualified.{Qual, integer, array, declared, base, rights, element, isInteger, isArray, same}
-use Rattle.model.specs.Outcome.{Stop, wrong-kind, missing-right, Res, ok, stop, stuck, _>>=_, _>>_, ensure}
+use Rattle.model.specs.Qualified.{Qual, base, rights, element, isInteger, isArray, same}
+use Rattle.model.specs.Outcome.{wrong-kind, missing-right, Res, ok, stop, stuck, _>>=_, _>>_, ensure}
 
 pub data Mode : Type 0 where
   plain watched : Mode

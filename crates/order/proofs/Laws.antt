@@ -14,7 +14,7 @@ use Rattle.model.proofs.Verdicts.{both-true}
 use Rattle.sheet.specs.Layout.{qualsOf, baseOf, rightsOf, elementOf}
 use Rattle.sheet.specs.Meaning.{shaped, baseIn, elementIn, tree, qualOf}
 use Rattle.sheet.proofs.Laws.{base-qual, qual-integer, qual-array, none-qual}
-use Rattle.order.specs.Element.{ElementOf}
+use Rattle.order.specs.Inner.Element.{ElementOf}
 
 -- ---- trees
 -- a declared type's number is 2 or more, so that the base tells the three shapes apart

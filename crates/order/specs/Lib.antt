@@ -1,1 +1,1 @@
-pub mod Element
+pub mod Inner

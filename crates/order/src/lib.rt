@@ -14,7 +14,7 @@ ghost use Rattle.model.specs.Rules.{moves, owned-by};
 ghost use Rattle.sheet.specs.Bytes.{byteAt};
 ghost use Rattle.sheet.specs.Layout.{innerAt, slotOf, qualAt, qualsOf};
 ghost use Rattle.sheet.specs.Meaning.{elementIn, qualOf};
-ghost use Rattle.order.specs.Element.{ElementOf};
+ghost use Rattle.order.specs.Inner.Element.{ElementOf};
 
 // The QT number that declares a variable of the procedure at a place.
 pub fn inner_of(s: &[u8], pr: u32, x: u8) -> u8

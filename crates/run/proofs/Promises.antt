@@ -1,6 +1,6 @@
 -- What the answers come to: from condition 3, from what any run ends with, and from the numbers of the tests.
 use Prim.Native.Nat.{ℕ, _≤_}
-use mathlib.Core.Path.{_≡_, refl, sym, _∙_}
+use mathlib.Core.Path.{_≡_, refl}
 use mathlib.Core.Bool.{Bool, true, false, cond}
 use mathlib.Core.List.{List}
 use mathlib.Core.Logic.{_⊎_, inl, inr}
@@ -14,8 +14,9 @@ use Rattle.model.specs.Refusal.{Gives, verdict, big-memory, refusal-number}
 use Rattle.model.specs.Run.{End, stopped, stuck-at, run}
 use Rattle.model.specs.declared.Verdict.{Verdict}
 use Rattle.model.specs.declared.Verdict.the-variants.{Accepted, Refused}
-use Rattle.model.proofs.Plans.{Stops, Watching}
-use Rattle.model.proofs.Ends.{Way, run-ended}
+use Rattle.model.proofs.Plans.{Stops}
+use Rattle.model.proofs.AnyProgram.{watched-not-stuck}
+use Rattle.model.proofs.Ends.{run-ended}
 use Rattle.model.proofs.Numbers.{verdict-range}
 use Rattle.sheet.specs.Meaning.{programOf}
 use Rattle.form.specs.WellFormed.{form-tests}
@@ -23,7 +24,7 @@ use Rattle.form.proofs.Numbers.{form-range}
 use Rattle.checking.specs.Check.{check}
 use Rattle.checking.proofs.Numbers.{check-numbers}
 use Rattle.theorem.proofs.Condition3.{condition3-holds}
-use Rattle.run.specs.Run.{Answer, refuses, ends, end, memory-fits, verdict-before, answer-by, answer}
+use Rattle.run.specs.Run.{refuses, ends, end, memory-fits, verdict-before, answer-by, answer}
 use Rattle.run.specs.Promises.{WatchAsRun, Says, RunNumbers, WatchNumbers, Alike, AnyMemory, Words32}
 use Rattle.run.proofs.Laws.{formed-sheet}
 
@@ -34,19 +35,25 @@ ends-same : (sheet input : List ℕ) (fuel : ℕ) (memory output : List ℕ) (e 
 ends-same sheet input fuel memory output (stopped x n put p i) = refl
 ends-same sheet input fuel memory output (stuck-at n put p i) = refl
 
+module _ (sheet input : List ℕ) (fuel : ℕ) (memory output : List ℕ) where
+  same-end : check sheet ≡ Accepted → Words32 input → memory-fits plain sheet input fuel memory output ≡ true
+      → end watched sheet input fuel memory output ≡ end plain sheet input fuel memory output
+  unfolding end memory-fits
+  same-end a w h = condition3-holds sheet a (length memory) (leb-true (length memory) 65536 h) input output w fuel .agree
+
+  fits-same : memory-fits watched sheet input fuel memory output ≡ memory-fits plain sheet input fuel memory output
+  unfolding memory-fits
+  fits-same = refl
+
+  accepted-same : check sheet ≡ Accepted → Words32 input → (b : Bool) → memory-fits plain sheet input fuel memory output ≡ b
+      → answer-by watched sheet input fuel memory output Accepted ≡ answer-by plain sheet input fuel memory output Accepted
+  accepted-same a w true h = rw (fits-same, h, same-end a w h) (ends-same sheet input fuel memory output (end plain sheet input fuel memory output))
+  accepted-same a w false h = rw (fits-same, h)
+
 pub watch-as-run : WatchAsRun
 unfolding answer
-watch-as-run sheet input fuel memory output a w = rw (a, formed-sheet sheet a) (fit (memory-fits plain sheet input fuel memory output) refl)
-  where
-    same-end : memory-fits plain sheet input fuel memory output ≡ true → end watched sheet input fuel memory output ≡ end plain sheet input fuel memory output
-    unfolding end memory-fits
-    same-end h = condition3-holds sheet a (length memory) (leb-true (length memory) 65536 h) input output w fuel .agree
-
-    fit : (b : Bool) → memory-fits plain sheet input fuel memory output ≡ b
-        → answer-by watched sheet input fuel memory output Accepted ≡ answer-by plain sheet input fuel memory output Accepted
-    unfolding memory-fits
-    fit true e = rw (e, same-end e) (ends-same sheet input fuel memory output (end plain sheet input fuel memory output))
-    fit false e = rw e
+watch-as-run sheet input fuel memory output a w =
+    rw (a, formed-sheet sheet a) (accepted-same sheet input fuel memory output a w (memory-fits plain sheet input fuel memory output) refl)
 
 -- ---- which numbers
 
@@ -85,38 +92,42 @@ module _ (m : Mode) (sheet input : List ℕ) (fuel : ℕ) (memory output : List 
       fit true h = e refl h
       fit false h = t
 
+abbrev To17 : ℕ → Type 0
+To17 n = (1 ≤ n) × (n ≤ 17)
+
+plain-end : (sheet input : List ℕ) (fuel : ℕ) (memory output : List ℕ) → Words32 input → check sheet ≡ Accepted
+    → memory-fits plain sheet input fuel memory output ≡ true → (e : End) → end plain sheet input fuel memory output ≡ e
+    → Says To17 (ends plain sheet input fuel memory output e)
+unfolding end memory-fits
+plain-end sheet input fuel memory output w a h (stopped x n put p i) q =
+    stop-plain _ x (rw q at (run-ended plain (programOf sheet) (length memory) (length output) input fuel .way))
+plain-end sheet input fuel memory output w a h (stuck-at n put p i) q =
+    condition3-holds sheet a (length memory) (leb-true (length memory) 65536 h) input output w fuel .not-stuck n put p i q
+
 pub run-numbers : RunNumbers
 unfolding answer
 run-numbers sheet input fuel memory output w =
-    says plain sheet input fuel memory output (λ n. (1 ≤ n) × (n ≤ 17)) (check sheet)
+    says plain sheet input fuel memory output To17 (check sheet)
     (λ n at e. let g : Gives 1 9 (Refused n at) = rw e at (check-numbers sheet) in let l = g .0 in let h = g .1 in (omega arith, omega arith))
     (omega arith, omega arith)
-    (λ a h. at-end a h (end plain sheet input fuel memory output) refl)
-  where
-    at-end : check sheet ≡ Accepted → memory-fits plain sheet input fuel memory output ≡ true → (e : End) → end plain sheet input fuel memory output ≡ e
-        → Says (λ n. (1 ≤ n) × (n ≤ 17)) (ends plain sheet input fuel memory output e)
-    unfolding end memory-fits
-    at-end a h (stopped x n put p i) q =
-        let z = run-ended plain (programOf sheet) (length memory) (length output) input fuel .way in
-        stop-plain _ x (rw q at z)
-    at-end a h (stuck-at n put p i) q =
-        condition3-holds sheet a (length memory) (leb-true (length memory) 65536 h) input output w fuel .not-stuck n put p i q
+    (λ a h. plain-end sheet input fuel memory output w a h (end plain sheet input fuel memory output) refl)
+
+abbrev AllBut6To9 : ℕ → Type 0
+AllBut6To9 n = ((1 ≤ n) × (n ≤ 5)) ⊎ ((10 ≤ n) × (n ≤ 19))
+
+watched-end : (sheet input : List ℕ) (fuel : ℕ) (memory output : List ℕ) (e : End) → end watched sheet input fuel memory output ≡ e
+    → Says AllBut6To9 (ends watched sheet input fuel memory output e)
+unfolding end
+watched-end sheet input fuel memory output (stopped x n put p i) q = inr (stop-any x)
+watched-end sheet input fuel memory output (stuck-at n put p i) q = watched-not-stuck (programOf sheet) (length memory) (length output) input fuel n put p i q
 
 pub watch-numbers : WatchNumbers
 unfolding answer
 watch-numbers sheet input fuel memory output =
-    says watched sheet input fuel memory output (λ n. ((1 ≤ n) × (n ≤ 5)) ⊎ ((10 ≤ n) × (n ≤ 19))) (verdict (form-tests sheet))
+    says watched sheet input fuel memory output AllBut6To9 (verdict (form-tests sheet))
     (λ n at e. let g : Gives 1 5 (Refused n at) = rw e at (verdict-range 1 5 (form-tests sheet) (form-range sheet)) in inl g)
     (inr (omega arith, omega arith))
-    (λ a h. at-end (end watched sheet input fuel memory output) refl)
-  where
-    at-end : (e : End) → end watched sheet input fuel memory output ≡ e
-        → Says (λ n. ((1 ≤ n) × (n ≤ 5)) ⊎ ((10 ≤ n) × (n ≤ 19))) (ends watched sheet input fuel memory output e)
-    unfolding end
-    at-end (stopped x n put p i) q = inr (stop-any x)
-    at-end (stuck-at n put p i) q =
-        let z = run-ended watched (programOf sheet) (length memory) (length output) input fuel .way in
-        rw q at z
+    (λ a h. watched-end sheet input fuel memory output (end watched sheet input fuel memory output) refl)
 
 -- ---- whatever the memory holds
 

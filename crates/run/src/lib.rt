@@ -2,9 +2,9 @@
 use checking::check;
 use form::calls::well_formed;
 use model::Verdict;
-use sheet::places::places;
 use run_by_frames::Ended;
 use run_by_frames::run::run_in;
+use sheet::places::places;
 use words::clear;
 ghost use mathlib.Core.Path.{_≡_};
 ghost use mathlib.Core.Option.{some};

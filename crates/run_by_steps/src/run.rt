@@ -2,10 +2,10 @@
 use crate::Counted;
 use crate::Turn;
 use crate::step::step_by;
-use sheet::bytes::byte;
 use run_by_frames::Ended;
 use run_by_frames::run::ended;
 use run_by_frames::run::open_main;
+use sheet::bytes::byte;
 use writers::Registers;
 ghost use lib.ListN.{length};
 ghost use Prim.Native.Nat.{_≤_};

@@ -11,7 +11,7 @@ use lib.ListN.{length, getD, set, take, drop, length-take, length-drop}
 use lib.Seq.{getD-set-same, getD-set-other, getD-take, getD-drop, length-take-le}
 use borrow.Author.Count.{below-more}
 use borrow.Author.Tests.{leb-true, leb-false, le-leb, lt-leb, ltb-true, ltb-false, le-ltb, eqb-true}
-use Rattle.model.specs.Qualified.{Qual, integer, array, declared, base}
+use Rattle.model.specs.Qualified.{Qual, integer, array, base}
 use Rattle.model.proofs.Verdicts.{both-true}
 use Rattle.sheet.specs.Bytes.{byteAt, wholeAt, mark, markedAt}
 use Rattle.sheet.specs.Layout.{hd-mark, in-mark, qualsOf, rightsOf, elementOf, instructionAt, instructionsAt, procedureAt}
@@ -111,12 +111,6 @@ unfolding base shaped
 base-shaped zero r e = refl
 base-shaped (suc zero) r e = refl
 base-shaped (suc (suc t)) r e = refl
-
-shaped-declared : (b r : ℕ) (e : Qual) → 2 ≤ b → shaped b r e ≡ declared b r
-unfolding shaped
-shaped-declared zero r e h = absurd (omega arith)
-shaped-declared (suc zero) r e h = absurd (omega arith)
-shaped-declared (suc (suc t)) r e h = refl
 
 pub base-qual : (s : List ℕ) (j : ℕ) → base (qualOf s j) ≡ baseIn s j
 unfolding qualOf tree

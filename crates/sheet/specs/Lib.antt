@@ -1,7 +1,7 @@
 pub mod Bytes
 pub mod Layout
-pub mod Places
 pub mod Reader
 pub mod Instructions
 pub mod Decode
 pub mod Meaning
+pub mod Inner

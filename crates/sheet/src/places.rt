@@ -2,9 +2,9 @@
 use crate::bytes::byte;
 use crate::bytes::word;
 ghost use mathlib.Core.Path.{_≡_};
-ghost use Prim.Native.Nat.{_+_, _<_, _≤_};
-ghost use Rattle.sheet.specs.Layout.{typeAt, qualAt, variableAt, instructionAt, procedureAt, variablesAt, instructionsAt, qualsOf};
-ghost use Rattle.sheet.specs.Places.{Places};
+ghost use Prim.Native.Nat.{_+_, _<_};
+ghost use Rattle.sheet.specs.Layout.{typeAt, qualAt, variableAt, instructionAt};
+ghost use Rattle.sheet.specs.Inner.Places.{Places};
 
 // Where the TY of a type stands.
 pub fn type_at(t: u8) -> usize

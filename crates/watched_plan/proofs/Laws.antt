@@ -16,7 +16,7 @@ use Rattle.model.specs.Qualified.{Qual, integer, array, declared, rights, eleme
 use Rattle.model.specs.Outcome.{blank, past-end, wrong-kind, missing-right, Res, ok, stop, stuck, _>>=_, _>>_, ensure}
 use Rattle.model.specs.Program.{Program}
 use Rattle.model.specs.Modes.{watched, Kind, array-kind, amiss, demand, licence, is-of, fits, bind, bind-element}
-use Rattle.model.specs.Machine.{Value, word, object, Cell, empty, filled, Head, View, Effect, write, held, as-integer, array-head-of, record-head-of, array-at, record-at, declared-as, moved, give, gives, integers, one-integer, slot-there, plan, plan-fetch, plan-store, plan-size, plan-get, plan-set}
+use Rattle.model.specs.Machine.{Value, word, Cell, empty, filled, Head, View, Effect, write, held, as-integer, array-head-of, record-head-of, array-at, record-at, declared-as, moved, give, gives, integers, one-integer, slot-there, plan, plan-fetch, plan-store, plan-size, plan-get, plan-set}
 use Rattle.model.proofs.Verdicts.{both-true}
 use Rattle.model.proofs.Order.{same-refl}
 use Rattle.model.proofs.Rights.{within-refl, within-all}

@@ -10,8 +10,8 @@ use lib.Dec.{eqb}
 use lib.ListN.{getD, set, List·getD-map}
 use borrow.Author.Tests.{eqb-true, eqb-false, ne-eqb}
 use Rattle.model.specs.Qualified.{Qual}
-use Rattle.model.specs.Modes.{Mode, plain, Carried, ElementInfo, TypeInfo, carried, element-info, type-info}
-use Rattle.model.specs.Machine.{Value, word, object, Cell, empty, filled, array-head, record-head}
+use Rattle.model.specs.Modes.{Mode, ElementInfo, TypeInfo, carried, element-info, type-info}
+use Rattle.model.specs.Machine.{word, object, Cell, empty, filled, array-head, record-head}
 use Rattle.words.specs.Word.{low, tag, payload, pack, size-of, kind-of, Slot, cell, head, place, slot-in, as-cell, as-head}
 use Rattle.words.specs.Answer.{read-as}
 use Rattle.words.specs.Sees.{head-size}

@@ -2,31 +2,21 @@
 use Prim.Native.Nat.{ℕ, suc, _+_, _-_, _≤_, _<_}
 use native.Mathlib.Omega.{arith}
 use mathlib.Core.Path.{_≡_, refl, sym, ap, _∙_}
-use mathlib.Core.Bool.{cond}
 use mathlib.Core.List.{List, [], _∷_, _++_, map}
 use mathlib.Core.Option.{Option, none, some}
-use borrow.Author.Tests.{lt-ltb, le-ltb}
-use lib.Dec.{ltb}
 use lib.ListN.{length, getD, drop, length-append, length-map, length-drop, List·getD-map}
 use lib.Seq.{getD-drop, getD-at, getD-append-add, drop-drop, drop-append-add, length-take-le, take-at}
 use Rattle.model.specs.Modes.{Mode}
-use Rattle.model.specs.Machine.{Cell, empty, Object, cells-of, head-of, cell-of, find, Frame, frame, State, state, object-units, frame-units, view, caller-place, first-of}
+use Rattle.model.specs.Machine.{Cell, empty, Object, cells-of, head-of, cell-of, find, Frame, frame, State, state, object-units, frame-units, view, first-of}
 use Rattle.sheet.specs.Layout.{instructionAt, procedureAt}
 use Rattle.sheet.specs.Meaning.{qualOf}
-use Rattle.words.specs.Word.{low, payload, Slot, cell, place, slot-in, as-head}
+use Rattle.words.specs.Word.{Slot, cell, place, slot-in, as-head}
 use Rattle.words.specs.Sees.{head-size, heads-in}
-use Rattle.words.proofs.Laws.{slot-at, place-word}
+use Rattle.words.proofs.Laws.{slot-at}
 use Rattle.writers.specs.declared.Registers.{Registers}
 use Rattle.writers.specs.Memory.{Given, slots, object-part, frame-part, SeesIn, Stands, StandsFor, flat-objects, flat-frames}
 use Rattle.writers.proofs.Change.{map-take, map-drop}
 use Rattle.writers.proofs.Flat.{size-is, heads, cells-at, length-objects, length-frames}
-
--- the place of the frame that waits stands after the running frame's variables; main's frame is the last of the memory
-abbrev pub caller-in : (words : List ℕ) (base variables : ℕ) → Option (ℕ × ℕ)
-caller-in words base variables =
-    cond (ltb (base + (variables + 2)) (length words))
-    (some (payload (getD words (base + variables) 0), low (getD words (base + variables) 0)))
-    none
 
 module _ {m : Mode} {c : Given} {words out : List ℕ} {r : Registers} {p i : ℕ} {vs : List (Cell m)} {fs : List (Frame m)} {os : List (Object m)}
     {input put : List ℕ} (S : Stands m c words out r p i vs fs os input put) where
@@ -90,14 +80,6 @@ alone S =
 
 module _ {m : Mode} {c : Given} {words out : List ℕ} {r : Registers} {p i q k : ℕ} {vs us : List (Cell m)} {fs : List (Frame m)} {os : List (Object m)}
     {input put : List ℕ} (S : Stands m c words out r p i vs (frame q k us ∷ fs) os input put) where
-  pub waiting-there : r .base + (r .variables + 2) < length words
-  unfolding frame-units
-  waiting-there =
-      let l = frames-are S in
-      let v = S .variables in
-      let s = S .sane .frame in
-      omega arith
-
   -- its place stands after the running frame's variables
   pub waiting-place : slot-in m (qualOf (c .sheet)) (getD words (r .base + r .variables) 0) ≡ place q k
   unfolding flat-frames
@@ -124,13 +106,6 @@ module _ {m : Mode} {c : Given} {words out : List ℕ} {r : Registers} {p i q k 
       sym (drop-drop (r .variables + 2) (r .base) (slots m c words))
       ∙ rw (S .frames, n) (drop-append-add (map cell vs) (flat-frames (c .sheet) (frame q k us ∷ fs)) 2)
 
-pub caller-is-in : {m : Mode} {c : Given} {words out : List ℕ} {r : Registers} {p i : ℕ} {vs : List (Cell m)} (fs : List (Frame m)) {os : List (Object m)}
-    {input put : List ℕ} → Stands m c words out r p i vs fs os input put → caller-place fs ≡ caller-in words (r .base) (r .variables)
-caller-is-in {words = words} {r = r} [] S = rw (le-ltb (r .base + (r .variables + 2)) (length words) (alone S))
-caller-is-in {m} {c} {words = words} {r = r} (frame q k us ∷ fs) S =
-    let w = place-word m (qualOf (c .sheet)) _ (waiting-place S) in
-    rw (lt-ltb (r .base + (r .variables + 2)) (length words) (waiting-there S), w .0, w .1)
-
 -- ---- the same of any state
 
 module _ (m : Mode) (c : Given) (words out : List ℕ) (r : Registers) where
@@ -152,9 +127,3 @@ module _ (m : Mode) (c : Given) (words out : List ℕ) (r : Registers) where
 
   pub next-input-is : (t : State m) → StandsFor m c words out r t → first-of (drop (r .taken) (c .input)) ≡ (view (length words) (length out) t) .next-input
   next-input-is (state (frame p i vs) fs os input put) S = rw (S .input-left)
-
-  pub caller-is : (t : State m) → StandsFor m c words out r t → caller-in words (r .base) (r .variables) ≡ (view (length words) (length out) t) .caller
-  caller-is (state (frame p i vs) fs os input put) S = sym (caller-is-in fs S)
-
-  pub procedure-is : (t : State m) → StandsFor m c words out r t → r .procedure ≡ (view (length words) (length out) t) .procedure
-  procedure-is (state (frame p i vs) fs os input put) S = S .procedure

@@ -8,7 +8,7 @@ use Rattle.sheet.specs.Meaning.{programOf}
 use Rattle.form.specs.WellFormed.{form-tests}
 use Rattle.model.proofs.Verdicts.{stop-here, go-on}
 use Rattle.form.proofs.WellFormed.{form-small, callee-below}
-use Rattle.access.specs.Callees.{CalleesAt}
+use Rattle.access.specs.Inner.Callees.{CalleesAt}
 use Rattle.checking.specs.Check.{check-tests, check}
 use Rattle.checking.proofs.check.Statement.{statement}
 use Rattle.checking.proofs.check.Tie as tie

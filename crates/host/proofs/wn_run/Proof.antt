@@ -1,4 +1,3 @@
-use mathlib.Core.Path.{sym, _∙_, ap}
 use borrow.Author.Needs.{needs}
 use Rattle.host.proofs.wn_run.Statement.{statement}
 use Rattle.host.proofs.wn_run.Tie as tie

@@ -1,4 +1,3 @@
-use mathlib.Core.Path.{sym, _∙_, ap}
 use borrow.Author.Needs.{needs}
 use Rattle.host_watch.proofs.wn_watch.Statement.{statement}
 use Rattle.host_watch.proofs.wn_watch.Tie as tie

@@ -6,7 +6,7 @@ use Rattle.model.specs.Rules.{instruction-rules}
 use Rattle.model.proofs.Verdicts.{Passing, pass-start, pass-next, pass-stop, pass-end}
 use Rattle.sheet.specs.Layout.{instructionsAt}
 use Rattle.sheet.specs.Meaning.{programOf}
-use Rattle.access.specs.Callees.{CalleesAt}
+use Rattle.access.specs.Inner.Callees.{CalleesAt}
 use Rattle.access.proofs.passes.instructions_access.Statement.{statement}
 use Rattle.access.proofs.passes.instructions_access.Tie as tie
 

@@ -6,7 +6,7 @@ use native.Mathlib.Omega.{arith}
 use lib.ListN.{length, getD, length-set}
 use borrow.Author.Needs.{needs}
 use Rattle.sheet.specs.Layout.{proceduresOf, procedureAt, qualsOf, instructionsAt, instructionAt}
-use Rattle.sheet.specs.Places.{Places}
+use Rattle.sheet.specs.Inner.Places.{Places}
 use Rattle.sheet.proofs.Laws.{both-below, one-passed, filled-more, procedure-next}
 use Rattle.sheet.proofs.places.places.Statement.{statement}
 use Rattle.sheet.proofs.places.places.Tie as tie

@@ -2,7 +2,7 @@
 use Prim.Native.Nat.{ℕ, _≤_}
 use mathlib.Core.List.{List}
 use Rattle.sheet.specs.Layout.{proceduresOf}
-use Rattle.sheet.specs.Places.{Places}
+use Rattle.sheet.specs.Inner.Places.{Places}
 
 pub record Ready (s table : List ℕ) : Type 0 where
   pub few : proceduresOf s ≤ 64
