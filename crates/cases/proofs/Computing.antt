@@ -12,7 +12,7 @@ use Rattle.sheet.specs.Layout.{editionOf, typesOf, qualsOf, proceduresOf, typeA
 use Rattle.sheet.specs.Instructions.{table, line-in}
 use Rattle.sheet.specs.Decode.{operation-by, decode, operationAt}
 use Rattle.sheet.specs.Meaning.{shaped, baseIn, elementIn, tree, qualOf, slotIn, innerIn, needIn, resultIn}
-use Rattle.form.specs.Scale.{below-or-none, header-scale, type-scale, rights-scale, qual-scale, procedure-scale, variable-scale, operand-limits, constant-limits, home-limits, line-limits, line-scale, instruction-scale, actuals-scale}
+use Rattle.limits.specs.Scale.{below-or-none, header-scale, type-scale, rights-scale, qual-scale, procedure-scale, variable-scale, operand-limits, constant-limits, home-limits, line-limits, line-scale, instruction-scale, actuals-scale}
 use Rattle.form.specs.WellFormed.{length-tests, record-tests, header-tests, type-tests, qual-tests, head-tests, variable-tests, instruction-tests-at, instruction-tests, procedure-tests-at, procedure-tests, leftover-tests, layout-tests, call-tests-at, call-tests, procedure-calls, calls-tests, form-tests}
 use Rattle.checking.specs.Check.{check-tests, check}
 use Rattle.run.specs.Run.{end, memory-fits, answer}

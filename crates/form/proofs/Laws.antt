@@ -17,8 +17,8 @@ use Rattle.sheet.specs.Layout.{hd-mark, editionOf, typesOf, qualsOf, qualAt, pr
 use Rattle.sheet.specs.Inner.Places.{Places}
 use Rattle.sheet.specs.Reader.{recordAt, pastAt, leftAt}
 use Rattle.sheet.proofs.Laws.{whole-true, record-inside, record-byte, hd-sized}
-use Rattle.form.specs.declared.scale.Limits.{Limits}
-use Rattle.form.specs.Scale.{all-below, below-or-none, header-scale, actuals-scale}
+use Rattle.limits.specs.declared.Limits.{Limits}
+use Rattle.limits.specs.Scale.{all-below, below-or-none, header-scale, actuals-scale}
 use Rattle.form.specs.WellFormed.{length-tests, record-tests, header-tests, layout-tests, limitsAt, instruction-tests-at, instruction-tests, call-tests-at, call-tests}
 
 -- ---- single tests

@@ -12,7 +12,7 @@ use Rattle.model.proofs.Verdicts.{left-accepted, right-accepted, each-accepted,
 use Rattle.sheet.specs.Layout.{pr-mark, in-mark, typesOf, qualsOf, proceduresOf, ownerAt, formalsAt, variablesAt, resultAt, instructionsAt, instructionAt, procedureAt}
 use Rattle.sheet.specs.Reader.{recordAt, pastAt}
 use Rattle.sheet.proofs.Laws.{in-sized, record-sized, procedure-next}
-use Rattle.form.specs.Scale.{procedure-scale}
+use Rattle.limits.specs.Scale.{procedure-scale}
 use Rattle.form.specs.WellFormed.{head-tests, variable-tests, instruction-tests-at, instruction-tests, procedure-tests-at, procedure-tests}
 use Rattle.form.proofs.Laws.{record-formed, record-marked}
 

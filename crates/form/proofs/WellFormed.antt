@@ -19,8 +19,8 @@ use Rattle.sheet.specs.Instructions.{Line, table, line-of}
 use Rattle.sheet.specs.Decode.{unlisted, operation-by, decode, fieldsAt, operationAt}
 use Rattle.sheet.specs.declared.decode.Fields.{Fields}
 use Rattle.sheet.proofs.Instructions.{by-line}
-use Rattle.form.specs.declared.scale.Limits.{Limits}
-use Rattle.form.specs.Scale.{all-below, below-or-none, type-scale, rights-scale, qual-scale, procedure-scale, variable-scale, line-limits, line-scale, instruction-scale, actuals-scale}
+use Rattle.limits.specs.declared.Limits.{Limits}
+use Rattle.limits.specs.Scale.{all-below, below-or-none, type-scale, rights-scale, qual-scale, procedure-scale, variable-scale, line-limits, line-scale, instruction-scale, actuals-scale}
 use Rattle.form.specs.WellFormed.{length-tests, header-tests, type-tests, qual-tests, variable-tests, limitsAt, instruction-tests-at, instruction-tests, procedure-tests, leftover-tests, layout-tests, call-tests-at, call-tests, procedure-calls, calls-tests, form-tests}
 use Rattle.form.proofs.Laws.{all-below-true, due-below, record-formed, header-small}
 use Rattle.form.proofs.Procedures.{variables-accepted, instructions-accepted, head-whole, head-true, some-instruction}

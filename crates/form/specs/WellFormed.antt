@@ -9,8 +9,8 @@ use Rattle.model.specs.Refusal.{overlong, torn, stray-mark, bad-edition, off-sc
 use Rattle.sheet.specs.Bytes.{byteAt, wholeAt, Mark, markedAt}
 use Rattle.sheet.specs.Layout.{hd-mark, ty-mark, qt-mark, pr-mark, vr-mark, in-mark, hd-size, ty-size, qt-size, pr-size, vr-size, in-size, editionOf, typesOf, qualsOf, proceduresOf, typeAt, namedOf, slotsOf, slotOf, qualAt, baseOf, rightsOf, elementOf, ownerAt, formalsAt, variablesAt, resultAt, instructionsAt, variableAt, innerAt, needAt, instructionAt, codeAt, kAt, procedureAt}
 use Rattle.sheet.specs.Decode.{fieldsAt}
-use Rattle.form.specs.declared.scale.Limits.{Limits}
-use Rattle.form.specs.Scale.{header-scale, type-scale, qual-scale, procedure-scale, variable-scale, instruction-scale, actuals-scale}
+use Rattle.limits.specs.declared.Limits.{Limits}
+use Rattle.limits.specs.Scale.{header-scale, type-scale, qual-scale, procedure-scale, variable-scale, instruction-scale, actuals-scale}
 
 -- 1: "more than 32,768 bytes"
 unfoldable pub length-tests : List ℕ → List Tests

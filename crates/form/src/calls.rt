@@ -1,6 +1,6 @@
 // The limits of a call that wait for the procedure called.
 use crate::layout::layout;
-use crate::scale::actuals_scale;
+use limits::actuals_scale;
 use model::Verdict;
 use sheet::bytes::byte;
 use sheet::bytes::word;

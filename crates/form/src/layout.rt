@@ -5,7 +5,7 @@ use crate::records::instruction_record;
 use crate::records::qual_record;
 use crate::records::type_record;
 use crate::records::variable_record;
-use crate::scale::Limits;
+use limits::Limits;
 use model::Verdict;
 use reader::left_after;
 use sheet::bytes::byte;

@@ -1,5 +1,4 @@
 // Well-formedness: refusals 1 to 5.
-pub mod scale; // the limits of each record's fields
 pub mod records; // one record of each kind
 pub mod layout; // all records in their order, and bytes left over
 pub mod calls; // the limits that wait for the procedure called

@@ -1,11 +1,11 @@
 // One record of each kind: whole, under its mark, within its limits.
-use crate::scale::Limits;
-use crate::scale::below_or_none;
-use crate::scale::header_scale;
-use crate::scale::instruction_scale;
-use crate::scale::procedure_scale;
-use crate::scale::qual_scale;
-use crate::scale::variable_scale;
+use limits::Limits;
+use limits::below_or_none;
+use limits::header_scale;
+use limits::instruction_scale;
+use limits::procedure_scale;
+use limits::qual_scale;
+use limits::variable_scale;
 use model::Verdict;
 use reader::first_record;
 use sheet::bytes::byte;
@@ -22,7 +22,7 @@ ghost use lib.Dec.{ltb};
 ghost use lib.ListN.{length};
 ghost use Rattle.model.specs.Refusal.{verdict};
 ghost use Rattle.sheet.specs.Bytes.{byteAt, mark};
-ghost use Rattle.form.specs.Scale.{below-or-none, type-scale};
+ghost use Rattle.limits.specs.Scale.{below-or-none, type-scale};
 ghost use Rattle.form.specs.WellFormed.{record-tests, header-tests, type-tests, qual-tests, head-tests, variable-tests, instruction-tests-at};
 
 // A record of a size under its mark: 2, 3 or 5, in this order.

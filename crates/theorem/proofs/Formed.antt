@@ -17,7 +17,7 @@ use Rattle.sheet.specs.Instructions.{Line, table, line-in, line-of}
 use Rattle.sheet.specs.Decode.{unlisted, operation-by, decode, operationAt}
 use Rattle.sheet.proofs.Instructions.{by-line}
 use Rattle.sheet.specs.Meaning.{innerIn, programOf}
-use Rattle.form.specs.Scale.{operand-limits, constant-limits, home-limits, line-limits}
+use Rattle.limits.specs.Scale.{operand-limits, constant-limits, home-limits, line-limits}
 use Rattle.form.specs.WellFormed.{limitsAt, form-tests}
 use Rattle.form.proofs.WellFormed.{fields-in, form-small, instructions-some, formals-first, owner-kind, inner-below, limits-held, last-returns, call-below}
 

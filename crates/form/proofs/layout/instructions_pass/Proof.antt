@@ -6,7 +6,7 @@ use borrow.Author.Needs.{needs}
 use Rattle.model.specs.Refusal.{verdict}
 use Rattle.model.proofs.Verdicts.{Passing, pass-start, pass-next, pass-stop, pass-end}
 use Rattle.form.proofs.Laws.{instruction-from, instruction-here}
-use Rattle.form.specs.declared.scale.Limits.{Limits}
+use Rattle.limits.specs.declared.Limits.{Limits}
 use Rattle.form.specs.WellFormed.{instruction-tests}
 use Rattle.form.proofs.layout.instructions_pass.Statement.{statement}
 use Rattle.form.proofs.layout.instructions_pass.Tie as tie

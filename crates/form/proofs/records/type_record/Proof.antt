@@ -7,7 +7,7 @@ use borrow.Author.Needs.{needs}
 use Rattle.model.specs.Refusal.{Tests}
 use Rattle.sheet.specs.Bytes.{byteAt}
 use Rattle.sheet.specs.Layout.{ty-mark, typeAt, qualsOf, namedOf, slotsOf, slotOf}
-use Rattle.form.specs.Scale.{type-scale}
+use Rattle.limits.specs.Scale.{type-scale}
 use Rattle.form.specs.WellFormed.{record-tests, type-tests}
 use Rattle.form.proofs.records.type_record.Statement.{statement}
 use Rattle.form.proofs.records.type_record.Tie as tie

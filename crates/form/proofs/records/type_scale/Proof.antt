@@ -1,7 +1,7 @@
 -- The code is the definition, with what the calls ensure in place of their results.
 use borrow.Author.Needs.{needs}
 use Rattle.model.specs.Refusal.{all-from}
-use Rattle.form.specs.Scale.{type-scale}
+use Rattle.limits.specs.Scale.{type-scale}
 use Rattle.form.proofs.records.type_scale.Statement.{statement}
 use Rattle.form.proofs.records.type_scale.Tie as tie
 

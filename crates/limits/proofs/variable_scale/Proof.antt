@@ -1,9 +1,9 @@
 -- The code is the definition, with what the calls ensure in place of their results.
 use borrow.Author.Needs.{needs}
 use Rattle.model.specs.Refusal.{all-from}
-use Rattle.form.specs.Scale.{variable-scale}
-use Rattle.form.proofs.scale.variable_scale.Statement.{statement}
-use Rattle.form.proofs.scale.variable_scale.Tie as tie
+use Rattle.limits.specs.Scale.{variable-scale}
+use Rattle.limits.proofs.variable_scale.Statement.{statement}
+use Rattle.limits.proofs.variable_scale.Tie as tie
 
 below-or-none-requires : tie.Need-below-or-none-requires
 below-or-none-requires c κs = search needs

@@ -5,7 +5,7 @@ use sheet::decode::Fields;
 ghost use mathlib.Core.Path.{_≡_};
 ghost use mathlib.Core.Bool.{cond};
 ghost use Rattle.sheet.specs.Instructions.{line-of};
-ghost use Rattle.form.specs.Scale.{below-or-none, header-scale, rights-scale, qual-scale, procedure-scale, variable-scale, line-scale, instruction-scale, actuals-scale};
+ghost use Rattle.limits.specs.Scale.{below-or-none, header-scale, rights-scale, qual-scale, procedure-scale, variable-scale, line-scale, instruction-scale, actuals-scale};
 
 pub fn pick(t: bool, a: bool, b: bool) -> bool
     ensures { λ r. ⌜ r ≡ cond t a b ⌝ }

@@ -1,9 +1,9 @@
 -- The code is the definition.
 use mathlib.Core.Path.{refl}
 use Rattle.model.specs.Refusal.{all-from}
-use Rattle.form.specs.Scale.{header-scale}
-use Rattle.form.proofs.scale.header_scale.Statement.{statement}
-use Rattle.form.proofs.scale.header_scale.Tie as tie
+use Rattle.limits.specs.Scale.{header-scale}
+use Rattle.limits.proofs.header_scale.Statement.{statement}
+use Rattle.limits.proofs.header_scale.Tie as tie
 
 returns : tie.Need-returns
 unfolding header-scale all-from

@@ -1,8 +1,8 @@
 -- The code is the definition, with what the call ensures in place of its result.
-use Rattle.form.specs.Scale.{instruction-scale}
+use Rattle.limits.specs.Scale.{instruction-scale}
 use borrow.Author.Needs.{needs}
-use Rattle.form.proofs.scale.instruction_scale.Statement.{statement}
-use Rattle.form.proofs.scale.instruction_scale.Tie as tie
+use Rattle.limits.proofs.instruction_scale.Statement.{statement}
+use Rattle.limits.proofs.instruction_scale.Tie as tie
 
 add-last : tie.Need-add-last
 add-last c = search needs

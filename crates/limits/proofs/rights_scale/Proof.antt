@@ -1,8 +1,8 @@
 -- The code is the definition, with what the calls ensure in place of their results.
 use borrow.Author.Needs.{needs}
-use Rattle.form.specs.Scale.{rights-scale}
-use Rattle.form.proofs.scale.rights_scale.Statement.{statement}
-use Rattle.form.proofs.scale.rights_scale.Tie as tie
+use Rattle.limits.specs.Scale.{rights-scale}
+use Rattle.limits.proofs.rights_scale.Statement.{statement}
+use Rattle.limits.proofs.rights_scale.Tie as tie
 
 is-within-requires : tie.Need-is-within-requires
 is-within-requires c κs = search needs

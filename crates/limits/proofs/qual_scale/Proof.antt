@@ -1,9 +1,9 @@
 -- The code is the definition, with what the calls ensure in place of their results.
 use borrow.Author.Needs.{needs}
 use Rattle.model.specs.Refusal.{all-from}
-use Rattle.form.specs.Scale.{qual-scale}
-use Rattle.form.proofs.scale.qual_scale.Statement.{statement}
-use Rattle.form.proofs.scale.qual_scale.Tie as tie
+use Rattle.limits.specs.Scale.{qual-scale}
+use Rattle.limits.proofs.qual_scale.Statement.{statement}
+use Rattle.limits.proofs.qual_scale.Tie as tie
 
 add-result : tie.Need-add-result
 add-result c = search needs

@@ -2,9 +2,9 @@
 use mathlib.Core.Path.{refl}
 use borrow.Author.Needs.{needs}
 use Rattle.model.specs.Refusal.{all-from}
-use Rattle.form.specs.Scale.{procedure-scale}
-use Rattle.form.proofs.scale.procedure_scale.Statement.{statement}
-use Rattle.form.proofs.scale.procedure_scale.Tie as tie
+use Rattle.limits.specs.Scale.{procedure-scale}
+use Rattle.limits.proofs.procedure_scale.Statement.{statement}
+use Rattle.limits.proofs.procedure_scale.Tie as tie
 
 add-result : tie.Need-add-result
 add-result c = search needs

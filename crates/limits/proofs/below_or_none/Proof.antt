@@ -1,8 +1,8 @@
 -- The code is the definition, with what the calls ensure in place of their results.
 use borrow.Author.Needs.{needs}
-use Rattle.form.specs.Scale.{below-or-none}
-use Rattle.form.proofs.scale.below_or_none.Statement.{statement}
-use Rattle.form.proofs.scale.below_or_none.Tie as tie
+use Rattle.limits.specs.Scale.{below-or-none}
+use Rattle.limits.proofs.below_or_none.Statement.{statement}
+use Rattle.limits.proofs.below_or_none.Tie as tie
 
 pick-requires : tie.Need-pick-requires
 pick-requires c κs = search needs

@@ -1,8 +1,8 @@
 -- The code is the definition, with what the calls ensure in place of their results.
 use borrow.Author.Needs.{needs}
-use Rattle.form.specs.Scale.{actuals-scale}
-use Rattle.form.proofs.scale.actuals_scale.Statement.{statement}
-use Rattle.form.proofs.scale.actuals_scale.Tie as tie
+use Rattle.limits.specs.Scale.{actuals-scale}
+use Rattle.limits.proofs.actuals_scale.Statement.{statement}
+use Rattle.limits.proofs.actuals_scale.Tie as tie
 
 add-pick : tie.Need-add-pick
 add-pick c = search needs
