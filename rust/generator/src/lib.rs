@@ -14,6 +14,7 @@
 
 pub mod accepted;
 pub mod body;
+pub mod bounds;
 pub mod breach;
 pub mod damage;
 pub mod handwritten;
