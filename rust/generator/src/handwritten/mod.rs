@@ -12,6 +12,7 @@ mod precedence;
 pub mod runs;
 
 use crate::sheet::Sheet;
+pub use known::SMALLEST;
 use reference::Verdict;
 
 pub struct Case {
