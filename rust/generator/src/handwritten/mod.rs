@@ -2,11 +2,13 @@
 //! and the verdict written out.
 
 mod catalogue;
+mod depths;
 mod forms;
 mod kinds;
 mod known;
 mod layout;
 mod movements;
+mod numbers;
 mod open;
 mod precedence;
 pub mod runs;
@@ -32,6 +34,8 @@ pub fn cases() -> Vec<Case> {
     all.extend(movements::cases());
     all.extend(forms::cases());
     all.extend(precedence::cases());
+    all.extend(depths::cases());
+    all.extend(numbers::cases());
     all
 }
 
