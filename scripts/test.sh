@@ -65,6 +65,7 @@ mkdir -p build/log
 
 stage acceptance last_line scripts/check-acceptance || true
 stage layers last_line scripts/draw-layers check || true
+stage breaks last_line scripts/break-reference check || true
 stage proofs last_line rt ci || true
 if stage build no_count make --no-print-directory lib checker command host; then
     stage axioms last_line scripts/count-axioms || true

@@ -2,7 +2,9 @@
 //! exceed the bench's words", "index ≥ size".
 
 use super::{bound, boundaries, integers, lent, made, seen, Bound, Family, Seen, Turns, INT};
-use crate::operations::{call, fetch, leave, new_array, put, set, size, store, take};
+use crate::operations::{
+    call, fetch, jump_if_zero, leave, new_array, put, set, size, store, subtract, take,
+};
 use crate::records::{InstructionRecord, ARRAY_ALL, NONE};
 use crate::runs::Run;
 use crate::sheet::Procedure;
@@ -177,4 +179,37 @@ fn the_last_units(turns: &mut Turns) -> Bound {
     run.input.push(first as u32);
     run.memory_words = words;
     bound(run, seen(words, 0, if lacking == 0 { 11 } else { 17 }))
+}
+
+pub const OBJECTS: Family = Family {
+    name: "objects",
+    count: || EARLIER.len(),
+    bound: the_last_object,
+    due: || EARLIER.iter().map(|&count| seen(count, 0, 11)).collect(),
+};
+
+/// How many objects are there before the last one.
+const EARLIER: [usize; 11] = [0, 1, 127, 128, 255, 256, 257, 511, 4_096, 32_767, 32_768];
+
+/// Arrays without a cell, and after them one of a cell, whose size is put.
+fn the_last_object(turns: &mut Turns) -> Bound {
+    let count = turns.pick(&EARLIER);
+    let body = [
+        take(0),
+        set(1, 1),
+        set(2, 0),
+        jump_if_zero(0, 7),
+        new_array(3, 2),
+        subtract(0, 0, 1),
+        jump_if_zero(2, 3),
+        new_array(3, 1),
+        size(2, 3),
+        put(2),
+        leave(),
+    ];
+    let mut run = run(3, &body, 0);
+    run.input.push(count as u32);
+    run.fuel = 1_000_000;
+    run.memory_words = 6 + count + 2;
+    bound(run, seen(count, 0, 11))
 }

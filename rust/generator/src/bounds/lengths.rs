@@ -43,8 +43,8 @@ pub const FUEL: Family = Family {
     },
 };
 
-const ENDLESS: [u64; 10] = [
-    255, 256, 257, 511, 32_768, 65_535, 65_536, 65_537, 131_073, 1_000_000,
+const ENDLESS: [u64; 11] = [
+    255, 256, 257, 511, 32_768, 65_535, 65_536, 65_537, 131_073, 1_000_000, 16_777_217,
 ];
 
 /// Around every power of two for three steps, and a loop that is cut.

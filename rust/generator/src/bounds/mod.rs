@@ -62,14 +62,14 @@ impl Family {
     }
 }
 
-pub const FAMILIES: [Family; 16] = [
+/// Those that take many steps come last.
+pub const FAMILIES: [Family; 17] = [
     levels::LEVELS,
     values::VALUES,
     arrays::SIZES,
     arrays::INDEXES,
     arrays::ROOM,
     lengths::LENGTHS,
-    lengths::FUEL,
     targets::TARGETS,
     types::TYPES,
     types::SLOTS,
@@ -79,6 +79,8 @@ pub const FAMILIES: [Family; 16] = [
     rights::NAMED,
     fields::QUALIFIED,
     fields::VARIABLES,
+    arrays::OBJECTS,
+    lengths::FUEL,
 ];
 
 /// A position, taken apart into one choice after the other.
