@@ -3,7 +3,7 @@
 
 use comparison::workers::on_all_processors;
 use comparison::{agreed, agreed_run, agreed_watch};
-use generator::bounds::{Bound, Family, Seen, FAMILIES};
+use generator::bounds::{level_of, Bound, Family, Seen, FAMILIES, LEVELS};
 use reference::Verdict;
 use std::collections::BTreeMap;
 
@@ -65,5 +65,19 @@ fn engines_agree_at_every_limit() {
         let due = (family.due)().into_iter();
         let lacking: Vec<Seen> = due.filter(|seen| !counts.contains_key(seen)).collect();
         assert!(lacking.is_empty(), "{name}: never {lacking:?}");
+    }
+}
+
+/// Types that are equal for two levels of elements or more and differ below
+/// come up in every use that check refuses, and not by luck.
+#[test]
+fn types_differ_in_the_third_level_and_deeper() {
+    let counts = compare_family(&LEVELS);
+    for check in [7, 8] {
+        let refused = counts.iter().filter(|(seen, _)| seen.check == check);
+        let deep = refused.filter(|(seen, _)| level_of(seen) >= 3);
+        let pairs: usize = deep.map(|(_, count)| count).sum();
+        println!("{pairs} pairs refused with {check}");
+        assert!(pairs >= 450, "only {pairs} pairs refused with {check}");
     }
 }

@@ -1,7 +1,6 @@
 //! The lengths of input and output, and fuel: "fuel and steps 64" bits.
 
-use super::values::of_integers;
-use super::{bound, lent, seen, Bound, Family, Seen, Turns};
+use super::{bound, lent, of_integers, seen, Bound, Family, Seen, Turns};
 use crate::operations::{jump_if_zero, leave, put, set, take};
 
 pub const LENGTHS: Family = Family {

@@ -104,6 +104,11 @@ fn at(difference: Difference, level: usize) -> usize {
     100 * difference as usize + level
 }
 
+/// The level of elements in which the types of this family first differ.
+pub fn level_of(seen: &Seen) -> u64 {
+    seen.at % 100
+}
+
 fn due() -> Vec<Seen> {
     let mut all = Vec::new();
     for level in 1..=DEEPEST {

@@ -20,7 +20,8 @@ mod values;
 use crate::operations::{add, set};
 use crate::records::InstructionRecord;
 use crate::runs::Run;
-use crate::sheet::{Sheet, SheetBuilder};
+use crate::sheet::{Procedure, Sheet, SheetBuilder};
+pub use levels::{level_of, LEVELS};
 
 /// A run at a limit.
 pub struct Bound {
@@ -64,7 +65,7 @@ impl Family {
 
 /// Those that take many steps come last.
 pub const FAMILIES: [Family; 17] = [
-    levels::LEVELS,
+    LEVELS,
     values::VALUES,
     arrays::SIZES,
     arrays::INDEXES,
@@ -122,6 +123,12 @@ fn bound(run: Run, seen: Seen) -> Bound {
 /// A sheet whose first qualified type is the integer.
 fn integers() -> SheetBuilder {
     SheetBuilder::new().integer()
+}
+
+/// The integer alone, and main with so many of it.
+fn of_integers(variables: usize, body: &[InstructionRecord]) -> Sheet {
+    let main = Procedure::main().variables(&vec![INT; variables]);
+    integers().procedure(main.body(body)).build()
 }
 
 /// The number made of its halves by sums, since a set has 16 bits only.

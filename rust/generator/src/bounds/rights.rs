@@ -62,31 +62,12 @@ fn one_right_of_all(turns: &mut Turns) -> Bound {
 
 fn sheet(right: usize, user: Use) -> Sheet {
     let all = !OPEN;
-    let (main_types, body): (&[u8], &[InstructionRecord]) = match user {
-        Use::Lacking => (
-            &[ALL, WITHOUT, ALONE],
-            &[call(0, NONE, 1), bind(1, 0), bind(2, 1)],
-        ),
-        Use::Having => (
-            &[ALL, ALONE, ALONE],
-            &[call(0, NONE, 1), bind(1, 0), bind(2, 1)],
-        ),
-        Use::New => (&[ALONE], &[call(0, NONE, 1)]),
-        Use::Element => (
-            &[INT, ARRAY, ARRAY_WITHOUT],
-            &[set(0, 0), new_array(1, 0), bind(2, 1)],
-        ),
-        Use::ElementBack => (
-            &[INT, ARRAY_WITHOUT, ARRAY],
-            &[set(0, 0), new_array(1, 0), bind(2, 1)],
-        ),
-        Use::Need => (&[ALL], &[call(0, NONE, 1), call(NONE, 0, 2)]),
-    };
-    let main = Procedure::main().variables(main_types).body(body);
     let need = match user {
         Use::Need => ALL,
         _ => WITHOUT,
     };
+    let maker = Procedure::new(2, ALL).variable(ALL);
+    let needs = Procedure::new(0, NONE).formal(WITHOUT, need);
     SheetBuilder::new()
         .record_type(15, &[])
         .integer()
@@ -95,18 +76,29 @@ fn sheet(right: usize, user: Use) -> Sheet {
         .record(2, 1 << right)
         .array(ALL, ARRAY_ALL)
         .array(WITHOUT, ARRAY_ALL)
-        .procedure(main.body(&[leave()]))
-        .procedure(
-            Procedure::new(2, ALL)
-                .variable(ALL)
-                .body(&[new_record(0), give_back(0)]),
-        )
-        .procedure(
-            Procedure::new(0, NONE)
-                .formal(WITHOUT, need)
-                .body(&[leave()]),
-        )
+        .procedure(main(user))
+        .procedure(maker.body(&[new_record(0), give_back(0)]))
+        .procedure(needs.body(&[leave()]))
         .build()
+}
+
+/// Gets a record from procedure 1, or makes an array.
+fn main(user: Use) -> Procedure {
+    let gets = [call(0, NONE, 1), bind(1, 0), bind(2, 1)];
+    let makes = [set(0, 0), new_array(1, 0), bind(2, 1)];
+    let hands = [call(0, NONE, 1), call(NONE, 0, 2)];
+    let (inners, body): (&[u8], &[InstructionRecord]) = match user {
+        Use::Lacking => (&[ALL, WITHOUT, ALONE], &gets),
+        Use::Having => (&[ALL, ALONE, ALONE], &gets),
+        Use::New => (&[ALONE], &gets[..1]),
+        Use::Element => (&[INT, ARRAY, ARRAY_WITHOUT], &makes),
+        Use::ElementBack => (&[INT, ARRAY_WITHOUT, ARRAY], &makes),
+        Use::Need => (&[ALL], &hands),
+    };
+    Procedure::main()
+        .variables(inners)
+        .body(body)
+        .body(&[leave()])
 }
 
 pub const NAMED: Family = Family {

@@ -1,7 +1,7 @@
 //! "Reads, integers and report words have 32 bits": every such number by
 //! every way that a number can go.
 
-use super::{bound, boundaries, integers, lent, made, seen, Bound, Family, Seen, Turns, INT};
+use super::{bound, boundaries, lent, made, seen, Bound, Family, Seen, Turns, INT};
 use crate::operations::{
     add, bind, call, fetch, get_slot, give_back, jump_if_zero, leave, less, new_array, new_record,
     put, set, set_slot, store, subtract, take,
@@ -129,10 +129,4 @@ fn computed() -> Vec<InstructionRecord> {
     ];
     let shown = operations.into_iter().flat_map(|one| [one, put(2)]);
     [take(1)].into_iter().chain(shown).collect()
-}
-
-/// The integer alone and main: for the families that need no more.
-pub(super) fn of_integers(variables: usize, body: &[InstructionRecord]) -> Sheet {
-    let main = Procedure::main().variables(&vec![INT; variables]);
-    integers().procedure(main.body(body)).build()
 }
