@@ -10,10 +10,12 @@
 //! - [`breach`]: accepted sheets with exactly one rule broken.
 //!
 //! Those above are for check; [`runs`] has the sheets that are made to be run,
-//! and what each run is lent.
+//! and what each run is lent. [`bounds`] goes through every limit of document
+//! 01, for check and for runs.
 
 pub mod accepted;
 pub mod body;
+pub mod bounds;
 pub mod breach;
 pub mod damage;
 pub mod handwritten;

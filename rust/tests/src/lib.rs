@@ -6,6 +6,7 @@ pub mod machines;
 mod memory;
 pub mod walk;
 pub mod workers;
+pub mod zeros;
 
 use generator::runs::Run;
 use reference::{Outcome, Verdict};

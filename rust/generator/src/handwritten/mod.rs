@@ -2,16 +2,19 @@
 //! and the verdict written out.
 
 mod catalogue;
+mod depths;
 mod forms;
 mod kinds;
 mod known;
 mod layout;
 mod movements;
+mod numbers;
 mod open;
 mod precedence;
 pub mod runs;
 
 use crate::sheet::Sheet;
+pub use known::SMALLEST;
 use reference::Verdict;
 
 pub struct Case {
@@ -31,6 +34,8 @@ pub fn cases() -> Vec<Case> {
     all.extend(movements::cases());
     all.extend(forms::cases());
     all.extend(precedence::cases());
+    all.extend(depths::cases());
+    all.extend(numbers::cases());
     all
 }
 

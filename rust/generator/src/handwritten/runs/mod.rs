@@ -4,12 +4,16 @@
 //! The table needs no engine: it is for every one that has a run and a watch.
 
 mod calls;
+mod depths;
 mod known;
+mod lengths;
+mod numbers;
 mod order;
 mod units;
 mod watched_calls;
 mod watched_order;
 mod watched_values;
+mod widths;
 
 use super::catalogue::{types, CALL, CALL_BOTH, CALL_OPEN};
 use crate::operations::{give_back, new_record};
@@ -64,6 +68,10 @@ pub fn cases() -> Vec<RunCase> {
     all.extend(watched_values::cases());
     all.extend(watched_order::cases());
     all.extend(watched_calls::cases());
+    all.extend(widths::cases());
+    all.extend(lengths::cases());
+    all.extend(numbers::cases());
+    all.extend(depths::cases());
     all
 }
 
