@@ -4,7 +4,7 @@ use mathlib.Core.Path.{_≡_}
 use mathlib.Core.List.{List}
 use mathlib.Core.Option.{some}
 use lib.ListN.{length, getD, replicate}
-use Rattle.model.specs.Modes.{Mode, plain}
+use Rattle.model.specs.Modes.{plain}
 use Rattle.model.specs.Refusal.{verdict}
 use Rattle.model.specs.Rules.{access-rules}
 use Rattle.model.specs.Run.{End, stopped, run}
@@ -21,10 +21,10 @@ use Rattle.run.specs.Run.{answered, stopped-at, ends}
 use Rattle.run.specs.declared.Reply.{Reply}
 
 -- what is answered at an end that the machine's answer is
-pub answers : {m : Mode} {sheet input : List ℕ} {fuel : ℕ} {memory output output′ : List ℕ} (e : Ended) (r : Reply) (zeros : List ℕ) (x : End)
+pub answers : (memory output output′ : List ℕ) (e : Ended) (r : Reply) (zeros : List ℕ) (x : End)
     → r ≡ stopped-at (e .number) (e .steps) (e .put) (e .procedure) (e .instruction) → zeros ≡ replicate (length memory) 0 → EndedIs e output output′ x
-    → ends m sheet input fuel memory output x ≡ some (answered r zeros output′)
-answers e r zeros (stopped x n put p i) q z (ended a b c d f o) = rw (q, z, a, b, c, d, f, o)
+    → ends memory output x ≡ some (answered r zeros output′)
+answers memory output output′ e r zeros (stopped x n put p i) q z (ended a b c d f o) = rw (q, z, a, b, c, d, f, o)
 
 pub formed-sheet : (s : List ℕ) → check s ≡ Accepted → verdict (form-tests s) ≡ Accepted
 unfolding check check-tests

@@ -30,30 +30,21 @@ use Rattle.run.proofs.Laws.{formed-sheet}
 
 -- ---- watch says what run says
 
--- the answer at an end is the same for both machines
-ends-same : (sheet input : List ℕ) (fuel : ℕ) (memory output : List ℕ) (e : End) → ends watched sheet input fuel memory output e ≡ ends plain sheet input fuel memory output e
-ends-same sheet input fuel memory output (stopped x n put p i) = refl
-ends-same sheet input fuel memory output (stuck-at n put p i) = refl
-
 module _ (sheet input : List ℕ) (fuel : ℕ) (memory output : List ℕ) where
-  same-end : check sheet ≡ Accepted → Words32 input → memory-fits plain sheet input fuel memory output ≡ true
+  same-end : check sheet ≡ Accepted → Words32 input → memory-fits memory ≡ true
       → end watched sheet input fuel memory output ≡ end plain sheet input fuel memory output
   unfolding end memory-fits
   same-end a w h = condition3-holds sheet a (length memory) (leb-true (length memory) 65536 h) input output w fuel .agree
 
-  fits-same : memory-fits watched sheet input fuel memory output ≡ memory-fits plain sheet input fuel memory output
-  unfolding memory-fits
-  fits-same = refl
-
-  accepted-same : check sheet ≡ Accepted → Words32 input → (b : Bool) → memory-fits plain sheet input fuel memory output ≡ b
+  accepted-same : check sheet ≡ Accepted → Words32 input → (b : Bool) → memory-fits memory ≡ b
       → answer-by watched sheet input fuel memory output Accepted ≡ answer-by plain sheet input fuel memory output Accepted
-  accepted-same a w true h = rw (fits-same, h, same-end a w h) (ends-same sheet input fuel memory output (end plain sheet input fuel memory output))
-  accepted-same a w false h = rw (fits-same, h)
+  accepted-same a w true h = rw (h, same-end a w h)
+  accepted-same a w false h = rw h
 
 pub watch-as-run : WatchAsRun
 unfolding answer
 watch-as-run sheet input fuel memory output a w =
-    rw (a, formed-sheet sheet a) (accepted-same sheet input fuel memory output a w (memory-fits plain sheet input fuel memory output) refl)
+    rw (a, formed-sheet sheet a) (accepted-same sheet input fuel memory output a w (memory-fits memory) refl)
 
 -- ---- which numbers
 
@@ -82,13 +73,13 @@ stop-any missing-right = (omega arith, omega arith)
 -- of an answer by a verdict, from what is known of its refusals and of its end
 module _ (m : Mode) (sheet input : List ℕ) (fuel : ℕ) (memory output : List ℕ) (P : ℕ → Type 0) where
   says : (v : Verdict) → ((n at : ℕ) → v ≡ Refused n at → P n) → P 10
-      → (v ≡ Accepted → memory-fits m sheet input fuel memory output ≡ true → Says P (ends m sheet input fuel memory output (end m sheet input fuel memory output)))
+      → (v ≡ Accepted → memory-fits memory ≡ true → Says P (ends memory output (end m sheet input fuel memory output)))
       → Says P (answer-by m sheet input fuel memory output v)
   says (Refused n at) r t e = r n at refl
-  says Accepted r t e = fit (memory-fits m sheet input fuel memory output) refl
+  says Accepted r t e = fit (memory-fits memory) refl
     where
-      fit : (b : Bool) → memory-fits m sheet input fuel memory output ≡ b
-          → Says P (cond b (ends m sheet input fuel memory output (end m sheet input fuel memory output)) (refuses m sheet input fuel memory output (refusal-number big-memory) 0))
+      fit : (b : Bool) → memory-fits memory ≡ b
+          → Says P (cond b (ends memory output (end m sheet input fuel memory output)) (refuses memory output (refusal-number big-memory) 0))
       fit true h = e refl h
       fit false h = t
 
@@ -96,8 +87,8 @@ abbrev To17 : ℕ → Type 0
 To17 n = (1 ≤ n) × (n ≤ 17)
 
 plain-end : (sheet input : List ℕ) (fuel : ℕ) (memory output : List ℕ) → Words32 input → check sheet ≡ Accepted
-    → memory-fits plain sheet input fuel memory output ≡ true → (e : End) → end plain sheet input fuel memory output ≡ e
-    → Says To17 (ends plain sheet input fuel memory output e)
+    → memory-fits memory ≡ true → (e : End) → end plain sheet input fuel memory output ≡ e
+    → Says To17 (ends memory output e)
 unfolding end memory-fits
 plain-end sheet input fuel memory output w a h (stopped x n put p i) q =
     stop-plain _ x (rw q at (run-ended plain (programOf sheet) (length memory) (length output) input fuel .way))
@@ -116,7 +107,7 @@ abbrev AllBut6To9 : ℕ → Type 0
 AllBut6To9 n = ((1 ≤ n) × (n ≤ 5)) ⊎ ((10 ≤ n) × (n ≤ 19))
 
 watched-end : (sheet input : List ℕ) (fuel : ℕ) (memory output : List ℕ) (e : End) → end watched sheet input fuel memory output ≡ e
-    → Says AllBut6To9 (ends watched sheet input fuel memory output e)
+    → Says AllBut6To9 (ends memory output e)
 unfolding end
 watched-end sheet input fuel memory output (stopped x n put p i) q = inr (stop-any x)
 watched-end sheet input fuel memory output (stuck-at n put p i) q = watched-not-stuck (programOf sheet) (length memory) (length output) input fuel n put p i q
@@ -135,13 +126,13 @@ pub any-memory : AnyMemory
 unfolding answer memory-fits end
 any-memory m sheet input fuel memory memory′ output same = by (verdict-before m sheet)
   where
-    ends-alike : (e : End) → Alike (ends m sheet input fuel memory output e) (ends m sheet input fuel memory′ output e)
+    ends-alike : (e : End) → Alike (ends memory output e) (ends memory′ output e)
     ends-alike (stopped x n put p i) = (refl, refl)
     ends-alike (stuck-at n put p i) = tt
 
     fit : (b : Bool) (e : End)
-        → Alike (cond b (ends m sheet input fuel memory output e) (refuses m sheet input fuel memory output 10 0))
-        (cond b (ends m sheet input fuel memory′ output e) (refuses m sheet input fuel memory′ output 10 0))
+        → Alike (cond b (ends memory output e) (refuses memory output 10 0))
+        (cond b (ends memory′ output e) (refuses memory′ output 10 0))
     fit true e = ends-alike e
     fit false e = (refl, refl)
 

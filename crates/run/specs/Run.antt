@@ -38,28 +38,29 @@ abbrev pub verdict-before : Mode → List ℕ → Verdict
 verdict-before plain s = check s
 verdict-before watched s = form-verdict s
 
+-- a refusal: "bench and report untouched"
+abbrev pub refuses : (memory output : List ℕ) → (number place : ℕ) → Option Answer
+refuses memory output n at = some (answered (refused n at) memory output)
+
+-- a stop: "memory ends all zero"; "the output holds the words put, in order from its first word, and keeps its other words".
+-- A stuck end has no answer and no number: condition 3 shows that it is never asked for.
+abbrev pub ends : (memory output : List ℕ) → End → Option Answer
+ends memory output (stopped x n put p i) =
+    some (answered (stopped-at (stop-number x) n (length put) p i) (replicate (length memory) 0) (written output put))
+ends memory output (stuck-at n put p i) = none
+
+-- "then 10": over 65,536 words
+unfoldable pub memory-fits : List ℕ → Bool
+memory-fits memory = leb (length memory) 65536
+
 module _ (m : Mode) (sheet input : List ℕ) (fuel : ℕ) (memory output : List ℕ) where
   -- the run itself
   unfoldable pub end : End
   end = run m (programOf sheet) (length memory) (length output) input fuel
 
-  -- "then 10": over 65,536 words
-  unfoldable pub memory-fits : Bool
-  memory-fits = leb (length memory) 65536
-
-  -- a refusal: "bench and report untouched"
-  abbrev pub refuses : (number place : ℕ) → Option Answer
-  refuses n at = some (answered (refused n at) memory output)
-
-  -- a stop: "memory ends all zero"; "the output holds the words put, in order from its first word, and keeps its other words".
-  -- A stuck end has no answer and no number: condition 3 shows that it is never asked for.
-  abbrev pub ends : End → Option Answer
-  ends (stopped x n put p i) = some (answered (stopped-at (stop-number x) n (length put) p i) (replicate (length memory) 0) (written output put))
-  ends (stuck-at n put p i) = none
-
   abbrev pub answer-by : Verdict → Option Answer
-  answer-by (Refused n at) = refuses n at
-  answer-by Accepted = cond memory-fits (ends end) (refuses (refusal-number big-memory) 0)
+  answer-by (Refused n at) = refuses memory output n at
+  answer-by Accepted = cond (memory-fits memory) (ends memory output end) (refuses memory output (refusal-number big-memory) 0)
 
   unfoldable pub answer : Option Answer
   answer = answer-by (verdict-before m sheet)

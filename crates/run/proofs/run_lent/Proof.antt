@@ -43,7 +43,7 @@ returns-2 c =
     let f = le-leb _ _ (c .before .before .before .before .before .before .before .before .before .before .before .before .before .before .if1 .left) in
     let run-in = c .before .before .before .before .before .before .before .before .before .run-in in
     let zeros = c .before .before .before .clear .ensures ∙ ap (λ (n : ℕ). replicate n 0) (run-in .kept .1 .1 .1 .1 .0) in
-    rw f (answers _ _ _ _ (c .stop .ensures) zeros (run-in .ensures))
+    rw f (answers _ _ _ _ _ _ _ (c .stop .ensures) zeros (run-in .ensures))
 
 pub run-lent-spec : {M : Type 1} → statement M
 run-lent-spec =
