@@ -20,7 +20,7 @@ ghost use Rattle.model.specs.declared.Verdict.the-variants.{Accepted};
 ghost use Rattle.sheet.specs.Layout.{proceduresOf, variablesAt, instructionsAt, instructionAt, procedureAt};
 ghost use Rattle.sheet.specs.Decode.{operationAt};
 ghost use Rattle.sheet.specs.Meaning.{programOf};
-ghost use Rattle.instruction_rules.specs.Inner.Ready.{Ready};
+ghost use Rattle.instruction_rules.specs.Inner.Tabled.{Tabled};
 ghost use Rattle.access.specs.Inner.Callees.{CalleesAt, Callees};
 
 // The verdict of one record.
@@ -107,7 +107,7 @@ fn variables_access(s: &[u8], p: usize, pr: u32) -> Verdict
 }
 
 fn instruction_access(s: &[u8], table: &[u32; 65], p: usize, pr: u32, i: u16) -> Verdict
-    requires { ⌜ Ready (now s) (now table) ⌝ }
+    requires { ⌜ Tabled (now s) (now table) ⌝ }
     requires { ⌜ pr ≡ procedureAt (now s) p ⌝ }
     requires { ⌜ callee (operationAt (now s) (instructionAt (now s) pr i)) < proceduresOf (now s) ⌝ }
     ensures { λ r. ⌜ r ≡ verdict (instruction-rules (programOf (now (s .entry))) p i) ⌝ }
@@ -120,7 +120,7 @@ fn instruction_access(s: &[u8], table: &[u32; 65], p: usize, pr: u32, i: u16) ->
 }
 
 fn instructions_access(s: &[u8], table: &[u32; 65], p: usize, pr: u32) -> Verdict
-    requires { ⌜ Ready (now s) (now table) ⌝ }
+    requires { ⌜ Tabled (now s) (now table) ⌝ }
     requires { ⌜ pr ≡ procedureAt (now s) p ⌝ }
     requires { ⌜ CalleesAt (now s) pr ⌝ }
     ensures { λ r. ⌜ r ≡ verdict (each (instructionsAt (now (s .entry)) pr) (instruction-rules (programOf (now (s .entry))) p)) ⌝ }
@@ -138,7 +138,7 @@ fn instructions_access(s: &[u8], table: &[u32; 65], p: usize, pr: u32) -> Verdic
 }
 
 fn procedure_access(s: &[u8], table: &[u32; 65], p: usize, pr: u32) -> Verdict
-    requires { ⌜ Ready (now s) (now table) ⌝ }
+    requires { ⌜ Tabled (now s) (now table) ⌝ }
     requires { ⌜ pr ≡ procedureAt (now s) p ⌝ }
     requires { ⌜ CalleesAt (now s) pr ⌝ }
     ensures { λ r. ⌜ r ≡ verdict (procedure-rules (programOf (now (s .entry))) p) ⌝ }
@@ -155,7 +155,7 @@ fn procedure_access(s: &[u8], table: &[u32; 65], p: usize, pr: u32) -> Verdict
 }
 
 fn procedures_access(s: &[u8], table: &[u32; 65], n: usize) -> Verdict
-    requires { ⌜ Ready (now s) (now table) ⌝ }
+    requires { ⌜ Tabled (now s) (now table) ⌝ }
     requires { ⌜ Callees (now s) ⌝ }
     requires { ⌜ n ≡ proceduresOf (now s) ⌝ }
     ensures { λ r. ⌜ r ≡ verdict (each n (procedure-rules (programOf (now (s .entry))))) ⌝ }
@@ -173,7 +173,7 @@ fn procedures_access(s: &[u8], table: &[u32; 65], n: usize) -> Verdict
 
 // Refusals 6 to 9 of a well-formed sheet.
 pub fn access(s: &[u8], table: &[u32; 65]) -> Verdict
-    requires { ⌜ Ready (now s) (now table) ⌝ }
+    requires { ⌜ Tabled (now s) (now table) ⌝ }
     requires { ⌜ Callees (now s) ⌝ }
     ensures { λ r. ⌜ r ≡ verdict (access-rules (programOf (now (s .entry)))) ⌝ }
 {

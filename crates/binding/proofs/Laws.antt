@@ -16,7 +16,7 @@ use Rattle.model.specs.Machine.{Value, word, object, Cell, empty, filled, Head,
 use Rattle.sheet.specs.Bytes.{byteAt}
 use Rattle.sheet.specs.Layout.{procedureAt, variableAt, needAt, innerAt, ownerAt, resultAt}
 use Rattle.sheet.specs.Meaning.{qualOf, programOf, needIn, innerIn, resultIn}
-use Rattle.words.specs.Word.{tag, low, payload, kind-of, cell, slot-in, as-head}
+use Rattle.words.specs.Word.{tag, low, payload, info-of, cell, slot-in, as-head}
 use Rattle.words.specs.Sees.{heads-in}
 use Rattle.words.specs.Answers.{halted, IsCell, MovedOk}
 use Rattle.words.specs.declared.Moved.{Moved}
@@ -29,11 +29,11 @@ use Rattle.binding.proofs.Views.{ValueOf, integer-in, object-in, value-
 -- ---- the kind of an object, by its head
 
 module _ (qual : ℕ → Qual) (w : ℕ) where
-  pub head-array : (r : ℕ) → r ≡ kind-of w → tag w ≡ 3 → kind-as qual (Array r) ≡ kind-of-head (as-head (slot-in watched qual w))
+  pub head-array : (r : ℕ) → r ≡ info-of w → tag w ≡ 3 → kind-as qual (Array r) ≡ kind-of-head (as-head (slot-in watched qual w))
   unfolding kind-as
   head-array r is t = rw (is, slot-array watched qual w t)
 
-  pub head-record : (r : ℕ) → r ≡ kind-of w → tag w ≡ 4 → kind-as qual (Record r) ≡ kind-of-head (as-head (slot-in watched qual w))
+  pub head-record : (r : ℕ) → r ≡ info-of w → tag w ≡ 4 → kind-as qual (Record r) ≡ kind-of-head (as-head (slot-in watched qual w))
   unfolding kind-as
   head-record r is t = rw (is, slot-record watched qual w t)
 

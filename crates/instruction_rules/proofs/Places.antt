@@ -6,9 +6,9 @@ use native.Mathlib.Omega.{arith}
 use lib.ListN.{getD}
 use Rattle.sheet.specs.Layout.{proceduresOf, procedureAt}
 use Rattle.sheet.specs.Inner.Places.{Places}
-use Rattle.instruction_rules.specs.Inner.Ready.{Ready}
+use Rattle.instruction_rules.specs.Inner.Tabled.{Tabled}
 
-module _ (s table : List ℕ) (r : Ready s table) (p : ℕ) (h : p < proceduresOf s) where
+module _ (s table : List ℕ) (r : Tabled s table) (p : ℕ) (h : p < proceduresOf s) where
   pub has-room : p < 65
   has-room = omega arith
 

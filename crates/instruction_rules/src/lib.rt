@@ -19,11 +19,11 @@ ghost use Rattle.model.specs.Refusal.{failure};
 ghost use Rattle.model.specs.Rules.{rule, callee};
 ghost use Rattle.sheet.specs.Layout.{proceduresOf, procedureAt};
 ghost use Rattle.sheet.specs.Meaning.{programOf};
-ghost use Rattle.instruction_rules.specs.Inner.Ready.{Ready};
+ghost use Rattle.instruction_rules.specs.Inner.Tabled.{Tabled};
 
 // An instruction of the procedure at a place: the number of its first refusal, 0 where there is none.
 pub fn instruction_number(s: &[u8], table: &[u32; 65], pr: u32, i: Instruction) -> u8
-    requires { ⌜ Ready (now s) (now table) ⌝ }
+    requires { ⌜ Tabled (now s) (now table) ⌝ }
     requires { ⌜ pr ≡ procedureAt (now s) (i .procedure) ⌝ }
     requires { ⌜ callee (i .operation) < proceduresOf (now s) ⌝ }
     ensures { λ r. ⌜ r ≡ failure (rule (programOf (now (s .entry))) (i .procedure) (i .operation)) ⌝ }

@@ -16,7 +16,7 @@ use Rattle.model.specs.Machine.{Value, word, object, Cell, empty, filled, Head,
 use Rattle.words.specs.Word.{low, payload, size-of, cell, slot-in, as-cell}
 use Rattle.words.specs.Sees.{head-size, Sees}
 use Rattle.words.specs.Answer.{read-as, moved-word}
-use Rattle.words.specs.Answers.{MovedOk, Inside, Unless-stuck, halted, moved-to, moving}
+use Rattle.words.specs.Answers.{MovedOk, InObject, Unless-stuck, halted, moved-to, moving}
 use Rattle.words.proofs.Laws.{blank-word, filled-word, size-word, is-cell, same-size, told-blank, told-filled}
 use Rattle.words.specs.declared.Cell.{Cell as Read}
 use Rattle.words.specs.declared.Cell.the-variants.{Blank, Filled}
@@ -128,7 +128,7 @@ module _ (q : ℕ → Qual) (g : Program) (v : View plain) (t : Qual) (a : ℕ) 
 
 module _ (q : ℕ → Qual) (v : View plain) (f h : List ℕ) (s : Sees plain q v f h) (o : ℕ) where
   -- a cell below the size in the head is one of the object's, in either machine
-  pub inside : (i n : ℕ) → head-size (v .head o) ≡ some n → i < n → Inside h o i
+  pub inside : (i n : ℕ) → head-size (v .head o) ≡ some n → i < n → InObject h o i
   inside i n e below = record { size = n; head = λ m p. same-size m plain p q (getD h o 0) ∙ ap head-size (s .head o) ∙ e; below = below }
 
   pub sized : (n : ℕ) → head-size (v .head o) ≡ some n → n ≡ size-of (getD h o 0)

@@ -20,10 +20,10 @@ use Rattle.model.specs.Machine.{Value, word, Cell, empty, filled, Head, View, E
 use Rattle.model.proofs.Verdicts.{both-true}
 use Rattle.model.proofs.Order.{same-refl}
 use Rattle.model.proofs.Rights.{within-refl, within-all}
-use Rattle.words.specs.Word.{tag, low, payload, size-of, kind-of as kind-number, cell, slot-in, as-head}
+use Rattle.words.specs.Word.{tag, low, payload, size-of, info-of as kind-number, cell, slot-in, as-head}
 use Rattle.words.specs.Sees.{head-size, heads-in, Sees}
 use Rattle.words.specs.Answer.{read-as}
-use Rattle.words.specs.Answers.{MovedOk, Inside, StoredOk, halted, number-as, given, moved-to, stored}
+use Rattle.words.specs.Answers.{MovedOk, InObject, StoredOk, halted, number-as, given, moved-to, stored}
 use Rattle.words.specs.declared.Cell.{Cell as Read}
 use Rattle.words.specs.declared.Cell.the-variants.{Blank, Filled}
 use Rattle.words.specs.declared.Number.{Number}
@@ -225,7 +225,7 @@ module _ (q : ℕ → Qual) (v : View watched) (h : List ℕ) (x : ℕ) {o w : �
   head-seen = ap (λ (z : ℕ). as-head (slot-in watched q z)) (at ∙ ap (λ (z : ℕ). getD h z 0) name) ∙ heads (payload x)
 
 -- a cell below the size in the head is one of the object's
-inside-head : (h : List ℕ) (o w i : ℕ) → w ≡ getD h o 0 → (tag w ≡ 3) ⊎ (tag w ≡ 4) → i < size-of w → Inside h o i
+inside-head : (h : List ℕ) (o w i : ℕ) → w ≡ getD h o 0 → (tag w ≡ 3) ⊎ (tag w ≡ 4) → i < size-of w → InObject h o i
 inside-head h o w i at (inl t) below = record { size = size-of w; head = λ m q. rw (sym at, slot-array m q w t); below = below }
 inside-head h o w i at (inr t) below = record { size = size-of w; head = λ m q. rw (sym at, slot-record m q w t); below = below }
 
@@ -236,11 +236,11 @@ three-true a b c e =
     let l = both-true a b (k .0) in
     (l .0, l .1, k .1)
 
-pub inside-array : (h : List ℕ) (o w i : ℕ) {n : ℕ} (a c : Bool) {t : ℕ} → w ≡ getD h o 0 → t ≡ tag w → (a && eqb t 3) && c ≡ true → n ≡ size-of w → i < n → Inside h o i
+pub inside-array : (h : List ℕ) (o w i : ℕ) {n : ℕ} (a c : Bool) {t : ℕ} → w ≡ getD h o 0 → t ≡ tag w → (a && eqb t 3) && c ≡ true → n ≡ size-of w → i < n → InObject h o i
 inside-array h o w i a c {t} at is holds size below =
     inside-head h o w i at (inl (sym is ∙ eqb-true t 3 (three-true a (eqb t 3) c holds .1))) (rw size at below)
 
-pub inside-record : (h : List ℕ) (o w i : ℕ) {n : ℕ} (a c : Bool) {t : ℕ} → w ≡ getD h o 0 → t ≡ tag w → (a && eqb t 4) && c ≡ true → n ≡ size-of w → i < n → Inside h o i
+pub inside-record : (h : List ℕ) (o w i : ℕ) {n : ℕ} (a c : Bool) {t : ℕ} → w ≡ getD h o 0 → t ≡ tag w → (a && eqb t 4) && c ≡ true → n ≡ size-of w → i < n → InObject h o i
 inside-record h o w i a c {t} at is holds size below =
     inside-head h o w i at (inr (sym is ∙ eqb-true t 4 (three-true a (eqb t 4) c holds .1))) (rw size at below)
 
@@ -343,11 +343,11 @@ store-plan g v a b c = sym (simp (bind-assoc, then-assoc, bind-ok))
 
 -- the cell of an object that is there, by its word
 cell-seen : (q : ℕ → Qual) (v : View watched) (f h : List ℕ) (o i w : ℕ)
-    → Sees watched q v f h → Inside h o i → w ≡ getD h (o + 1 + i) 0 → slot-in watched q w ≡ cell (v .cell o i)
+    → Sees watched q v f h → InObject h o i → w ≡ getD h (o + 1 + i) 0 → slot-in watched q w ≡ cell (v .cell o i)
 cell-seen q v f h o i w s here at =
     ap (slot-in watched q) at ∙ s .cell o i (here .size) (ap head-size (sym (s .head o)) ∙ here .head watched q) (here .below)
 
-pub inside-spot : {h : List ℕ} {p : Spot} {o i : ℕ} → p ≡ S.At o i → SpotOk h p → Inside h o i
+pub inside-spot : {h : List ℕ} {p : Spot} {o i : ℕ} → p ≡ S.At o i → SpotOk h p → InObject h o i
 inside-spot told here = rw told at here
 
 module _ (q : ℕ → Qual) (g : Program) (v : View watched) (f h : List ℕ) (a b c : ℕ) {p : Spot} (is : element-as q h p ≡ element-at g v fetch-right b c) where
@@ -515,7 +515,7 @@ pub stored-halt : (q : ℕ → Qual) (o i : ℕ) {m : Moved} {k : ℕ} → m ≡
 unfolding stored storing moved-cell
 stored-halt q o i {k = k} told = rw told (sym (halted-then k _))
 
-pub stored-ok : (h : List ℕ) {o i : ℕ} {m : Moved} {w : ℕ} → m ≡ M.To w → Inside h o i → MovedOk m → StoredOk h (T.At o i w)
+pub stored-ok : (h : List ℕ) {o i : ℕ} {m : Moved} {w : ℕ} → m ≡ M.To w → InObject h o i → MovedOk m → StoredOk h (T.At o i w)
 stored-ok h told here fine = (rw told at fine, here)
 
 -- ---- the size of an array

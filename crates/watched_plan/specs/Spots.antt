@@ -9,8 +9,8 @@ use Rattle.model.specs.Program.{Program}
 use Rattle.model.specs.Outcome.{past-end, Res, ok, _>>=_, _>>_, ensure}
 use Rattle.model.specs.Modes.{watched, demand, licence}
 use Rattle.model.specs.Machine.{Value, Cell, View, Effect, store, held, as-integer, array-at, record-at, one-integer, slot-there}
-use Rattle.words.specs.Word.{kind-of}
-use Rattle.words.specs.Answers.{halted, Inside}
+use Rattle.words.specs.Word.{info-of}
+use Rattle.words.specs.Answers.{halted, InObject}
 use Rattle.watched_plan.specs.declared.Pair.{Pair}
 use Rattle.watched_plan.specs.declared.Spot.{Spot}
 use Rattle.watched_plan.specs.declared.Pair.the-variants as P
@@ -23,7 +23,7 @@ pair-as (P.Halt k) = halted watched k
 
 -- an object, its element and an index; an object and a slot
 unfoldable pub element-as : (ℕ → Qual) → List ℕ → Spot → Res (ℕ × Qual × ℕ)
-element-as qual h (S.At o i) = ok (o, qual (kind-of (getD h o 0)), i)
+element-as qual h (S.At o i) = ok (o, qual (info-of (getD h o 0)), i)
 element-as qual h (S.Halt k) = halted watched k
 
 unfoldable pub slot-as : Spot → Res (ℕ × ℕ)
@@ -32,7 +32,7 @@ slot-as (S.Halt k) = halted watched k
 
 -- such a cell is one of the object's
 abbrev pub SpotOk : List ℕ → Spot → Type 0
-SpotOk h (S.At o i) = Inside h o i
+SpotOk h (S.At o i) = InObject h o i
 SpotOk h (S.Halt k) = Unit {0}
 
 -- what is bound is stored to cell i of an object

@@ -39,7 +39,7 @@ ghost use Rattle.sheet.specs.Layout.{procedureAt, ownerAt, namedOf};
 ghost use Rattle.sheet.specs.Meaning.{qualOf, innerIn, programOf};
 ghost use Rattle.words.specs.Word.{cell, slot-in};
 ghost use Rattle.words.specs.Sees.{heads-in, Sees};
-ghost use Rattle.words.specs.Answers.{MovedOk, StoredOk, Inside, number-as, given, moved-to, stored};
+ghost use Rattle.words.specs.Answers.{MovedOk, StoredOk, InObject, number-as, given, moved-to, stored};
 ghost use Rattle.binding.specs.Kinds.{moved-cell};
 ghost use Rattle.watched_plan.specs.Spots.{pair-as, element-as, slot-as, SpotOk, storing, made, index-of, element-at, slot-of, slot-at, size-for};
 
@@ -208,7 +208,7 @@ pub fn fetch_guarded(s: &[u8], pr: u32, f: &[u64], h: &[u64], a: u8, b: u8, c: u
 
 // What was bound, on its way to a cell of an object.
 fn stored_at(o: u32, i: u32, m: Moved) -> Stored
-    ensures { λ r. ⌜ ((h : List ℕ) → Inside h o i → MovedOk m → StoredOk h r) ⌝ }
+    ensures { λ r. ⌜ ((h : List ℕ) → InObject h o i → MovedOk m → StoredOk h r) ⌝ }
     ensures { λ r. ⌜ ((q : ℕ → Qual) → stored watched q r ≡ storing o i (moved-cell q m)) ⌝ }
 {
     match m {

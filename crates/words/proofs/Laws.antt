@@ -12,7 +12,7 @@ use borrow.Author.Tests.{eqb-true, eqb-false, ne-eqb}
 use Rattle.model.specs.Qualified.{Qual}
 use Rattle.model.specs.Modes.{Mode, ElementInfo, TypeInfo, carried, element-info, type-info}
 use Rattle.model.specs.Machine.{word, object, Cell, empty, filled, array-head, record-head}
-use Rattle.words.specs.Word.{low, tag, payload, pack, size-of, kind-of, Slot, cell, head, place, slot-in, as-cell, as-head}
+use Rattle.words.specs.Word.{low, tag, payload, pack, size-of, info-of, Slot, cell, head, place, slot-in, as-cell, as-head}
 use Rattle.words.specs.Answer.{read-as}
 use Rattle.words.specs.Sees.{head-size}
 use Rattle.words.specs.Answers.{IsCell}
@@ -65,11 +65,11 @@ module _ (m : Mode) (qual : ℕ → Qual) (w : ℕ) where
   unfolding slot-in
   slot-object e = rw (ne-eqb w 0 (tagged w 1 e), e)
 
-  pub slot-array : tag w ≡ 3 → slot-in m qual w ≡ head (array-head (element-info m (qual (kind-of w))) (size-of w))
+  pub slot-array : tag w ≡ 3 → slot-in m qual w ≡ head (array-head (element-info m (qual (info-of w))) (size-of w))
   unfolding slot-in
   slot-array e = rw (ne-eqb w 0 (tagged w 2 e), e)
 
-  pub slot-record : tag w ≡ 4 → slot-in m qual w ≡ head (record-head (type-info m (kind-of w)) (size-of w))
+  pub slot-record : tag w ≡ 4 → slot-in m qual w ≡ head (record-head (type-info m (info-of w)) (size-of w))
   unfolding slot-in
   slot-record e = rw (ne-eqb w 0 (tagged w 3 e), e)
 

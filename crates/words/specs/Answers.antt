@@ -65,13 +65,13 @@ MovedOk (M.To w) = IsCell w
 MovedOk (M.Halt k) = Unit {0}
 
 -- a cell that is stored to is one of an object's, in the objects' part h of the memory
-pub record Inside (h : List ℕ) (o i : ℕ) : Type 0 where
+pub record InObject (h : List ℕ) (o i : ℕ) : Type 0 where
   pub size : ℕ
   pub head : (m : Mode) (qual : ℕ → Qual) → head-size (heads-in m qual h o) ≡ some size
   pub below : i < size
 
 abbrev pub StoredOk : List ℕ → Stored → Type 0
-StoredOk h (S.At o i w) = IsCell w × Inside h o i
+StoredOk h (S.At o i w) = IsCell w × InObject h o i
 StoredOk h (S.Halt k) = Unit {0}
 
 -- what is said of an answer where the definition is not stuck; where it is, nothing: of an accepted program condition 3 says that it never is

@@ -25,8 +25,8 @@ pack t p l = (p * 8 + t) * 2 ^ 32 + l
 abbrev pub size-of : ℕ → ℕ
 size-of w = payload w % 2 ^ 17
 
-abbrev pub kind-of : ℕ → ℕ
-kind-of w = payload w / 2 ^ 17 % 2 ^ 8
+abbrev pub info-of : ℕ → ℕ
+info-of w = payload w / 2 ^ 17 % 2 ^ 8
 
 -- one word of the memory; `qual` gives the type of an element's number
 pub data Slot (m : Mode) : Type 0 where
@@ -39,8 +39,8 @@ slot-in m qual w =
     cond (eqb w 0) (cell empty)
     (cond (eqb (tag w) 1) (cell (filled (word (low w)) (carried m 0)))
     (cond (eqb (tag w) 2) (cell (filled (object (payload w)) (carried m (low w))))
-    (cond (eqb (tag w) 3) (head (array-head (element-info m (qual (kind-of w))) (size-of w)))
-    (cond (eqb (tag w) 4) (head (record-head (type-info m (kind-of w)) (size-of w)))
+    (cond (eqb (tag w) 3) (head (array-head (element-info m (qual (info-of w))) (size-of w)))
+    (cond (eqb (tag w) 4) (head (record-head (type-info m (info-of w)) (size-of w)))
     (place (payload w) (low w))))))
 
 -- a slot read as a cell, as a head, as a place

@@ -5,7 +5,7 @@ ghost use lib.ListN.{length, getD, set, replicate};
 ghost use Rattle.model.specs.Qualified.{Qual};
 ghost use Rattle.model.specs.Modes.{Mode, carried, element-info, type-info};
 ghost use Rattle.model.specs.Machine.{word, object, filled, array-head, record-head};
-ghost use Rattle.words.specs.Word.{cell, head, place, low, tag, payload, size-of, kind-of, slot-in};
+ghost use Rattle.words.specs.Word.{cell, head, place, low, tag, payload, size-of, info-of, slot-in};
 ghost use Rattle.words.specs.Answer.{read-as};
 
 // What a variable, a cell of an array or a slot of a record holds: a filled one by its word.
@@ -84,7 +84,7 @@ pub fn tag_of(w: u64) -> u8
 }
 
 pub fn kind_in(w: u64) -> u8
-    ensures { λ n. ⌜ n ≡ kind-of w ⌝ }
+    ensures { λ n. ⌜ n ≡ info-of w ⌝ }
 {
     (w / 34359738368 / 131072 % 256) as u8
 }

@@ -19,7 +19,7 @@ use Rattle.model.specs.Machine.{Cell, empty, filled, object, Object, array-of, 
 use Rattle.sheet.specs.Meaning.{qualOf}
 use Rattle.words.specs.Word.{Slot, cell, head, slot-in}
 use Rattle.words.specs.Sees.{head-size}
-use Rattle.words.specs.Answers.{halted, Inside}
+use Rattle.words.specs.Answers.{halted, InObject}
 use Rattle.words.proofs.Laws.{map-set, slot-zero}
 use Rattle.writers.specs.declared.Registers.{Registers}
 use Rattle.writers.specs.declared.Stepped.the-variants.{Go, Halt}
@@ -273,7 +273,7 @@ does-put m c words out r x h (state (frame p i vs) fs os input put) S =
 module _ {m : Mode} {c : Given} {words out : List ℕ} {r : Registers} {p i : ℕ} {vs : List (Cell m)} {fs : List (Frame m)} {os : List (Object m)}
     {input put : List ℕ} (S : Stands m c words out r p i vs fs os input put) where
   -- an object with a head in the objects' part is one of the state's, of that size
-  pub there : (a j : ℕ) → Inside (object-part r words) a j → (o : Object m) × ((find os a ≡ some o) × (j < length (cells-of o)))
+  pub there : (a j : ℕ) → InObject (object-part r words) a j → (o : Object m) × ((find os a ≡ some o) × (j < length (cells-of o)))
   there a j I = go (find os a) refl
     where
       go : (f : Option (Object m)) → find os a ≡ f → (o : Object m) × ((find os a ≡ some o) × (j < length (cells-of o)))
@@ -287,7 +287,7 @@ module _ {m : Mode} {c : Given} {words out : List ℕ} {r : Registers} {p i : �
           let b = I .below in
           (o, (e, omega arith))
 
-  pub stored-at : (words′ : List ℕ) (a j w : ℕ) (d : Cell m) → slot-in m (qualOf (c .sheet)) w ≡ cell d → Inside (object-part r words) a j
+  pub stored-at : (words′ : List ℕ) (a j w : ℕ) (d : Cell m) → slot-in m (qualOf (c .sheet)) w ≡ cell d → InObject (object-part r words) a j
       → words′ ≡ set (object-part r words) (a + 1 + j) w ++ drop (r .used) words
       → Stands m c words′ out (onward r (r .next + 1) (r .used) (r .taken) (r .put)) p (suc i) vs fs (update os a j d) input put
   stored-at words′ a j w d is I e =
@@ -309,7 +309,7 @@ module _ {m : Mode} {c : Given} {words out : List ℕ} {r : Registers} {p i : �
       (rw s (take-set-lt (r .used) (slots m c words) (suc (a + j)) (cell d) h ∙ rw (S .objects) (set-at-cell os a j (o .0) d (o .1 .0) b)))
       (rw s (drop-set-lt (r .base) (slots m c words) (suc (a + j)) (cell d) (omega arith) ∙ S .frames))
 
-pub does-store : (m : Mode) (c : Given) (words words′ out : List ℕ) (r : Registers) (a j w : ℕ) (d : Cell m) → slot-in m (qualOf (c .sheet)) w ≡ cell d → Inside (object-part r words) a j
+pub does-store : (m : Mode) (c : Given) (words words′ out : List ℕ) (r : Registers) (a j w : ℕ) (d : Cell m) → slot-in m (qualOf (c .sheet)) w ≡ cell d → InObject (object-part r words) a j
     → words′ ≡ set (object-part r words) (a + 1 + j) w ++ drop (r .used) words
     → Does m c words words′ out out r (Go (onward r (r .next + 1) (r .used) (r .taken) (r .put))) (ok (M.store a j d))
 unfolding apply _>>=_

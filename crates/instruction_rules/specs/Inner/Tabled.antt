@@ -4,6 +4,6 @@ use mathlib.Core.List.{List}
 use Rattle.sheet.specs.Layout.{proceduresOf}
 use Rattle.sheet.specs.Inner.Places.{Places}
 
-pub record Ready (s table : List ℕ) : Type 0 where
+pub record Tabled (s table : List ℕ) : Type 0 where
   pub few : proceduresOf s ≤ 64
   pub places : Places s table
