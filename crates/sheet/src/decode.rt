@@ -17,7 +17,7 @@ pub struct Fields {
 }
 
 // The operation of an instruction, by the table of codes; what no line has is read as a return.
-pub fn operation_of(f: Fields) -> Operation
+fn operation_of(f: Fields) -> Operation
     ensures { λ r. ⌜ r ≡ decode f ⌝ }
 {
     let code = f.code;
