@@ -1,0 +1,30 @@
+use mathlib.Core.Path.{_∙_}
+use Rattle.index.proofs.Filling.{zeros}
+use native.Mathlib.Omega.{arith}
+use borrow.Author.Needs.{needs}
+use Rattle.index.proofs.make.indexed.Statement.{statement}
+use Rattle.index.proofs.make.indexed.Tie as tie
+use Rattle.index.proofs.make.indexed.Reads as reads
+use Rattle.index.proofs.make.indexed.Lts as lts
+use Rattle.index.proofs.make.fill_procedures.Reads as fill-procedures-reads
+use Rattle.index.proofs.make.fill_types.Reads as fill-types-reads
+
+fill-types-requires : tie.Need-fill-types-requires
+fill-types-requires c κs = search needs
+
+fill-procedures-requires : tie.Need-fill-procedures-requires
+fill-procedures-requires c κs = search needs
+
+returns : tie.Need-returns
+returns c =
+    let p = c .fill-procedures .ensures in
+    let q = c .before .before .fill-types .ensures in
+    record {
+      types = λ j h m. rw (p .below j m) (q .types j h m);
+      no-types = λ j h m. p .below j m ∙ q .others j h ∙ zeros 129 j;
+      places = p .places;
+      procedures = p .procedures;
+    }
+
+pub indexed-spec : {M : Type 1} → statement M
+indexed-spec = tie.close (tie.spec fill-types-requires fill-procedures-requires returns)

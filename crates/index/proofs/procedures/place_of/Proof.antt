@@ -1,0 +1,21 @@
+use native.Mathlib.Omega.{arith}
+use borrow.Author.Needs.{needs}
+use Rattle.index.proofs.procedures.place_of.Statement.{statement}
+use Rattle.index.proofs.procedures.place_of.Tie as tie
+use Rattle.index.proofs.procedures.place_of.Reads as reads
+use Rattle.index.proofs.procedures.place_of.Lts as lts
+use Rattle.index.proofs.procedures.place_in.Reads as place-in-reads
+use Rattle.index.proofs.procedures.procedure_word.Reads as procedure-word-reads
+
+procedure-word-requires : tie.Need-procedure-word-requires
+procedure-word-requires c κs = search needs
+
+place-in-requires : tie.Need-place-in-requires
+place-in-requires c κs = search needs
+
+returns : tie.Need-returns
+returns c =
+    rw (c .place-in .ensures, c .before .procedure-word .ensures)
+
+pub place-of-spec : {M : Type 1} → statement M
+place-of-spec = tie.close (tie.spec procedure-word-requires place-in-requires returns)

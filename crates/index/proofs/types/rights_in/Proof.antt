@@ -1,0 +1,18 @@
+use Rattle.index.specs.Types.{rights-of}
+use mathlib.Core.Path.{refl}
+use native.Mathlib.Omega.{arith}
+use borrow.Author.Needs.{needs}
+use Rattle.index.proofs.types.rights_in.Statement.{statement}
+use Rattle.index.proofs.types.rights_in.Tie as tie
+use Rattle.index.proofs.types.rights_in.Reads as reads
+use Rattle.index.proofs.types.rights_in.Lts as lts
+
+cast-result : tie.Need-cast-result
+cast-result c = search needs
+
+returns : tie.Need-returns
+unfolding rights-of
+returns c = refl
+
+pub rights-in-spec : {M : Type 1} → statement M
+rights-in-spec = tie.close (tie.spec cast-result returns)
