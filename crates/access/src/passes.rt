@@ -19,7 +19,7 @@ ghost use Rattle.model.specs.Rules.{type-rules, qual-rules, head-rules, variabl
 ghost use Rattle.model.specs.declared.Verdict.the-variants.{Accepted};
 ghost use Rattle.sheet.specs.Layout.{proceduresOf, variablesAt, instructionsAt, instructionAt, procedureAt};
 ghost use Rattle.sheet.specs.Decode.{operationAt};
-ghost use Rattle.sheet.specs.Meaning.{programOf};
+ghost use Rattle.sheet.specs.Meaning.{programOf, placeOf};
 ghost use Rattle.instruction_rules.specs.Inner.Tabled.{Tabled};
 ghost use Rattle.access.specs.Inner.Callees.{CalleesAt, Callees};
 
@@ -35,14 +35,14 @@ fn refused(number: u8, at: usize) -> Verdict
 
 // TY number i.
 fn type_access(s: &[u8], i: u8) -> Verdict
-    ensures { λ r. ⌜ r ≡ verdict (type-rules (programOf (now (s .entry))) i) ⌝ }
+    ensures { λ r. ⌜ r ≡ verdict (type-rules (placeOf (now (s .entry))) (programOf (now (s .entry))) i) ⌝ }
 {
     let at = 6 + 12 * (i as usize);
     refused(slots_rule(s, at), at)
 }
 
 fn types_access(s: &[u8], n: u8) -> Verdict
-    ensures { λ r. ⌜ r ≡ verdict (each n (type-rules (programOf (now (s .entry))))) ⌝ }
+    ensures { λ r. ⌜ r ≡ verdict (each n (type-rules (placeOf (now (s .entry))) (programOf (now (s .entry))))) ⌝ }
 {
     let mut i: u8 = 0;
     while i < n {
@@ -56,13 +56,13 @@ fn types_access(s: &[u8], n: u8) -> Verdict
 }
 
 fn qual_access(s: &[u8], j: u8) -> Verdict
-    ensures { λ r. ⌜ r ≡ verdict (qual-rules (programOf (now (s .entry))) j) ⌝ }
+    ensures { λ r. ⌜ r ≡ verdict (qual-rules (placeOf (now (s .entry))) (programOf (now (s .entry))) j) ⌝ }
 {
     refused(element_rule(s, j), qual_at(s, j))
 }
 
 fn quals_access(s: &[u8], n: u8) -> Verdict
-    ensures { λ r. ⌜ r ≡ verdict (each n (qual-rules (programOf (now (s .entry))))) ⌝ }
+    ensures { λ r. ⌜ r ≡ verdict (each n (qual-rules (placeOf (now (s .entry))) (programOf (now (s .entry))))) ⌝ }
 {
     let mut j: u8 = 0;
     while j < n {
@@ -78,21 +78,21 @@ fn quals_access(s: &[u8], n: u8) -> Verdict
 // The PR of procedure p, at a place.
 fn head_access(s: &[u8], p: usize, pr: u32) -> Verdict
     requires { ⌜ pr ≡ procedureAt (now s) p ⌝ }
-    ensures { λ r. ⌜ r ≡ verdict (head-rules (programOf (now (s .entry))) p) ⌝ }
+    ensures { λ r. ⌜ r ≡ verdict (head-rules (placeOf (now (s .entry))) (programOf (now (s .entry))) p) ⌝ }
 {
     refused(require(has_closed_result(s, pr), 6, 0), pr as usize)
 }
 
 fn variable_access(s: &[u8], p: usize, pr: u32, x: u8) -> Verdict
     requires { ⌜ pr ≡ procedureAt (now s) p ⌝ }
-    ensures { λ r. ⌜ r ≡ verdict (variable-rules (programOf (now (s .entry))) p x) ⌝ }
+    ensures { λ r. ⌜ r ≡ verdict (variable-rules (placeOf (now (s .entry))) (programOf (now (s .entry))) p x) ⌝ }
 {
     refused(variable_number(s, pr, x), variable_at(pr, x))
 }
 
 fn variables_access(s: &[u8], p: usize, pr: u32) -> Verdict
     requires { ⌜ pr ≡ procedureAt (now s) p ⌝ }
-    ensures { λ r. ⌜ r ≡ verdict (each (variablesAt (now (s .entry)) pr) (variable-rules (programOf (now (s .entry))) p)) ⌝ }
+    ensures { λ r. ⌜ r ≡ verdict (each (variablesAt (now (s .entry)) pr) (variable-rules (placeOf (now (s .entry))) (programOf (now (s .entry))) p)) ⌝ }
 {
     let n = byte(s, pr as usize, 4);
     let mut x: u8 = 0;
@@ -110,7 +110,7 @@ fn instruction_access(s: &[u8], table: &[u32; 65], p: usize, pr: u32, i: u16) ->
     requires { ⌜ Tabled (now s) (now table) ⌝ }
     requires { ⌜ pr ≡ procedureAt (now s) p ⌝ }
     requires { ⌜ callee (operationAt (now s) (instructionAt (now s) pr i)) < proceduresOf (now s) ⌝ }
-    ensures { λ r. ⌜ r ≡ verdict (instruction-rules (programOf (now (s .entry))) p i) ⌝ }
+    ensures { λ r. ⌜ r ≡ verdict (instruction-rules (placeOf (now (s .entry))) (programOf (now (s .entry))) p i) ⌝ }
 {
     let read = instruction_in(s, pr, p, i);
     refused(
@@ -123,7 +123,7 @@ fn instructions_access(s: &[u8], table: &[u32; 65], p: usize, pr: u32) -> Verdic
     requires { ⌜ Tabled (now s) (now table) ⌝ }
     requires { ⌜ pr ≡ procedureAt (now s) p ⌝ }
     requires { ⌜ CalleesAt (now s) pr ⌝ }
-    ensures { λ r. ⌜ r ≡ verdict (each (instructionsAt (now (s .entry)) pr) (instruction-rules (programOf (now (s .entry))) p)) ⌝ }
+    ensures { λ r. ⌜ r ≡ verdict (each (instructionsAt (now (s .entry)) pr) (instruction-rules (placeOf (now (s .entry))) (programOf (now (s .entry))) p)) ⌝ }
 {
     let n = word(s, pr as usize, 6);
     let mut i: u16 = 0;
@@ -141,7 +141,7 @@ fn procedure_access(s: &[u8], table: &[u32; 65], p: usize, pr: u32) -> Verdict
     requires { ⌜ Tabled (now s) (now table) ⌝ }
     requires { ⌜ pr ≡ procedureAt (now s) p ⌝ }
     requires { ⌜ CalleesAt (now s) pr ⌝ }
-    ensures { λ r. ⌜ r ≡ verdict (procedure-rules (programOf (now (s .entry))) p) ⌝ }
+    ensures { λ r. ⌜ r ≡ verdict (procedure-rules (placeOf (now (s .entry))) (programOf (now (s .entry))) p) ⌝ }
 {
     let head = head_access(s, p, pr);
     let Verdict::Accepted = head else {
@@ -158,7 +158,7 @@ fn procedures_access(s: &[u8], table: &[u32; 65], n: usize) -> Verdict
     requires { ⌜ Tabled (now s) (now table) ⌝ }
     requires { ⌜ Callees (now s) ⌝ }
     requires { ⌜ n ≡ proceduresOf (now s) ⌝ }
-    ensures { λ r. ⌜ r ≡ verdict (each n (procedure-rules (programOf (now (s .entry))))) ⌝ }
+    ensures { λ r. ⌜ r ≡ verdict (each n (procedure-rules (placeOf (now (s .entry))) (programOf (now (s .entry))))) ⌝ }
 {
     let mut p = 0;
     while p < n {
@@ -175,7 +175,7 @@ fn procedures_access(s: &[u8], table: &[u32; 65], n: usize) -> Verdict
 pub fn access(s: &[u8], table: &[u32; 65]) -> Verdict
     requires { ⌜ Tabled (now s) (now table) ⌝ }
     requires { ⌜ Callees (now s) ⌝ }
-    ensures { λ r. ⌜ r ≡ verdict (access-rules (programOf (now (s .entry)))) ⌝ }
+    ensures { λ r. ⌜ r ≡ verdict (access-rules (placeOf (now (s .entry))) (programOf (now (s .entry)))) ⌝ }
 {
     let types = types_access(s, byte(s, 0, 3));
     let Verdict::Accepted = types else {

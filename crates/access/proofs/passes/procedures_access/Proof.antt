@@ -5,13 +5,13 @@ use borrow.Author.Needs.{needs}
 use Rattle.model.specs.Rules.{procedure-rules}
 use Rattle.model.proofs.Verdicts.{Passing, pass-start, pass-next, pass-stop, pass-end}
 use Rattle.sheet.specs.Layout.{proceduresOf}
-use Rattle.sheet.specs.Meaning.{programOf}
+use Rattle.sheet.specs.Meaning.{programOf, placeOf}
 use Rattle.instruction_rules.proofs.Places.{placed}
 use Rattle.access.proofs.passes.procedures_access.Statement.{statement}
 use Rattle.access.proofs.passes.procedures_access.Tie as tie
 
 abbrev Inv-loop : tie.InvT-loop
-Inv-loop s table n p₀ p = Passing (procedure-rules (programOf s)) n p
+Inv-loop s table n p₀ p = Passing (procedure-rules (placeOf s) (programOf s)) n p
 
 abbrev μ-loop : tie.MeasureT-loop
 μ-loop s table n p₀ p = n - p

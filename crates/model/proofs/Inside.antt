@@ -1,16 +1,18 @@
 -- A machine never leaves its program: a step keeps its state inside it.
-use Prim.Native.Nat.{ℕ, zero, suc, _<_}
-use mathlib.Core.List.{List}
+use Prim.Native.Nat.{ℕ, zero, suc, _+_, _<_}
+use mathlib.Core.Bool.{Bool, true, false, cond}
+use mathlib.Core.List.{List, []}
 use mathlib.Core.Option.{Option, none, some}
-use Rattle.model.specs.Outcome.{Stop, Res, ok, stop, stuck, _>>=_, _>>_}
+use lib.Dec.{leb}
+use Rattle.model.specs.Outcome.{Stop, memory-full, Res, ok, stop, stuck, _>>=_, _>>_}
 use Rattle.model.specs.Program.{Program}
 use Rattle.model.specs.Modes.{Mode, plain, watched, amiss}
 use Rattle.model.specs.Machine.{Cell, Object, Frame, frame, State, state, View, view, Next, go, finished, Effect, write, take, put, jump, skip, new-array, new-record, store, call, resume, finish, plan-array, plan-record, plan-fetch, plan-store, plan-size, plan-get, plan-set, plan-call, into-caller, to-caller, plan-return, gives, branch, plan, apply, step}
-use Rattle.model.specs.Run.{opened}
+use Rattle.model.specs.Run.{stopped, snapshot, Moment, running, over, settle, advance, opened, start, trace}
+use Rattle.model.specs.Inside.{At, Waiting, bottom, waits, Inside}
 use Rattle.model.proofs.Formed.{Formed, Formed-at}
 use Rattle.model.specs.declared.Operation.{Operation}
 use Rattle.model.specs.declared.Operation.the-variants.{Set, Add, Subtract, Less, JumpZero, Bind, Take, Put, NewArray, Fetch, Store, Size, NewRecord, GetSlot, SetSlot, Call, Return}
-use Rattle.run_by_frames.specs.Inside.{At, Waiting, bottom, waits, Inside}
 
 -- what holds of a result, where there is one
 pub data Yields {A : Type 0} (P : A → Type 0) : Res A → Type 0 where
@@ -43,6 +45,10 @@ abbrev pub Next-inside : {m : Mode} → Program → Next m → Type 0
 Next-inside g (go t) = Inside g t
 Next-inside g finished = Unit {0}
 
+abbrev pub Moment-inside : {m : Mode} → Program → Moment m → Type 0
+Moment-inside g (running n t) = Inside g t
+Moment-inside g (over e x) = Unit {0}
+
 no-kind : {A : Type 0} {P : A → Type 0} (m : Mode) → Yields P (amiss m)
 unfolding amiss
 no-kind plain = sticks
@@ -50,7 +56,7 @@ no-kind watched = stops
 
 module _ (m : Mode) (g : Program) where
   -- where an effect of instruction i of procedure p goes
-  abbrev Stays : (p i : ℕ) → Effect m → Type 0
+  abbrev pub Stays : (p i : ℕ) → Effect m → Type 0
   Stays p i (write a c) = suc i < g .instructions p
   Stays p i (take a c) = suc i < g .instructions p
   Stays p i (put n) = suc i < g .instructions p
@@ -84,7 +90,7 @@ module _ (m : Mode) (g : Program) where
     caller-stays none c = yield tt
     caller-stays (some q) c = into-stays _ _ c
 
-    plan-stays : (o : Operation) → Formed-at g p i o → Yields (Stays p i) (plan m g v o)
+    pub plan-stays : (o : Operation) → Formed-at g p i o → Yields (Stays p i) (plan m g v o)
     unfolding plan plan-array plan-record plan-fetch plan-store plan-size plan-get plan-set plan-call plan-return
     plan-stays (Set a k) h = gives-stay h a k
     plan-stays (Add a b c) h = after _ _ λ n. gives-stay h a _
@@ -132,3 +138,26 @@ module _ (m : Mode) (g : Program) where
     pub opened-inside : (memory output : ℕ) (input : List ℕ) → Inside g (opened m g memory output input)
     unfolding opened
     opened-inside memory output input = (record { procedure = formed .main; instruction = formed .begins 0 (formed .main) }, bottom)
+
+    -- ---- So no run does
+
+    settle-inside : (n : ℕ) (t : State m) {r : Res (Next m)} → Yields (Next-inside g) r → Moment-inside g (settle n t r)
+    unfolding settle
+    settle-inside n t (yield {a = go u} p) = p
+    settle-inside n t (yield {a = finished} p) = tt
+    settle-inside n t stops = tt
+    settle-inside n t sticks = tt
+
+    advance-inside : (memory output : ℕ) (a : Moment m) → Moment-inside g a → Moment-inside g (advance m g memory output a)
+    unfolding advance
+    advance-inside memory output (running n t) h = settle-inside n t (step-inside memory output t h)
+    advance-inside memory output (over e x) h = tt
+
+    pub trace-inside : (memory output : ℕ) (input : List ℕ) (n : ℕ) → Moment-inside g (trace m g memory output input n)
+    unfolding trace start
+    trace-inside memory output input zero = room (leb (g .variables 0 + 2) memory)
+      where
+        room : (b : Bool) → Moment-inside g (cond b (running 0 (opened m g memory output input)) (over (stopped memory-full 0 [] 0 0) (snapshot [] [])))
+        room true = opened-inside memory output input
+        room false = tt
+    trace-inside memory output input (suc n) = advance-inside memory output (trace m g memory output input n) (trace-inside memory output input n)
