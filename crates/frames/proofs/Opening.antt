@@ -139,7 +139,7 @@ module _ {m : Mode} {c : Given} {words out : List ℕ} {r : Registers} {p i : �
 
   stands-opened :
       Stands m c words′ out
-      (record { procedure = k; next = 0; first = first; variables = v; base = at; used = r .used; taken = r .taken; put = r .put })
+      (record { procedure = k; next = 0; first = first; variables = v; base = at; used = r .used; taken = r .taken; put = r .put; steps = r .steps })
       k 0 (cs ++ replicate (v - f) empty) (frame p (suc i) vs ∷ fs) os input put
   unfolding AllSound
   stands-opened =
@@ -165,7 +165,7 @@ pub opens : (m : Mode) (words zeros : List ℕ) (r : Registers) (k first v f w x
     → zeros ≡ replicate (length (midOf (r .base - (v + 2) + f) (r .base - (v + 2) + v - (r .base - (v + 2) + f)) words)) 0
     → ((q : ℕ → Qual) → slot-in m q w ≡ place (r .procedure) (r .next + 1)) → ((q : ℕ → Qual) → slot-in m q x ≡ place (r .variables) (r .first))
     → Opened m words (opened words zeros (r .base - (v + 2)) v f w x) r
-    (record { procedure = k; next = 0; first = first; variables = v; base = r .base - (v + 2); used = r .used; taken = r .taken; put = r .put })
+    (record { procedure = k; next = 0; first = first; variables = v; base = r .base - (v + 2); used = r .used; taken = r .taken; put = r .put; steps = r .steps })
     k first v f
 opens m words zeros r k first v f w x sane room few cleared place-is more-is c p i vs cs fs os input put out S known small starts many there =
     let at = r .base - (v + 2) in

@@ -48,6 +48,7 @@ back r p i first v =
       used = r .used;
       taken = r .taken;
       put = r .put;
+      steps = r .steps;
     }
 
 module _ {m : Mode} {c : Given} {words out : List ℕ} {r : Registers} {p i q k : ℕ} {vs us : List (Cell m)} {gs : List (Frame m)} {os : List (Object m)}

@@ -66,6 +66,7 @@ pub fn open(memory: &mut [u64], r: Registers, k: usize, first: usize, v: usize, 
         used: r.used,
         taken: r.taken,
         put: r.put,
+        steps: r.steps,
     }
 }
 
@@ -136,6 +137,7 @@ pub fn waiting(memory: &[u64], r: Registers) -> Registers
         used: r.used,
         taken: r.taken,
         put: r.put,
+        steps: r.steps,
     }
 }
 

@@ -68,7 +68,7 @@ pub begins : (m : Mode) (s words zeros input out : List ℕ) (v first w : ℕ) �
     → v + 2 ≤ length words → length words ≤ 65536 → first ≡ instructionAt s (procedureAt s 0) 0
     → zeros ≡ replicate (length (midOf (length words - (v + 2)) (length words - (length words - (v + 2))) words)) 0 → slot-in m (qualOf s) w ≡ place 0 0
     → StandsFor m (record { sheet = s; input = input; output = out }) (framed words zeros v w) out
-    (record { procedure = 0; next = 0; first = first; variables = v; base = length words - (v + 2); used = 0; taken = 0; put = 0 })
+    (record { procedure = 0; next = 0; first = first; variables = v; base = length words - (v + 2); used = 0; taken = 0; put = 0; steps = 0 })
     (opened m (programOf s) (length words) (length out) input)
 unfolding opened AllSound flat-objects flat-frames
 begins m s words zeros input out v first w wf e room small f cleared is =

@@ -174,6 +174,21 @@ pub begun-kept : {m : Mode} {s input : List ℕ} {memory fuel made n : ℕ} {wor
     → Going m (B .given) memory fuel n words′ out′ r
 begun-kept K B = K (B .given) (B .same-sheet) (B .same-input) (B .going)
 
+-- the registers as the loop keeps them: what tells the frame is `start`'s, the rest the step's
+abbrev pub kept-with : (start q : Registers) → Registers
+kept-with start q =
+    record {
+      procedure = start .procedure;
+      next = q .next;
+      first = start .first;
+      variables = start .variables;
+      base = start .base;
+      used = q .used;
+      taken = q .taken;
+      put = q .put;
+      steps = q .steps;
+    }
+
 -- the registers of one frame, step after step
 pub same-frame : (start r q : Registers) → r ≡ onward start (r .next) (r .used) (r .taken) (r .put) → q ≡ onward r (q .next) (q .used) (q .taken) (q .put)
     → q ≡ onward start (q .next) (q .used) (q .taken) (q .put)
@@ -239,14 +254,29 @@ module _ (m : Mode) (s input : List ℕ) (wf : verdict (form-tests s) ≡ Accept
       goes q is = stays q is .1
 
       -- in the frame that was entered with the registers `start`
-      pub goes-on : (start q : Registers) → r ≡ onward start (r .next) (r .used) (r .taken) (r .put) → o ≡ S.Go q
-          → Going m c memory fuel (n + 1) words′ out′ (onward start (q .next) (q .used) (q .taken) (q .put))
+      goes-on : (start q : Registers) → r ≡ onward start (r .next) (r .used) (r .taken) (r .put) → o ≡ S.Go q
+          → (kept-with start q ≡ onward start (q .next) (q .used) (q .taken) (q .put)) × Going m c memory fuel (n + 1) words′ out′ (kept-with start q)
       goes-on start q e is =
           let a = stays q is in
-          subst (λ (x : Registers). Going m c memory fuel (n + 1) words′ out′ x) (same-frame start r q e (a .0)) (a .1)
+          let same = same-frame start r q e (a .0) in
+          let steps = ap (λ (x : Registers). kept-with start x) same in
+          (steps, subst (λ (x : Registers). Going m c memory fuel (n + 1) words′ out′ x) (same ∙ sym steps) (a .1))
 
       pub enters : (q : Registers) → o ≡ S.Enter q → Going m c memory fuel (n + 1) words′ out′ q
       enters q is = reaches q (entered m c words out r words′ out′ (G .now) q _ never (rw is at taken))
+
+-- the same of every run that came to the frame's start
+pub keeps-on : (m : Mode) (s input : List ℕ) → verdict (form-tests s) ≡ Accepted → (memory fuel made n : ℕ) (words₀ out₀ words out : List ℕ) (start r : Registers)
+    → Kept m s input memory fuel made words₀ out₀ start n words out r → Begun m s input memory fuel made words₀ out₀ start
+    → (words′ out′ : List ℕ) (o : Stepped) → n < fuel → Performs m s input words words′ out out′ r o (operationAt s (place-in r))
+    → length words′ ≡ length words → length out′ ≡ length out
+    → (q : Registers) → r ≡ onward start (r .next) (r .used) (r .taken) (r .put) → o ≡ S.Go q
+    → (kept-with start q ≡ onward start (q .next) (q .used) (q .taken) (q .put))
+    × Kept m s input memory fuel made words₀ out₀ start (n + 1) words′ out′ (kept-with start q)
+keeps-on m s input wf memory fuel made n words₀ out₀ words out start r K B words′ out′ o h did lw lo q e is = (
+  goes-on m s input wf (B .given) (B .same-sheet) (B .same-input) memory fuel n words out r (begun-kept K B) words′ out′ o h did lw lo start q e is .0,
+  λ c same from G. goes-on m s input wf c same from memory fuel n words out r (K c same from G) words′ out′ o h did lw lo start q e is .1,
+)
 
 -- ---- one frame
 

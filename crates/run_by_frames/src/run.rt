@@ -46,6 +46,7 @@ pub fn open_main(s: &[u8], table: &[u32; 65], memory: &mut [u64], v: usize) -> R
         used: 0,
         taken: 0,
         put: 0,
+        steps: 0,
     }
 }
 
@@ -116,6 +117,7 @@ fn run_frame(
                     used: q.used,
                     taken: q.taken,
                     put: q.put,
+                    steps: q.steps,
                 };
             }
             Stepped::Enter(q) => {

@@ -33,6 +33,7 @@ onward r i u n w =
       used = u;
       taken = n;
       put = w;
+      steps = r .steps;
     }
 
 -- "A step that stops changes nothing": it tells the stop's number, the output is as it was, and the words still stand for the state in which it stopped

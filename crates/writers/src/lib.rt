@@ -21,7 +21,7 @@ ghost use Rattle.writers.specs.Memory.{Given, Sane, object-part};
 ghost use Rattle.writers.specs.Steps.{Does, onward, put-word, Allotted, jumped, put-effect, take-effect, array-effect, record-effect};
 
 // The registers: the running frame's procedure, next instruction, where its instructions start in the sheet, its count of variables and where they
-// start in the memory; where the objects end; the input words taken and the output words put.
+// start in the memory; where the objects end; the input words taken, the output words put and the steps made, which no writer counts.
 pub struct Registers {
     pub procedure: usize,
     pub next: usize,
@@ -31,6 +31,7 @@ pub struct Registers {
     pub used: usize,
     pub taken: usize,
     pub put: usize,
+    pub steps: u64,
 }
 
 // What a step came to: the registers after it, in the same frame or in another; the number of a stop; or main's return.
@@ -54,6 +55,7 @@ pub fn at_next(r: Registers, next: usize) -> Registers
         used: r.used,
         taken: r.taken,
         put: r.put,
+        steps: r.steps,
     }
 }
 
@@ -147,6 +149,7 @@ pub fn put_output(output: &mut [u32], r: Registers, n: Number) -> Stepped
                     used: r.used,
                     taken: r.taken,
                     put: at + 1,
+                    steps: r.steps,
                 });
             }
             Stepped::Halt(16)
@@ -173,6 +176,7 @@ pub fn take_input(input: &[u32], memory: &mut [u64], r: Registers, a: u8) -> Ste
             used: r.used,
             taken: at + 1,
             put: r.put,
+            steps: r.steps,
         });
     }
     Stepped::Halt(15)
@@ -201,6 +205,7 @@ pub fn allot(memory: &mut [u64], r: Registers, a: u8, head: u64, n: u32, name: u
         used: end,
         taken: r.taken,
         put: r.put,
+        steps: r.steps,
     }
 }
 

@@ -62,13 +62,28 @@ place-word-requires-2 : tie.Need-place-word-requires-2
 place-word-requires-2 c κs = search needs
 
 add-memory : tie.Need-add-memory
-add-memory c = search needs
+add-memory c =
+    let pre = c .before .before .before .before .before .before .before .before .before .before .before .before .pre in
+    let fits = pre .0 .frame in
+    let small = pre .0 .small in
+    let room = pre .1 .1 .0 in
+    omega arith
 
 mul-memory-2 : tie.Need-mul-memory-2
-mul-memory-2 c = search needs
+mul-memory-2 c =
+    let pre = c .before .before .before .before .before .before .before .before .before .before .before .before .pre in
+    let fits = pre .0 .frame in
+    let small = pre .0 .small in
+    let room = pre .1 .1 .0 in
+    omega arith
 
 slice-write-memory-2 : tie.Need-slice-write-memory-2
-slice-write-memory-2 c = rw length-set (omega arith)
+slice-write-memory-2 c =
+    let pre = c .before .before .before .before .before .before .before .before .before .before .before .before .pre in
+    let fits = pre .0 .frame in
+    let small = pre .0 .small in
+    let room = pre .1 .1 .0 in
+    rw length-set (omega arith)
 
 same-length : tie.Need-same-length
 same-length c = search needs

@@ -5,7 +5,7 @@ use mathlib.Core.Path.{_≡_, refl, sym, _∙_}
 use lib.ListN.{length}
 use Rattle.writers.specs.Steps.{onward}
 use Rattle.run_by_frames.specs.Turn.{mode-of}
-use Rattle.run_by_frames.proofs.Turn.{Kept, begun-kept, ready, spent, halts, completes, goes-on, enters}
+use Rattle.run_by_frames.proofs.Turn.{Kept, begun-kept, ready, spent, halts, completes, keeps-on, enters}
 use native.Mathlib.Omega.{arith}
 use borrow.Author.Needs.{needs}
 use Rattle.run_by_frames.proofs.run.run_frame.Statement.{statement}
@@ -95,7 +95,11 @@ loop-less c = omega arith
 
 loop-again : tie.Need-loop-again Inv-loop μ-loop
 loop-again c =
-    let h = c .before .before .before .before .before .before .before .before .before .before .before .loop .inv .0 in (omega arith, (refl, λ d q i g. goes-on _ _ _ (c .before .before .before .before .before .before .before .before .before .before .before .before .before .before .before .before .pre .0 .formed) d q i _ _ _ _ _ _ (c .before .before .before .before .before .before .before .before .before .before .before .loop .inv .1 .1 d q i g) _ _ _ (c .before .before .before .before .before .before .before .before .before .before .loop-test .taken) (c .before .before .before .before .before .before .before .turn .ensures) (c .before .before .before .before .before .before .before .turn .kept .1 .1 .1 .0) (c .before .before .before .before .before .before .before .turn .kept .1 .1 .1 .1 .0) (c .before .before .before .before .before .before .before .before .before .before .before .before .before .before .before .before .args .start) _ (c .before .before .before .before .before .before .before .before .before .before .before .loop .inv .1 .0) (c .before .q .given .1)))
+    let pre = c .before .before .before .before .before .before .before .before .before .before .before .before .before .before .before .before .pre in
+    let inv = c .before .before .before .before .before .before .before .before .before .before .before .loop .inv in
+    let turn = c .before .before .before .before .before .before .before .turn in
+    let h = inv .0 in
+    (omega arith, keeps-on _ _ _ (pre .0 .formed) _ _ _ _ _ _ _ _ (c .before .before .before .before .before .before .before .before .before .before .before .before .before .before .before .before .args .start) _ (inv .1 .1) (pre .1) _ _ _ (c .before .before .before .before .before .before .before .before .before .before .loop-test .taken) (turn .ensures) (turn .kept .1 .1 .1 .0) (turn .kept .1 .1 .1 .1 .0) _ (inv .1 .0) (c .before .q .given .1))
 
 ended-requires-3 : tie.Need-ended-requires-3 Inv-loop μ-loop
 ended-requires-3 c κs = search needs
