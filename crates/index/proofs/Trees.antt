@@ -6,7 +6,6 @@ use mathlib.Core.Logic.{_⊎_, inl, inr}
 use mathlib.Core.Bool.{Bool, true, false, cond}
 use native.Mathlib.Omega.{arith}
 use lib.Dec.{eqb, ltb}
-use lib.ListN.{getD}
 use borrow.Author.Tests.{ltb-true, ltb-false, lt-ltb, le-ltb, ne-eqb}
 use Rattle.model.specs.Rights.{Rights}
 use Rattle.model.specs.Qualified.{Qual, integer, array, declared, base, rights, element, isInteger, isArray}
@@ -113,17 +112,18 @@ module _ (t : List ℕ) where
       go e f (inl h) = f (omega arith) (omega arith)
       go e f (inr h) = rw h (tree-none n 255 (omega arith) ∙ sym (tree-none m 255 (omega arith)))
 
-  pub qual-array : (j : ℕ) → base-of (word-in t j) ≡ 1 → qualIn t j ≡ array (rights-of (word-in t j)) (qualIn t (element-below (word-in t j) j))
-  unfolding qualIn tree-in shaped
-  qual-array j b = rw b (ap (array (rights-of (word-in t j))) (go (element-below (word-in t j) j) (falls (word-in t j) j)))
+  -- a type by its own word and its element's
+  pub qual-shaped : (j : ℕ) → qualIn t j ≡ shaped (base-of (word-in t j)) (rights-of (word-in t j)) (qualIn t (element-below (word-in t j) j))
+  unfolding qualIn tree-in
+  qual-shaped j = ap (shaped (base-of (word-in t j)) (rights-of (word-in t j))) (go (element-below (word-in t j) j) (falls (word-in t j) j))
     where
       go : (e : ℕ) → (e < j) ⊎ (e ≡ 255) → tree-in t j e ≡ tree-in t (suc e) e
       go e (inl h) = tree-enough j (suc e) e h (omega arith)
       go e (inr h) = rw h (tree-none j 255 (omega arith) ∙ sym (tree-none 256 255 (omega arith)))
 
-  pub element-array : (j : ℕ) → base-of (word-in t j) ≡ 1 → element (qualIn t j) ≡ qualIn t (element-below (word-in t j) j)
-  unfolding element
-  element-array j b = ap element (qual-array j b)
+  element-array : (j : ℕ) → base-of (word-in t j) ≡ 1 → element (qualIn t j) ≡ qualIn t (element-below (word-in t j) j)
+  unfolding element shaped
+  element-array j b = rw (qual-shaped j, b)
 
   -- the number in an array's word stands for its element; one that does not fall is read as 255, which means an integer
   pub element-said : (j : ℕ) → base-of (word-in t j) ≡ 1 → ElementIn t j (element-below (word-in t j) j)

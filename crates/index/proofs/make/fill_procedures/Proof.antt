@@ -125,7 +125,7 @@ returns c =
     let past = one-passed (l .i) (d .byte .result) 64 (c .loop-test .left) in
     let small : l .at < 2 ^ 32 = omega (arith, l .inv .4) in
     let placed = filled-more (λ k w. place-of w ≡ procedureAt s k) (λ n. 64 + n) (l .i) (l .at) (l .index) (omega (arith, l .inv .2)) (λ n m e. omega arith)
-        (small-place (l .at) small ∙ l .inv .3) (λ k h. l .inv .5 k h .place) in
+    (small-place (l .at) small ∙ l .inv .3) (λ k h. l .inv .5 k h .place) in
     record {
       places = λ k h m. rw (lt-ltb k 65 (omega arith)) (placed k (⊎-elim (λ p. omega (arith, d .byte .ensures)) (λ p. omega arith) past));
       procedures = λ k h m.
