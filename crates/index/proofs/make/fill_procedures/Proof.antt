@@ -13,13 +13,6 @@ use native.Mathlib.Omega.{arith}
 use borrow.Author.Needs.{needs}
 use Rattle.index.proofs.make.fill_procedures.Statement.{statement}
 use Rattle.index.proofs.make.fill_procedures.Tie as tie
-use Rattle.index.proofs.make.fill_procedures.Reads as reads
-use Rattle.index.proofs.make.fill_procedures.Lts as lts
-use Rattle.index.proofs.make.procedure_entry.Reads as procedure-entry-reads
-use Rattle.sheet.proofs.bytes.byte.Reads as byte-reads
-use Rattle.sheet.proofs.bytes.word.Reads as word-reads
-use Rattle.sheet.proofs.places.instruction_at.Reads as instruction-at-reads
-use Rattle.sheet.proofs.places.qual_at.Reads as qual-at-reads
 
 abbrev Inv-loop : tie.InvT-loop
 Inv-loop s index₀ p at₀ i₀ index at i =
@@ -125,7 +118,7 @@ returns c =
     let past = one-passed (l .i) (d .byte .result) 64 (c .loop-test .left) in
     let small : l .at < 2 ^ 32 = omega (arith, l .inv .4) in
     let placed = filled-more (λ k w. place-of w ≡ procedureAt s k) (λ n. 64 + n) (l .i) (l .at) (l .index) (omega (arith, l .inv .2)) (λ n m e. omega arith)
-        (small-place (l .at) small ∙ l .inv .3) (λ k h. l .inv .5 k h .place) in
+    (small-place (l .at) small ∙ l .inv .3) (λ k h. l .inv .5 k h .place) in
     record {
       places = λ k h m. rw (lt-ltb k 65 (omega arith)) (placed k (⊎-elim (λ p. omega (arith, d .byte .ensures)) (λ p. omega arith) past));
       procedures = λ k h m.

@@ -6,8 +6,6 @@ use native.Mathlib.Omega.{arith}
 use borrow.Author.Needs.{needs}
 use Rattle.sheet.proofs.fields.field.Statement.{statement}
 use Rattle.sheet.proofs.fields.field.Tie as tie
-use Rattle.sheet.proofs.fields.field.Reads as reads
-use Rattle.sheet.proofs.fields.field.Lts as lts
 
 add-i : tie.Need-add-i
 add-i c = search needs
