@@ -1,3 +1,4 @@
+-- `at` stays at procedure i's place, which is small; the words of the procedures below i are filled, and none before them has changed.
 use Prim.Native.Nat.{ℕ, _+_, _*_, _-_, _^_, _<_, _≤_}
 use lib.Seq.{getD-set-other}
 use borrow.Author.Tests.{lt-ltb}

@@ -1,3 +1,4 @@
+-- The words of the types below j are filled, and no word from j on has changed.
 use Prim.Native.Nat.{ℕ, _-_, _<_, _≤_}
 use mathlib.Core.Path.{_≡_, refl, sym, _∙_}
 use mathlib.Core.Logic.{⊎-elim}

@@ -1,3 +1,4 @@
+-- The words of the procedures leave those of the types as they were filled, and what was not filled is 0.
 use mathlib.Core.Path.{_∙_}
 use Rattle.index.proofs.Filling.{zeros}
 use borrow.Author.Needs.{needs}

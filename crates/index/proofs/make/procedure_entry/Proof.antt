@@ -1,3 +1,4 @@
+-- The five parts of the sum do not overlap.
 use Rattle.sheet.specs.Layout.{ownerAt, formalsAt, variablesAt, resultAt}
 use Rattle.index.specs.Procedures.{place-of, owner-of, formals-of, variables-of, result-of}
 use native.Mathlib.Omega.{arith}

@@ -1,3 +1,4 @@
+-- The three parts of the sum do not overlap.
 use Rattle.index.proofs.Filling.{high-byte}
 use Prim.Native.Nat.{_+_, _*_}
 use mathlib.Core.Path.{_≡_, sym, _∙_}

@@ -1,3 +1,4 @@
+-- What the two callees ensure, one after the other.
 use borrow.Author.Needs.{needs}
 use Rattle.index.proofs.procedures.place_of.Statement.{statement}
 use Rattle.index.proofs.procedures.place_of.Tie as tie

@@ -1,3 +1,4 @@
+-- The base in the word is that of the tree.
 use mathlib.Core.Path.{sym}
 use Rattle.index.proofs.Trees.{base-qual}
 use borrow.Author.Needs.{needs}

@@ -1,3 +1,4 @@
+-- The test is the definition's, on the same quotient.
 use Rattle.index.specs.Types.{element-of, element-below}
 use borrow.Author.Tests.{lt-ltb, le-ltb}
 use borrow.Author.Needs.{needs}

@@ -1,3 +1,4 @@
+-- An array's word says its element; 255 stands for that of any other type.
 use mathlib.Core.Path.{sym, _∙_}
 use Rattle.index.proofs.Trees.{element-said, element-unsaid}
 use borrow.Author.Needs.{needs}

@@ -1,3 +1,4 @@
+-- The base tells an array from the other shapes.
 use mathlib.Core.Path.{sym}
 use Rattle.index.proofs.Trees.{array-base, proper}
 use borrow.Author.Needs.{needs}

@@ -1,3 +1,4 @@
+-- The base tells an integer from the other shapes.
 use mathlib.Core.Path.{sym}
 use Rattle.index.proofs.Trees.{integer-base, proper}
 use borrow.Author.Needs.{needs}

@@ -1,3 +1,4 @@
+-- The remainder is the definition's.
 use Rattle.index.specs.Types.{rights-of}
 use mathlib.Core.Path.{refl}
 use borrow.Author.Needs.{needs}

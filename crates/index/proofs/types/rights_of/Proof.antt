@@ -1,3 +1,4 @@
+-- An integer has no rights; of any other type they stand in its word.
 use mathlib.Core.Path.{sym, _∙_}
 use Rattle.index.proofs.Trees.{rights-none, rights-qual}
 use borrow.Author.Needs.{needs}

@@ -1,3 +1,4 @@
+-- Past the end `getD` is 0, as the code is.
 use Prim.Native.Nat.{_+_, _≤_}
 use mathlib.Core.Path.{refl, sym}
 use lib.ListN.{List·getD-eq-default, length}
