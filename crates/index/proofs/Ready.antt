@@ -1,17 +1,16 @@
 -- An index is ready for a sheet that has no more types and procedures than there is room for.
-use Prim.Native.Nat.{ℕ, zero, suc, _+_, _<_, _≤_}
-use mathlib.Core.Path.{_≡_, refl, sym, ap, _∙_}
+use Prim.Native.Nat.{ℕ, zero, suc, _<_, _≤_}
+use mathlib.Core.Path.{_≡_, refl, ap}
 use mathlib.Core.List.{List}
-use mathlib.Core.Logic.{_⊎_, inl, inr}
 use mathlib.Core.Bool.{Bool, true, false, cond}
 use native.Mathlib.Omega.{arith}
 use lib.Dec.{ltb}
 use lib.ListN.{getD}
-use borrow.Author.Tests.{ltb-true, ltb-false, lt-ltb, le-ltb}
+use borrow.Author.Tests.{ltb-true, ltb-false, lt-ltb}
 use Rattle.model.specs.Qualified.{Qual}
-use Rattle.sheet.specs.Layout.{qualsOf, baseOf, rightsOf, elementOf, proceduresOf}
+use Rattle.sheet.specs.Layout.{qualsOf, rightsOf, elementOf, proceduresOf}
 use Rattle.sheet.specs.Meaning.{shaped, baseIn, elementIn, tree, qualOf}
-use Rattle.index.specs.Types.{word-in, rights-of, base-of, element-of, element-below, tree-in, qualIn}
+use Rattle.index.specs.Types.{word-in, rights-of, base-of, element-below, tree-in, qualIn}
 use Rattle.index.specs.Indexed.{TypeWord, Indexed, Ready}
 
 -- the word 0 is an integer's

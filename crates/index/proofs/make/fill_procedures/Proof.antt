@@ -1,3 +1,4 @@
+-- `at` stays at procedure i's place, which is small; the words of the procedures below i are filled, and none before them has changed.
 use Prim.Native.Nat.{ℕ, _+_, _*_, _-_, _^_, _<_, _≤_}
 use lib.Seq.{getD-set-other}
 use borrow.Author.Tests.{lt-ltb}
@@ -13,13 +14,6 @@ use native.Mathlib.Omega.{arith}
 use borrow.Author.Needs.{needs}
 use Rattle.index.proofs.make.fill_procedures.Statement.{statement}
 use Rattle.index.proofs.make.fill_procedures.Tie as tie
-use Rattle.index.proofs.make.fill_procedures.Reads as reads
-use Rattle.index.proofs.make.fill_procedures.Lts as lts
-use Rattle.index.proofs.make.procedure_entry.Reads as procedure-entry-reads
-use Rattle.sheet.proofs.bytes.byte.Reads as byte-reads
-use Rattle.sheet.proofs.bytes.word.Reads as word-reads
-use Rattle.sheet.proofs.places.instruction_at.Reads as instruction-at-reads
-use Rattle.sheet.proofs.places.qual_at.Reads as qual-at-reads
 
 abbrev Inv-loop : tie.InvT-loop
 Inv-loop s index₀ p at₀ i₀ index at i =

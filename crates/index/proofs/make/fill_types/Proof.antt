@@ -1,4 +1,5 @@
-use Prim.Native.Nat.{ℕ, _+_, _*_, _-_, _<_, _≤_}
+-- The words of the types below j are filled, and no word from j on has changed.
+use Prim.Native.Nat.{ℕ, _-_, _<_, _≤_}
 use mathlib.Core.Path.{_≡_, refl, sym, _∙_}
 use mathlib.Core.Logic.{⊎-elim}
 use lib.ListN.{length, getD, set, length-set}
@@ -10,10 +11,6 @@ use native.Mathlib.Omega.{arith}
 use borrow.Author.Needs.{needs}
 use Rattle.index.proofs.make.fill_types.Statement.{statement}
 use Rattle.index.proofs.make.fill_types.Tie as tie
-use Rattle.index.proofs.make.fill_types.Reads as reads
-use Rattle.index.proofs.make.fill_types.Lts as lts
-use Rattle.index.proofs.make.type_entry.Reads as type-entry-reads
-use Rattle.sheet.proofs.bytes.byte.Reads as byte-reads
 
 abbrev Inv-loop : tie.InvT-loop
 Inv-loop s index₀ q j₀ index j =

@@ -1,13 +1,9 @@
+-- The words of the procedures leave those of the types as they were filled, and what was not filled is 0.
 use mathlib.Core.Path.{_∙_}
 use Rattle.index.proofs.Filling.{zeros}
-use native.Mathlib.Omega.{arith}
 use borrow.Author.Needs.{needs}
 use Rattle.index.proofs.make.indexed.Statement.{statement}
 use Rattle.index.proofs.make.indexed.Tie as tie
-use Rattle.index.proofs.make.indexed.Reads as reads
-use Rattle.index.proofs.make.indexed.Lts as lts
-use Rattle.index.proofs.make.fill_procedures.Reads as fill-procedures-reads
-use Rattle.index.proofs.make.fill_types.Reads as fill-types-reads
 
 fill-types-requires : tie.Need-fill-types-requires
 fill-types-requires c κs = search needs

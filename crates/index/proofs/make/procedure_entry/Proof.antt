@@ -1,14 +1,10 @@
-use Prim.Native.Nat.{ℕ, _+_, _*_, _<_, _≤_}
-use mathlib.Core.Path.{_≡_, _∙_}
+-- The five parts of the sum do not overlap.
 use Rattle.sheet.specs.Layout.{ownerAt, formalsAt, variablesAt, resultAt}
 use Rattle.index.specs.Procedures.{place-of, owner-of, formals-of, variables-of, result-of}
 use native.Mathlib.Omega.{arith}
 use borrow.Author.Needs.{needs}
 use Rattle.index.proofs.make.procedure_entry.Statement.{statement}
 use Rattle.index.proofs.make.procedure_entry.Tie as tie
-use Rattle.index.proofs.make.procedure_entry.Reads as reads
-use Rattle.index.proofs.make.procedure_entry.Lts as lts
-use Rattle.sheet.proofs.bytes.byte.Reads as byte-reads
 
 byte-requires : tie.Need-byte-requires
 byte-requires c κs = search needs

@@ -1,5 +1,6 @@
+-- The three parts of the sum do not overlap.
 use Rattle.index.proofs.Filling.{high-byte}
-use Prim.Native.Nat.{ℕ, _+_, _*_, _<_, _≤_}
+use Prim.Native.Nat.{_+_, _*_}
 use mathlib.Core.Path.{_≡_, sym, _∙_}
 use Rattle.sheet.specs.Layout.{baseOf, rightsOf, elementOf}
 use Rattle.index.specs.Types.{rights-of, base-of, element-of}
@@ -7,11 +8,6 @@ use native.Mathlib.Omega.{arith}
 use borrow.Author.Needs.{needs}
 use Rattle.index.proofs.make.type_entry.Statement.{statement}
 use Rattle.index.proofs.make.type_entry.Tie as tie
-use Rattle.index.proofs.make.type_entry.Reads as reads
-use Rattle.index.proofs.make.type_entry.Lts as lts
-use Rattle.sheet.proofs.bytes.byte.Reads as byte-reads
-use Rattle.sheet.proofs.bytes.word.Reads as word-reads
-use Rattle.sheet.proofs.places.qual_at.Reads as qual-at-reads
 
 qual-at-requires : tie.Need-qual-at-requires
 qual-at-requires c κs = search needs

@@ -1,11 +1,7 @@
-use native.Mathlib.Omega.{arith}
+-- What the two callees ensure, one after the other.
 use borrow.Author.Needs.{needs}
 use Rattle.index.proofs.procedures.place_of.Statement.{statement}
 use Rattle.index.proofs.procedures.place_of.Tie as tie
-use Rattle.index.proofs.procedures.place_of.Reads as reads
-use Rattle.index.proofs.procedures.place_of.Lts as lts
-use Rattle.index.proofs.procedures.place_in.Reads as place-in-reads
-use Rattle.index.proofs.procedures.procedure_word.Reads as procedure-word-reads
 
 procedure-word-requires : tie.Need-procedure-word-requires
 procedure-word-requires c κs = search needs

@@ -1,11 +1,9 @@
+-- The test is the definition's.
 use Rattle.index.specs.Procedures.{procedure-in}
 use borrow.Author.Tests.{lt-ltb, le-ltb}
-use native.Mathlib.Omega.{arith}
 use borrow.Author.Needs.{needs}
 use Rattle.index.proofs.procedures.procedure_word.Statement.{statement}
 use Rattle.index.proofs.procedures.procedure_word.Tie as tie
-use Rattle.index.proofs.procedures.procedure_word.Reads as reads
-use Rattle.index.proofs.procedures.procedure_word.Lts as lts
 
 add-result : tie.Need-add-result
 add-result c = search needs

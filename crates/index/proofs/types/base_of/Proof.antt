@@ -1,13 +1,9 @@
+-- The base in the word is that of the tree.
 use mathlib.Core.Path.{sym}
 use Rattle.index.proofs.Trees.{base-qual}
-use native.Mathlib.Omega.{arith}
 use borrow.Author.Needs.{needs}
 use Rattle.index.proofs.types.base_of.Statement.{statement}
 use Rattle.index.proofs.types.base_of.Tie as tie
-use Rattle.index.proofs.types.base_of.Reads as reads
-use Rattle.index.proofs.types.base_of.Lts as lts
-use Rattle.index.proofs.types.base_in.Reads as base-in-reads
-use Rattle.index.proofs.types.type_word.Reads as type-word-reads
 
 type-word-requires : tie.Need-type-word-requires
 type-word-requires c κs = search needs

@@ -1,11 +1,9 @@
+-- The test is the definition's, on the same quotient.
 use Rattle.index.specs.Types.{element-of, element-below}
 use borrow.Author.Tests.{lt-ltb, le-ltb}
-use native.Mathlib.Omega.{arith}
 use borrow.Author.Needs.{needs}
 use Rattle.index.proofs.types.element_in.Statement.{statement}
 use Rattle.index.proofs.types.element_in.Tie as tie
-use Rattle.index.proofs.types.element_in.Reads as reads
-use Rattle.index.proofs.types.element_in.Lts as lts
 
 cast-e : tie.Need-cast-e
 cast-e c = search needs

@@ -1,14 +1,9 @@
+-- An array's word says its element; 255 stands for that of any other type.
 use mathlib.Core.Path.{sym, _∙_}
 use Rattle.index.proofs.Trees.{element-said, element-unsaid}
-use native.Mathlib.Omega.{arith}
 use borrow.Author.Needs.{needs}
 use Rattle.index.proofs.types.element_of.Statement.{statement}
 use Rattle.index.proofs.types.element_of.Tie as tie
-use Rattle.index.proofs.types.element_of.Reads as reads
-use Rattle.index.proofs.types.element_of.Lts as lts
-use Rattle.index.proofs.types.base_in.Reads as base-in-reads
-use Rattle.index.proofs.types.element_in.Reads as element-in-reads
-use Rattle.index.proofs.types.type_word.Reads as type-word-reads
 
 type-word-requires : tie.Need-type-word-requires
 type-word-requires c κs = search needs

@@ -1,12 +1,9 @@
+-- The base tells an array from the other shapes.
 use mathlib.Core.Path.{sym}
 use Rattle.index.proofs.Trees.{array-base, proper}
-use native.Mathlib.Omega.{arith}
 use borrow.Author.Needs.{needs}
 use Rattle.index.proofs.types.is_array.Statement.{statement}
 use Rattle.index.proofs.types.is_array.Tie as tie
-use Rattle.index.proofs.types.is_array.Reads as reads
-use Rattle.index.proofs.types.is_array.Lts as lts
-use Rattle.index.proofs.types.base_of.Reads as base-of-reads
 
 base-of-requires : tie.Need-base-of-requires
 base-of-requires c κs = search needs

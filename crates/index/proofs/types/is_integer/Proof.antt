@@ -1,12 +1,9 @@
+-- The base tells an integer from the other shapes.
 use mathlib.Core.Path.{sym}
 use Rattle.index.proofs.Trees.{integer-base, proper}
-use native.Mathlib.Omega.{arith}
 use borrow.Author.Needs.{needs}
 use Rattle.index.proofs.types.is_integer.Statement.{statement}
 use Rattle.index.proofs.types.is_integer.Tie as tie
-use Rattle.index.proofs.types.is_integer.Reads as reads
-use Rattle.index.proofs.types.is_integer.Lts as lts
-use Rattle.index.proofs.types.base_of.Reads as base-of-reads
 
 base-of-requires : tie.Need-base-of-requires
 base-of-requires c κs = search needs

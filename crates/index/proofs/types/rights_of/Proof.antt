@@ -1,14 +1,9 @@
+-- An integer has no rights; of any other type they stand in its word.
 use mathlib.Core.Path.{sym, _∙_}
 use Rattle.index.proofs.Trees.{rights-none, rights-qual}
-use native.Mathlib.Omega.{arith}
 use borrow.Author.Needs.{needs}
 use Rattle.index.proofs.types.rights_of.Statement.{statement}
 use Rattle.index.proofs.types.rights_of.Tie as tie
-use Rattle.index.proofs.types.rights_of.Reads as reads
-use Rattle.index.proofs.types.rights_of.Lts as lts
-use Rattle.index.proofs.types.base_in.Reads as base-in-reads
-use Rattle.index.proofs.types.rights_in.Reads as rights-in-reads
-use Rattle.index.proofs.types.type_word.Reads as type-word-reads
 
 type-word-requires : tie.Need-type-word-requires
 type-word-requires c κs = search needs

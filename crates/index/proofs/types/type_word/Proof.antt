@@ -1,11 +1,9 @@
+-- The test is the definition's.
 use Rattle.index.specs.Types.{word-in}
 use borrow.Author.Tests.{lt-ltb, le-ltb}
-use native.Mathlib.Omega.{arith}
 use borrow.Author.Needs.{needs}
 use Rattle.index.proofs.types.type_word.Statement.{statement}
 use Rattle.index.proofs.types.type_word.Tie as tie
-use Rattle.index.proofs.types.type_word.Reads as reads
-use Rattle.index.proofs.types.type_word.Lts as lts
 
 mul-result : tie.Need-mul-result
 mul-result c = search needs

@@ -1,3 +1,4 @@
+-- Past the end `getD` is 0, as the code is.
 use Prim.Native.Nat.{_+_, _≤_}
 use mathlib.Core.Path.{refl, sym}
 use lib.ListN.{List·getD-eq-default, length}
@@ -6,8 +7,6 @@ use native.Mathlib.Omega.{arith}
 use borrow.Author.Needs.{needs}
 use Rattle.sheet.proofs.fields.field.Statement.{statement}
 use Rattle.sheet.proofs.fields.field.Tie as tie
-use Rattle.sheet.proofs.fields.field.Reads as reads
-use Rattle.sheet.proofs.fields.field.Lts as lts
 
 add-i : tie.Need-add-i
 add-i c = search needs
