@@ -11,10 +11,10 @@ use Rattle.access.proofs.passes.instructions_access.Statement.{statemen
 use Rattle.access.proofs.passes.instructions_access.Tie as tie
 
 abbrev Inv-loop : tie.InvT-loop
-Inv-loop s table p pr n i₀ i = Passing (instruction-rules (placeOf s) (programOf s) p) n i
+Inv-loop s index p pr n i₀ i = Passing (instruction-rules (placeOf s) (programOf s) p) n i
 
 abbrev μ-loop : tie.MeasureT-loop
-μ-loop s table p pr n i₀ i = n - i
+μ-loop s index p pr n i₀ i = n - i
 
 word-requires : tie.Need-word-requires Inv-loop μ-loop
 word-requires c κs = search needs

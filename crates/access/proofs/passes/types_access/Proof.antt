@@ -9,10 +9,10 @@ use Rattle.access.proofs.passes.types_access.Statement.{statement}
 use Rattle.access.proofs.passes.types_access.Tie as tie
 
 abbrev Inv-loop : tie.InvT-loop
-Inv-loop s n i₀ i = Passing (type-rules (placeOf s) (programOf s)) n i
+Inv-loop s index n i₀ i = Passing (type-rules (placeOf s) (programOf s)) n i
 
 abbrev μ-loop : tie.MeasureT-loop
-μ-loop s n i₀ i = n - i
+μ-loop s index n i₀ i = n - i
 
 loop-holds : tie.Need-loop-holds Inv-loop μ-loop
 loop-holds c = pass-start _ _

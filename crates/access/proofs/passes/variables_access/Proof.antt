@@ -10,10 +10,10 @@ use Rattle.access.proofs.passes.variables_access.Statement.{statement}
 use Rattle.access.proofs.passes.variables_access.Tie as tie
 
 abbrev Inv-loop : tie.InvT-loop
-Inv-loop s p pr n x₀ x = Passing (variable-rules (placeOf s) (programOf s) p) n x
+Inv-loop s index p pr n x₀ x = Passing (variable-rules (placeOf s) (programOf s) p) n x
 
 abbrev μ-loop : tie.MeasureT-loop
-μ-loop s p pr n x₀ x = n - x
+μ-loop s index p pr n x₀ x = n - x
 
 byte-requires : tie.Need-byte-requires Inv-loop μ-loop
 byte-requires c κs = search needs

@@ -1,10 +1,10 @@
 -- Past the end `getD` is 0, as the code is.
 use Prim.Native.Nat.{_+_, _≤_}
 use mathlib.Core.Path.{refl, sym}
-use lib.ListN.{List·getD-eq-default, length}
-use Rattle.sheet.specs.Bytes.{byteAt}
 use native.Mathlib.Omega.{arith}
+use lib.ListN.{List·getD-eq-default, length}
 use borrow.Author.Needs.{needs}
+use Rattle.sheet.specs.Bytes.{byteAt}
 use Rattle.sheet.proofs.fields.field.Statement.{statement}
 use Rattle.sheet.proofs.fields.field.Tie as tie
 
