@@ -19,6 +19,8 @@ use Rattle.sheet.specs.Instructions.{Line, table, line-of}
 use Rattle.sheet.specs.Decode.{unlisted, operation-by, decode, fieldsAt, operationAt}
 use Rattle.sheet.specs.declared.decode.Fields.{Fields}
 use Rattle.sheet.proofs.Instructions.{by-line}
+use Rattle.index.specs.Indexed.{Indexed, Ready}
+use Rattle.index.proofs.Ready.{ready}
 use Rattle.limits.specs.declared.Limits.{Limits}
 use Rattle.limits.specs.Scale.{all-below, below-or-none, type-scale, rights-scale, qual-scale, procedure-scale, variable-scale, line-limits, line-scale, instruction-scale, actuals-scale}
 use Rattle.form.specs.WellFormed.{length-tests, header-tests, type-tests, qual-tests, variable-tests, limitsAt, instruction-tests-at, instruction-tests, procedure-tests, leftover-tests, layout-tests, call-tests-at, call-tests, procedure-calls, calls-tests, form-tests}
@@ -100,6 +102,10 @@ module _ (s : List ℕ) (wf : verdict (form-tests s) ≡ Accepted) where
   pub form-small : (typesOf s ≤ 32) × (qualsOf s ≤ 64) × (1 ≤ proceduresOf s) × (proceduresOf s ≤ 64)
   unfolding layout-tests
   form-small = header-small s (left-accepted (header-tests s) _ layout-accepted)
+
+  -- so that its index has room for them
+  pub form-ready : (t : List ℕ) → Indexed s t → Ready s t
+  form-ready t x = ready s t x (form-small .1) (form-small .3)
 
   -- the last procedure ends where the sheet ends
   pub form-ends : procedureAt s (proceduresOf s) ≡ length s

@@ -62,11 +62,8 @@ pub fn fetch_rule(s: &[u8], index: &Index, pr: u32, a: u8, b: u8, c: u8) -> u8
     let of = inner_of(s, pr, b);
     let kinds = is_array(index, of) & is_integer(index, inner_of(s, pr, c));
     let moved = movement(index, element_of(index, of), inner_of(s, pr, a));
-    require(
-        kinds,
-        8,
-        require(has_right(1, rights_of(index, of)), 9, moved),
-    )
+    let held = rights_of(index, of);
+    require(kinds, 8, require(has_right(1, held), 9, moved))
 }
 
 pub fn store_rule(s: &[u8], index: &Index, pr: u32, a: u8, b: u8, c: u8) -> u8
@@ -76,11 +73,8 @@ pub fn store_rule(s: &[u8], index: &Index, pr: u32, a: u8, b: u8, c: u8) -> u8
     let to = inner_of(s, pr, a);
     let kinds = is_array(index, to) & is_integer(index, inner_of(s, pr, b));
     let moved = movement(index, inner_of(s, pr, c), element_of(index, to));
-    require(
-        kinds,
-        8,
-        require(has_right(2, rights_of(index, to)), 9, moved),
-    )
+    let held = rights_of(index, to);
+    require(kinds, 8, require(has_right(2, held), 9, moved))
 }
 
 pub fn size_rule(s: &[u8], index: &Index, pr: u32, a: u8, b: u8) -> u8
@@ -90,11 +84,8 @@ pub fn size_rule(s: &[u8], index: &Index, pr: u32, a: u8, b: u8) -> u8
     let of = inner_of(s, pr, b);
     let moved = integer_rule(s, index, pr, a);
     let kind = is_array(index, of);
-    require(
-        kind,
-        8,
-        require(has_right(3, rights_of(index, of)), 9, moved),
-    )
+    let held = rights_of(index, of);
+    require(kind, 8, require(has_right(3, held), 9, moved))
 }
 
 pub fn record_rule(s: &[u8], index: &Index, pr: u32, a: u8) -> u8
