@@ -61,3 +61,7 @@ module _ (s t : List ℕ) (x : Indexed s t) (q : qualsOf s ≤ 64) where
         places = λ k l. x .places k l (omega arith);
         procedures = λ k l. x .procedures k l (omega arith);
       }
+
+-- the types of the sheet, as one function
+pub same-types : {s t : List ℕ} → Ready s t → qualIn t ≡ qualOf s
+same-types ready = λ i j. ready .types j i
