@@ -40,7 +40,7 @@ fn equal_in(index: &Index, i: u8, j: u8) -> bool
     false
 }
 
-// Two names of one QT are equal at once: a test that callers take over, where the walk is called.
+// Two names of one QT are equal at once: a test by itself, so that it is inlined where the walk is not.
 pub fn equal(index: &Index, i: u8, j: u8) -> bool
     ensures { λ r. ⌜ r ≡ same (qualIn (now (index .entry)) i) (qualIn (now (index .entry)) j) ⌝ }
 {
