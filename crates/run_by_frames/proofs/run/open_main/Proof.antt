@@ -66,7 +66,7 @@ same-length c = search needs
 
 returns : tie.Need-returns
 returns c =
-    λ m input out. let a = c .before .before .before .before .before .before .before .before .before .pre in begins m (c .before .before .before .before .before .before .before .before .before .args .s .now) (c .before .before .before .before .before .before .before .before .before .args .memory .now) _ input out (c .before .before .before .before .before .before .before .before .before .args .v) _ _ (a .0 .formed) (a .1 .0) (a .1 .1 .0) (a .1 .1 .1) (c .instruction-at .ensures .0 ∙ ap (λ (at : ℕ). instructionAt (c .before .before .before .before .before .before .before .before .before .args .s .now) at 0) (placed (c .before .before .before .before .before .before .before .before .before .args .s .now) (c .before .before .before .before .before .before .before .before .before .args .table .now) (a .0 .places) 0 zero-le zero-le)) (c .before .before .before .before .before .clear .ensures) (c .before .before .place-word .ensures m (qualOf (c .before .before .before .before .before .before .before .before .before .args .s .now)))
+    (search needs, λ m input out. let a = c .before .before .before .before .before .before .before .before .before .pre in begins m (c .before .before .before .before .before .before .before .before .before .args .s .now) (c .before .before .before .before .before .before .before .before .before .args .memory .now) _ input out (c .before .before .before .before .before .before .before .before .before .args .v) _ _ (a .0 .formed) (a .1 .0) (a .1 .1 .0) (a .1 .1 .1) (c .instruction-at .ensures .0 ∙ ap (λ (at : ℕ). instructionAt (c .before .before .before .before .before .before .before .before .before .args .s .now) at 0) (placed (c .before .before .before .before .before .before .before .before .before .args .s .now) (c .before .before .before .before .before .before .before .before .before .args .table .now) (a .0 .places) 0 zero-le zero-le)) (c .before .before .before .before .before .clear .ensures) (c .before .before .place-word .ensures m (qualOf (c .before .before .before .before .before .before .before .before .before .args .s .now))))
 
 pub open-main-spec : {M : Type 1} → statement M
 open-main-spec =
