@@ -18,7 +18,6 @@ use Rattle.sheet.specs.Layout.{variablesAt, instructionAt, procedureAt}
 use Rattle.sheet.specs.Decode.{operationAt}
 use Rattle.sheet.specs.Meaning.{programOf}
 use Rattle.form.specs.WellFormed.{form-tests}
-use Rattle.form.proofs.Laws.{instruction-from}
 use Rattle.theorem.proofs.Formed.{formed}
 use Rattle.form.proofs.WellFormed.{instructions-few, instruction-whole, actuals-there, callee-below}
 use Rattle.writers.specs.declared.Registers.{Registers}
@@ -28,6 +27,7 @@ use Rattle.writers.specs.Memory.{Given, Sane, StandsFor}
 use Rattle.writers.specs.Steps.{After, onward}
 use Rattle.frames.specs.Performs.{performed, Performs}
 use Rattle.frames.specs.Fetch.{place-in, Fetchable}
+use Rattle.frames.proofs.Kept.{place-is}
 use Rattle.run_by_frames.specs.declared.Ended.{Ended}
 use Rattle.run_by_frames.specs.Reply.{EndedIs, ended}
 use Rattle.run_by_frames.specs.Inside.{Inside}
@@ -44,15 +44,12 @@ module _ (m : Mode) (c : Given) (words out : List ℕ) (r : Registers) where
   sane : (t : State m) → StandsFor m c words out r t → Sane (length words) r
   sane (state (frame p i vs) fs os input put) S = S .sane
 
-  here : (p i : ℕ) → r .next ≡ i → r .first ≡ instructionAt (c .sheet) (procedureAt (c .sheet) p) 0 → place-in r ≡ instructionAt (c .sheet) (procedureAt (c .sheet) p) i
-  here p i n e = rw n (instruction-from (c .sheet) (procedureAt (c .sheet) p) (r .first) i e)
-
   fetchable : verdict (form-tests (c .sheet)) ≡ Accepted → (t : State m) → StandsFor m c words out r t → Inside (programOf (c .sheet)) t → Fetchable (c .sheet) r
   fetchable wf (state (frame p i vs) fs os input put) S I =
       let s = c .sheet in
       let l = I .0 .procedure in
       let n = I .0 .instruction in
-      let e : place-in r ≡ instructionAt s (procedureAt s p) i = here p i (S .next) (S .first) in
+      let e : place-in r ≡ instructionAt s (procedureAt s p) i = place-is S in
       record {
         whole = rw e (instruction-whole s wf p l i n);
         first = let w : place-in r + 8 ≤ length s = rw e (instruction-whole s wf p l i n) in omega arith;
@@ -67,8 +64,7 @@ module _ (m : Mode) (c : Given) (words out : List ℕ) (r : Registers) where
       ≡ step (programOf (c .sheet)) (length words) (length out) t
   unfolding step
   same-step (state (frame p i vs) fs os input put) S =
-      let e : place-in r ≡ instructionAt (c .sheet) (procedureAt (c .sheet) p) i = here p i (S .next) (S .first) in
-      rw e
+      rw (place-is S)
 
   -- the run from a state that stops there
   ends : (t : State m) → StandsFor m c words out r t → (x : Stop) (k n : ℕ) (out′ : List ℕ) → k ≡ stop-number x → out′ ≡ out
