@@ -12,7 +12,9 @@ use Rattle.model.specs.Program.{Program}
 use Rattle.model.specs.Modes.{Mode}
 use Rattle.model.specs.Machine.{frame, State, state, Next, go, finished, view, plan, step}
 use Rattle.model.specs.Run.{End, stopped, end-in, stuck-in, snapshot, running, over, settle, end-of, advance, opened, start, trace, run}
+use Rattle.model.specs.Inside.{Inside}
 use Rattle.model.proofs.AnyProgram.{IsOver, over-run}
+use Rattle.model.proofs.Inside.{yielded, step-inside, opened-inside}
 use Rattle.model.specs.declared.Verdict.the-variants.{Accepted}
 use Rattle.sheet.specs.Layout.{variablesAt, instructionAt, procedureAt}
 use Rattle.sheet.specs.Decode.{operationAt}
@@ -30,11 +32,9 @@ use Rattle.frames.specs.Fetch.{place-in, Fetchable}
 use Rattle.frames.proofs.Kept.{place-is}
 use Rattle.run_by_frames.specs.declared.Ended.{Ended}
 use Rattle.run_by_frames.specs.Reply.{EndedIs, ended}
-use Rattle.run_by_frames.specs.Inside.{Inside}
 use Rattle.run_by_frames.specs.declared.Paused.{Paused}
 use Rattle.run_by_frames.specs.declared.Paused.the-variants as P
 use Rattle.run_by_frames.specs.Turn.{Never-stuck, whole-run, Going, Begun, PausedIs}
-use Rattle.run_by_frames.proofs.Inside.{yielded, step-inside, opened-inside}
 
 -- what is told at a stop
 abbrev pub told : Registers → (number steps : ℕ) → Ended

@@ -7,13 +7,13 @@ use lib.ListN.{length}
 use Rattle.model.specs.Modes.{Mode, plain, watched}
 use Rattle.model.specs.Machine.{State}
 use Rattle.model.specs.Run.{End, stuck-at, running, trace, run}
+use Rattle.model.specs.Inside.{Inside}
 use Rattle.sheet.specs.Meaning.{programOf}
 use Rattle.writers.specs.declared.Registers.{Registers}
 use Rattle.writers.specs.Memory.{Given, StandsFor}
 use Rattle.run_by_frames.specs.declared.Paused.{Paused}
 use Rattle.run_by_frames.specs.declared.Paused.the-variants as P
 use Rattle.run_by_frames.specs.Reply.{EndedIs}
-use Rattle.run_by_frames.specs.Inside.{Inside}
 
 -- the machine that a flag names
 abbrev pub mode-of : Bool → Mode
