@@ -1,121 +1,89 @@
 -- What binding comes to, by what the tests of the code say.
 use Prim.Native.Nat.{ℕ, _+_}
 use native.Mathlib.Omega.{arith}
-use mathlib.Core.Path.{_≡_, refl, sym, ap, _∙_}
-use mathlib.Core.Bool.{Bool, true, false, _&&_, cond}
+use mathlib.Core.Path.{_≡_, refl, sym, ap, subst, _∙_}
+use mathlib.Core.Bool.{Bool, true, false, _&&_, cond, false≢true}
 use mathlib.Core.List.{List}
 use mathlib.Core.Option.{Option, none, some}
-use lib.Dec.{eqb}
-use borrow.Author.Tests.{ne-eqb}
+use lib.Dec.{eqb, leb}
+use lib.ListN.{getD}
+use borrow.Author.Tests.{ne-eqb, eqb-true}
 use Rattle.model.specs.Rights.{Rights, within}
-use Rattle.model.specs.Qualified.{Qual, integer, array, declared, base, rights, isInteger}
+use Rattle.model.specs.Qualified.{Qual, integer, base, rights, element, isInteger, isArray, same}
 use Rattle.model.specs.Outcome.{blank, past-end, input-ended, output-full, memory-full, wrong-kind, missing-right, Res, ok, stop, stuck, _>>=_, _>>_, ensure}
 use Rattle.model.specs.Program.{Program}
-use Rattle.model.specs.Modes.{watched, Kind, integer-kind, no-kind, amiss, fits, bind, is-record-of, raise-if, raise, bind-result}
-use Rattle.model.specs.Machine.{Value, word, object, Cell, empty, filled, Head, View, held, kind-at, kind-of-head, moved, actual, handed}
+use Rattle.model.specs.Modes.{watched, Kind, amiss, fits, bind, is-record-of, raise-if, raise, bind-result}
+use Rattle.model.specs.Machine.{Value, word, object, Cell, empty, filled, Head, array-head, record-head, no-head, View, held, kind-of-head, kind-at, moved, actual, handed}
+use Rattle.model.proofs.Rights.{within-refl}
 use Rattle.sheet.specs.Bytes.{byteAt}
-use Rattle.sheet.specs.Layout.{procedureAt, variableAt, needAt, innerAt, ownerAt, resultAt}
+use Rattle.sheet.specs.Layout.{procedureAt, needAt, innerAt, ownerAt, resultAt}
 use Rattle.sheet.specs.Meaning.{qualOf, programOf, needIn, innerIn, resultIn}
+use Rattle.index.specs.Types.{word-in, rights-of, base-of, element-below, qualIn}
+use Rattle.index.specs.Indexed.{Ready}
+use Rattle.index.proofs.Trees.{integer-base, array-base, proper, base-qual, rights-qual, qual-integer, element-said}
+use Rattle.index.proofs.Ready.{same-types}
 use Rattle.words.specs.Word.{tag, low, payload, info-of, cell, slot-in, as-head}
 use Rattle.words.specs.Sees.{heads-in}
 use Rattle.words.specs.Answers.{halted, IsCell, MovedOk}
 use Rattle.words.specs.declared.Moved.{Moved}
 use Rattle.words.specs.declared.Moved.the-variants.{To, Halt}
-use Rattle.words.proofs.Laws.{slot-integer, slot-array, slot-record, blank-word}
-use Rattle.binding.specs.Kinds.{kind-as, Heads, moved-cell, handed-cell, carries, raised}
-use Rattle.binding.specs.declared.Kind.the-variants.{Integer, Array, Record, Nothing}
+use Rattle.words.proofs.Laws.{slot-array, slot-record, blank-word}
+use Rattle.binding.specs.Binds.{kind-in, Heads, moved-cell, handed-cell, raised, BindsFilled, BindsWord, Raises}
 use Rattle.binding.proofs.Views.{ValueOf, integer-in, object-in, value-word, CellOf, blank-in, value-in, cell-word, HeadOf, array-in, record-in, no-head-in, head-word}
 
--- ---- the kind of an object, by its head
+-- ---- the object of a head against a type
 
-module _ (qual : ℕ → Qual) (w : ℕ) where
-  pub head-array : (r : ℕ) → r ≡ info-of w → tag w ≡ 3 → kind-as qual (Array r) ≡ kind-of-head (as-head (slot-in watched qual w))
-  unfolding kind-as
-  head-array r is t = rw (is, slot-array watched qual w t)
-
-  pub head-record : (r : ℕ) → r ≡ info-of w → tag w ≡ 4 → kind-as qual (Record r) ≡ kind-of-head (as-head (slot-in watched qual w))
-  unfolding kind-as
-  head-record r is t = rw (is, slot-record watched qual w t)
-
-  pub head-none : (tag w ≡ 3 → ⊥) → (tag w ≡ 4 → ⊥) → kind-as qual Nothing ≡ kind-of-head (as-head (slot-in watched qual w))
-  unfolding kind-as
-  head-none not3 not4 = by (head-word qual w)
+module _ (t : List ℕ) (q head : ℕ) where
+  pub fits-array : {u b k e : ℕ} {r : Bool} → tag head ≡ 3 → u ≡ word-in t q → b ≡ base-of u → k ≡ info-of head → e ≡ element-below u q
+      → r ≡ same (qualIn t k) (qualIn t e) → eqb b 1 && r ≡ fits (qualIn t q) (kind-in (qualIn t) head)
+  unfolding fits
+  fits-array {u} {b} {k} {e} {r} is-array is-u is-b is-k is-e is-r =
+      rw (slot-array watched (qualIn t) head is-array, array-base (proper t q), base-qual t q, sym word-base) (go (eqb b 1) refl)
     where
-      by : {h : Head watched} → HeadOf qual w h → no-kind ≡ kind-of-head h
-      by (array-in t) = absurd (not3 t)
-      by (record-in t) = absurd (not4 t)
+      word-base : b ≡ base-of (word-in t q)
+      word-base = rw is-u at is-b
+
+      go : (a : Bool) → eqb b 1 ≡ a → a && r ≡ a && same (qualIn t (info-of head)) (element (qualIn t q))
+      go true told = is-r ∙ rw (is-k, is-e, is-u, element-said t q (sym word-base ∙ eqb-true b 1 told) .means)
+      go false told = refl
+
+  pub fits-record : {u b k : ℕ} → tag head ≡ 4 → u ≡ word-in t q → b ≡ base-of u → k ≡ info-of head
+      → leb 2 k && eqb b k ≡ fits (qualIn t q) (kind-in (qualIn t) head)
+  unfolding fits
+  fits-record is-record is-u is-b is-k = rw (slot-record watched (qualIn t) head is-record, base-qual t q, is-b, is-u, is-k)
+
+  pub fits-nothing : (tag head ≡ 3 → ⊥) → (tag head ≡ 4 → ⊥) → false ≡ fits (qualIn t q) (kind-in (qualIn t) head)
+  unfolding fits
+  fits-nothing not3 not4 = by (head-word (qualIn t) head)
+    where
+      by : {d : Head watched} → HeadOf (qualIn t) head d → false ≡ fits (qualIn t q) (kind-of-head d)
+      by (array-in i) = absurd (not3 i)
+      by (record-in i) = absurd (not4 i)
       by (no-head-in a b) = refl
 
--- ---- a filled cell by its tag
+-- no object is of the integer type
+object-misfit : (d : Head watched) → fits integer (kind-of-head d) ≡ false
+unfolding fits isArray base
+object-misfit (array-head e n) = refl
+object-misfit no-head = refl
+object-misfit (record-head t n) = go (eqb 0 t) refl
+  where
+    go : (u : Bool) → eqb 0 t ≡ u → leb 2 t && u ≡ false
+    go true e = rw (sym (eqb-true 0 t e))
+    go false e = and-false (leb 2 t)
+      where
+        and-false : (b : Bool) → b && false ≡ false
+        and-false true = refl
+        and-false false = refl
 
-module _ (qual : ℕ → Qual) (w : ℕ) {x : Value} {m : ℕ} (e : slot-in watched qual w ≡ cell (filled x m)) where
-  pub integer-kind-is : (heads : ℕ → Head watched) → tag w ≡ 1 → kind-as qual Integer ≡ kind-at heads x
-  unfolding kind-as
-  integer-kind-is heads t = by (value-word qual w x m e)
-    where
-      by : {y : Value} {n : ℕ} → ValueOf w y n → integer-kind ≡ kind-at heads y
-      by (integer-in i) = refl
-      by (object-in i) = absurd (omega arith)
-
-  pub object-kind-is : (heads : ℕ → Head watched) → (tag w ≡ 1 → ⊥) → kind-of-head (heads (payload w)) ≡ kind-at heads x
-  object-kind-is heads not1 = by (value-word qual w x m e)
-    where
-      by : {y : Value} {n : ℕ} → ValueOf w y n → kind-of-head (heads (payload w)) ≡ kind-at heads y
-      by (integer-in i) = absurd (not1 i)
-      by (object-in i) = refl
-
-  pub integer-carries : tag w ≡ 1 → 0 ≡ m
-  integer-carries t = by (value-word qual w x m e)
-    where
-      by : {y : Value} {n : ℕ} → ValueOf w y n → 0 ≡ n
-      by (integer-in i) = refl
-      by (object-in i) = absurd (omega arith)
-
-  pub object-carries : (tag w ≡ 1 → ⊥) → low w ≡ m
-  object-carries not1 = by (value-word qual w x m e)
-    where
-      by : {y : Value} {n : ℕ} → ValueOf w y n → low w ≡ n
-      by (integer-in i) = absurd (not1 i)
-      by (object-in i) = refl
-
-  pub integer-stays : (r : Rights) → tag w ≡ 1 → slot-in watched qual w ≡ cell (filled x (carries x r))
-  unfolding carries
-  integer-stays r t = by (value-word qual w x m e)
-    where
-      by : {y : Value} {n : ℕ} → ValueOf w y n → slot-in watched qual w ≡ cell (filled y (carries y r))
-      by (integer-in i) = slot-integer watched qual w t
-      by (object-in i) = absurd (omega arith)
-
-  pub object-goes-on : (r : Rights) (z : ℕ) → (tag w ≡ 1 → ⊥) → slot-in watched qual z ≡ cell (filled (object (payload w)) r)
-      → slot-in watched qual z ≡ cell (filled x (carries x r))
-  unfolding carries
-  object-goes-on r z not1 is = by (value-word qual w x m e)
-    where
-      by : {y : Value} {n : ℕ} → ValueOf w y n → slot-in watched qual z ≡ cell (filled y (carries y r))
-      by (integer-in i) = absurd (not1 i)
-      by (object-in i) = is
-
--- ---- binding
-
--- an integer's type has no rights
-pub fitting-carries : (q : Qual) (heads : ℕ → Head watched) (x : Value) → fits q (kind-at heads x) ≡ true → carries x (rights q) ≡ rights q
-unfolding carries rights fits isInteger
-fitting-carries q heads (object a) e = refl
-fitting-carries integer heads (word n) e = refl
-fitting-carries (array r f) heads (word n) e = absurd (let z : _≡_ {A = ℕ} 0 1 = cc in omega arith)
-fitting-carries (declared t r) heads (word n) e = absurd (let z : _≡_ {A = ℕ} 0 1 = cc in omega arith)
-
--- the heads that a view sees are those in the words
-pub kind-seen : (s h : List ℕ) (v : View watched) (x : Value) → Heads s v h → kind-at (heads-in watched (qualOf s) h) x ≡ kind-at (v .head) x
-kind-seen s h v (word n) e = refl
-kind-seen s h v (object a) e = ap kind-of-head (e a)
+-- ---- binding, by its two tests
 
 module _ (g : Program) (v : View watched) (q : Qual) (x : Value) (m : Rights) where
   pub bound-misfit : fits q (kind-at (v .head) x) ≡ false → moved watched g v q (filled x m) ≡ stop wrong-kind
   unfolding moved held bind ensure _>>=_ _>>_
   bound-misfit e = rw e
 
-  pub bound-without : fits q (kind-at (v .head) x) ≡ true → within (rights q) m ≡ false → moved watched g v q (filled x m) ≡ stop missing-right
+  bound-without : fits q (kind-at (v .head) x) ≡ true → within (rights q) m ≡ false → moved watched g v q (filled x m) ≡ stop missing-right
   unfolding moved held bind ensure _>>=_ _>>_
   bound-without e d = rw (e, d)
 
@@ -123,30 +91,74 @@ module _ (g : Program) (v : View watched) (q : Qual) (x : Value) (m : Rights) wh
   unfolding moved held bind ensure _>>=_ _>>_
   bound e d = rw (e, d)
 
--- what the tests of the code say
-pub fits-seen : (s h : List ℕ) (v : View watched) (q : Qual) (x : Value) {k : Kind watched} {b t : Bool}
-    → Heads s v h → k ≡ kind-at (heads-in watched (qualOf s) h) x → b ≡ fits q k → b ≡ t → fits q (kind-at (v .head) x) ≡ t
-fits-seen s h v q x heads kind is told = ap (fits q) (sym (kind ∙ kind-seen s h v x heads)) ∙ sym is ∙ told
-
-pub within-seen : (q : Qual) {r c m : ℕ} {b t : Bool} → b ≡ within r c → r ≡ rights q → c ≡ m → b ≡ t → within (rights q) m ≡ t
-within-seen q is a b told = rw (sym a, sym b) (sym is ∙ told)
-
-module _ (qual : ℕ → Qual) (g : Program) (v : View watched) (q : Qual) (x : Value) (m : Rights) where
-  pub bind-to : (z r : ℕ) → fits q (kind-at (v .head) x) ≡ true → within (rights q) m ≡ true → r ≡ rights q
-      → slot-in watched qual z ≡ cell (filled x (carries x r)) → moved-cell qual (To z) ≡ moved watched g v q (filled x m)
-  unfolding moved-cell
-  bind-to z r fit enough is e =
-      rw (e, is, fitting-carries q (v .head) x fit) (sym (bound g v q x m fit enough))
-
-  pub bind-without : fits q (kind-at (v .head) x) ≡ true → within (rights q) m ≡ false → moved-cell qual (Halt 19) ≡ moved watched g v q (filled x m)
-  unfolding moved-cell halted
-  bind-without fit short = sym (bound-without g v q x m fit short)
-
-  pub bind-misfit : fits q (kind-at (v .head) x) ≡ false → moved-cell qual (Halt 18) ≡ moved watched g v q (filled x m)
+-- of the word of a filled cell
+module _ (t h : List ℕ) (q w : ℕ) (g : Program) (v : View watched) (x : Value) (m : Rights)
+    (heads : Heads (qualIn t) v h) (e : slot-in watched (qualIn t) w ≡ cell (filled x m)) where
+  bind-misfit : fits (qualIn t q) (kind-at (v .head) x) ≡ false → moved-cell (qualIn t) (Halt 18) ≡ moved watched g v (qualIn t q) (filled x m)
   unfolding moved-cell halted amiss
-  bind-misfit misfit = sym (bound-misfit g v q x m misfit)
+  bind-misfit misfit = sym (bound-misfit g v (qualIn t q) x m misfit)
 
--- of a cell by its word
+  pub bind-integer : tag w ≡ 1 → base-of (word-in t q) ≡ 0 → moved-cell (qualIn t) (To w) ≡ moved watched g v (qualIn t q) (filled x m)
+  unfolding moved-cell fits isInteger rights
+  bind-integer i b = rw (e, qual-integer t q b) (by (value-word (qualIn t) w x m e))
+    where
+      by : {y : Value} {n : Rights} → ValueOf w y n → ok (filled y n) ≡ moved watched g v integer (filled y n)
+      by (integer-in j) = sym (bound g v integer (word (low w)) 0 refl (within-refl 0))
+      by (object-in j) = absurd (omega arith)
+
+  pub bind-no-integer : tag w ≡ 1 → (base-of (word-in t q) ≡ 0 → ⊥) → moved-cell (qualIn t) (Halt 18) ≡ moved watched g v (qualIn t q) (filled x m)
+  unfolding fits
+  bind-no-integer i b = bind-misfit (by (value-word (qualIn t) w x m e))
+    where
+      by : {y : Value} {n : Rights} → ValueOf w y n → fits (qualIn t q) (kind-at (v .head) y) ≡ false
+      by (integer-in j) = integer-base (proper t q) ∙ rw (base-qual t q) (ne-eqb _ 0 b)
+      by (object-in j) = absurd (omega arith)
+
+  object-kind : (tag w ≡ 1 → ⊥) → kind-in (qualIn t) (getD h (payload w) 0) ≡ kind-at (v .head) x
+  object-kind not1 = by (value-word (qualIn t) w x m e)
+    where
+      by : {y : Value} {n : Rights} → ValueOf w y n → kind-in (qualIn t) (getD h (payload w) 0) ≡ kind-at (v .head) y
+      by (integer-in i) = absurd (not1 i)
+      by (object-in i) = ap kind-of-head (heads (payload w))
+
+  -- an object's, whose head is tested
+  module _ (not1 : tag w ≡ 1 → ⊥) {n head : ℕ} {b : Bool} (name : n ≡ payload w) (at : head ≡ getD h n 0)
+      (is : b ≡ fits (qualIn t q) (kind-in (qualIn t) head)) where
+    fits-seen : fits (qualIn t q) (kind-at (v .head) x) ≡ b
+    fits-seen = sym (is ∙ rw (at, name, object-kind not1))
+
+    pub object-misfits : b ≡ false → moved-cell (qualIn t) (Halt 18) ≡ moved watched g v (qualIn t q) (filled x m)
+    object-misfits told = bind-misfit (fits-seen ∙ told)
+
+    -- a type that an object fits is not the integer type, and has the rights in its word
+    rights-there : b ≡ true → rights (qualIn t q) ≡ rights-of (word-in t q)
+    rights-there told =
+        rights-qual t q
+        (λ z. false≢true (sym (object-misfit (as-head (slot-in watched (qualIn t) head))) ∙ ap (λ (p : Qual). fits p (kind-in (qualIn t) head)) (sym (qual-integer t q z)) ∙ sym is ∙ told))
+
+    module _ {r l : ℕ} {d : Bool} (told : b ≡ true) (is-r : r ≡ rights-of (word-in t q)) (is-l : l ≡ low w) (is-d : d ≡ within r l) where
+      within-seen : {y : Value} {k : Rights} → ValueOf w y k → within (rights (qualIn t q)) k ≡ d
+      within-seen (integer-in i) = absurd (not1 i)
+      within-seen (object-in i) = rw (rights-there told, is-d, is-r, is-l)
+
+      pub object-without : d ≡ false → moved-cell (qualIn t) (Halt 19) ≡ moved watched g v (qualIn t q) (filled x m)
+      unfolding moved-cell halted
+      object-without short =
+          sym (bound-without g v (qualIn t q) x m (fits-seen ∙ told) (within-seen (value-word (qualIn t) w x m e) ∙ short))
+
+      pub object-bound : (z : ℕ) {k : ℕ} → d ≡ true → k ≡ payload w → slot-in watched (qualIn t) z ≡ cell (filled (object k) r)
+          → moved-cell (qualIn t) (To z) ≡ moved watched g v (qualIn t q) (filled x m)
+      unfolding moved-cell
+      object-bound z {k} enough name-is new =
+          rw (new, name-is, is-r, sym (rights-there told)) (by (value-word (qualIn t) w x m e))
+          ∙ sym (bound g v (qualIn t q) x m (fits-seen ∙ told) (within-seen (value-word (qualIn t) w x m e) ∙ enough))
+        where
+          by : {y : Value} {n : Rights} → ValueOf w y n
+              → _≡_ {A = Res (Cell watched)} (ok (filled (object (payload w)) (rights (qualIn t q)))) (ok (filled y (rights (qualIn t q))))
+          by (integer-in i) = absurd (not1 i)
+          by (object-in i) = refl
+
+-- of any cell by its word
 module _ (qual : ℕ → Qual) (g : Program) (v : View watched) (q : Qual) {w : ℕ} {c : Cell watched} where
   pub bind-blank : w ≡ 0 → slot-in watched qual w ≡ cell c → moved-cell qual (Halt 13) ≡ moved watched g v q c
   unfolding moved-cell halted moved held _>>=_
@@ -161,27 +173,10 @@ module _ (qual : ℕ → Qual) (g : Program) (v : View watched) (q : Qual) {w : 
       by empty (blank-in z) k = absurd (told .1 z)
       by (filled y m) (value-in _ _ f) k = rest y m (ap (slot-in watched qual) (told .0) ∙ k)
 
--- a cell that was moved is filled
-pub data Full : Cell watched → Type 0 where
-  full : (x : Value) (m : ℕ) → Full (filled x m)
-
-blank-stops : (g : Program) (v : View watched) (q : Qual) (d : Cell watched) → moved watched g v q empty ≡ ok d → ⊥
-unfolding moved held _>>=_
-blank-stops g v q d e = let z : _≡_ {A = ℕ} 0 1 = cc in omega arith
-
-pub moved-full : (g : Program) (v : View watched) (q : Qual) (c d : Cell watched) → moved watched g v q c ≡ ok d → Full d
-moved-full g v q empty d e = absurd (blank-stops g v q d e)
-moved-full g v q (filled x m) d e = by (fits q (kind-at (v .head) x)) (within (rights q) m) refl refl
-  where
-    by : (t u : Bool) → fits q (kind-at (v .head) x) ≡ t → within (rights q) m ≡ u → Full d
-    by false u a b = let k = bound-misfit g v q x m a in absurd (let z : _≡_ {A = ℕ} 0 1 = cc in omega arith)
-    by true false a b = let k = bound-without g v q x m a b in absurd (let z : _≡_ {A = ℕ} 0 1 = cc in omega arith)
-    by true true a b = let k = bound g v q x m a b in let same : d ≡ filled x (rights q) = cc in rw same (full x (rights q))
-
 -- ---- raising
 
 module _ (o : ℕ) (inner : Qual) (x : Value) (m : Rights) where
-  pub raised-own : (k : Kind watched) → is-record-of o k && eqb (base inner) o ≡ true → raised o inner k x m ≡ ok (filled x (rights inner))
+  raised-own : (k : Kind watched) → is-record-of o k && eqb (base inner) o ≡ true → raised o inner k x m ≡ ok (filled x (rights inner))
   unfolding raised raise raise-if _>>=_
   raised-own k e = rw e
 
@@ -190,25 +185,64 @@ module _ (o : ℕ) (inner : Qual) (x : Value) (m : Rights) where
   unfolding raised raise raise-if moved held _>>=_
   raised-bound g v e = rw e
 
-pub own-carries : (o : ℕ) (heads : ℕ → Head watched) (x : Value) (r : Rights) (t : Bool) → is-record-of o (kind-at heads x) && t ≡ true → carries x r ≡ r
-unfolding carries is-record-of
-own-carries o heads (object a) r t e = refl
-own-carries o heads (word n) r t e = absurd (let z : _≡_ {A = ℕ} 0 1 = cc in omega arith)
+-- the tests of the code
+pub own-record : (qual : ℕ → Qual) (h : List ℕ) (o w : ℕ) {x : Value} {m : Rights} {n head k tw th : ℕ} → slot-in watched qual w ≡ cell (filled x m)
+    → n ≡ payload w → head ≡ getD h n 0 → tw ≡ tag w → th ≡ tag head → k ≡ info-of head
+    → ((eqb tw 2 && eqb th 4) && leb 2 o) && eqb k o ≡ is-record-of o (kind-at (heads-in watched qual h) x)
+unfolding is-record-of
+own-record qual h o w {x} {m} e name at is-w is-h is-k =
+    rw (is-w, is-h, is-k, at, name) (by (value-word qual w x m e))
+  where
+    head : ℕ
+    head = getD h (payload w) 0
 
--- the test of the code
-pub own-seen : (s h : List ℕ) (v : View watched) (o : ℕ) (inner : Qual) (x : Value) {k : Kind watched} {b t : Bool} {n : ℕ}
-    → Heads s v h → k ≡ kind-at (heads-in watched (qualOf s) h) x → b ≡ is-record-of o k → n ≡ base inner → b && eqb n o ≡ t
-    → is-record-of o (kind-at (v .head) x) && eqb (base inner) o ≡ t
-own-seen s h v o inner x heads kind is b told = rw (sym (kind ∙ kind-seen s h v x heads), sym is, sym b) told
+    tests : Bool
+    tests = ((eqb (tag w) 2 && eqb (tag head) 4) && leb 2 o) && eqb (info-of head) o
 
-pub raise-to : (qual : ℕ → Qual) (v : View watched) (o : ℕ) (inner : Qual) (x : Value) (m : Rights) (z r : ℕ)
-    → is-record-of o (kind-at (v .head) x) && eqb (base inner) o ≡ true
-    → r ≡ rights inner
-    → slot-in watched qual z ≡ cell (filled x (carries x r))
-    → moved-cell qual (To z) ≡ raised o inner (kind-at (v .head) x) x m
-unfolding moved-cell
-raise-to qual v o inner x m z r own is e =
-    rw (e, is, own-carries o (v .head) x (rights inner) (eqb (base inner) o) own) (sym (raised-own o inner x m (kind-at (v .head) x) own))
+    of-object : tag w ≡ 2 → {d : Head watched} → HeadOf qual head d → tests ≡ is-record-of o (kind-of-head d)
+    of-object i (array-in j) = rw (i, j)
+    of-object i (record-in j) = rw (i, j)
+    of-object i (no-head-in a b) = rw (i, ne-eqb (tag head) 4 b)
+
+    by : {y : Value} {r : Rights} → ValueOf w y r → tests ≡ is-record-of o (kind-at (heads-in watched qual h) y)
+    by (integer-in i) = rw i
+    by (object-in i) = of-object i (head-word qual head)
+
+module _ (qual : ℕ → Qual) (h : List ℕ) (v : View watched) (o w : ℕ) (inner : Qual) (x : Value) (m : Rights)
+    (heads : Heads qual v h) {b : Bool} {n : ℕ} (own : b ≡ is-record-of o (kind-at (heads-in watched qual h) x)) (is-n : n ≡ base inner) where
+  kind-seen : (y : Value) → kind-at (heads-in watched qual h) y ≡ kind-at (v .head) y
+  kind-seen (word k) = refl
+  kind-seen (object a) = ap kind-of-head (heads a)
+
+  own-seen : is-record-of o (kind-at (v .head) x) && eqb (base inner) o ≡ b && eqb n o
+  own-seen = rw (own, is-n, kind-seen x)
+
+  pub raise-own : (z : ℕ) {k r : ℕ} → b && eqb n o ≡ true → slot-in watched qual w ≡ cell (filled x m) → k ≡ payload w → r ≡ rights inner
+      → slot-in watched qual z ≡ cell (filled (object k) r) → moved-cell qual (To z) ≡ raised o inner (kind-at (v .head) x) x m
+  unfolding moved-cell is-record-of
+  raise-own z told e name is-r new =
+      rw (new, name, is-r) (by (value-word qual w x m e) (own-seen ∙ told)) ∙ sym (raised-own o inner x m (kind-at (v .head) x) (own-seen ∙ told))
+    where
+      by : {y : Value} {l : Rights} → ValueOf w y l → is-record-of o (kind-at (v .head) y) && eqb (base inner) o ≡ true
+          → _≡_ {A = Res (Cell watched)} (ok (filled (object (payload w)) (rights inner))) (ok (filled y (rights inner)))
+      by (integer-in i) f = absurd (false≢true f)
+      by (object-in i) f = refl
+
+  pub raise-bound : (g : Program) (r : Moved) → b && eqb n o ≡ false → moved-cell qual r ≡ moved watched g v inner (filled x m)
+      → moved-cell qual r ≡ raised o inner (kind-at (v .head) x) x m
+  raise-bound g r told is = is ∙ sym (raised-bound o inner x m g v (own-seen ∙ told))
+
+-- ---- the same over the sheet, of which the index is ready
+
+module _ {s t h : List ℕ} {q w : ℕ} {r : Moved} (ready : Ready s t) where
+  pub filled-of-sheet : BindsFilled (qualIn t) h q w r → BindsFilled (qualOf s) h q w r
+  filled-of-sheet = subst (λ (f : ℕ → Qual). BindsFilled f h q w r) (same-types ready)
+
+  pub word-of-sheet : BindsWord (qualIn t) h q w r → BindsWord (qualOf s) h q w r
+  word-of-sheet = subst (λ (f : ℕ → Qual). BindsWord f h q w r) (same-types ready)
+
+pub raises-of-sheet : {s t h : List ℕ} {o q w : ℕ} {r : Moved} → Ready s t → Raises (qualIn t) h o q w r → Raises (qualOf s) h o q w r
+raises-of-sheet {h = h} {o} {q} {w} {r} ready = subst (λ (f : ℕ → Qual). Raises f h o q w r) (same-types ready)
 
 -- ---- stops
 
@@ -243,37 +277,65 @@ halted-then {A} {B} k f = by (eqb k 13) (eqb k 14) (eqb k 15) (eqb k 16) (eqb k 
 pub moved-ok-to : {r : Moved} {w : ℕ} → r ≡ To w → MovedOk r → IsCell w
 moved-ok-to is o = rw is at o
 
+-- a cell that was bound to q: it fits and carries what q says
+data BoundTo (v : View watched) (q : Qual) : Cell watched → Type 0 where
+  bound-to : (x : Value) → fits q (kind-at (v .head) x) ≡ true → BoundTo v q (filled x (rights q))
+
+blank-stops : (g : Program) (v : View watched) (q : Qual) (d : Cell watched) → moved watched g v q empty ≡ ok d → ⊥
+unfolding moved held _>>=_
+blank-stops g v q d e = let z : _≡_ {A = ℕ} 0 1 = cc in omega arith
+
+moved-bound : (g : Program) (v : View watched) (q : Qual) (c d : Cell watched) → moved watched g v q c ≡ ok d → BoundTo v q d
+moved-bound g v q empty d e = absurd (blank-stops g v q d e)
+moved-bound g v q (filled x m) d e = by (fits q (kind-at (v .head) x)) (within (rights q) m) refl refl
+  where
+    by : (t u : Bool) → fits q (kind-at (v .head) x) ≡ t → within (rights q) m ≡ u → BoundTo v q d
+    by false u a b = let k = bound-misfit g v q x m a in absurd (let z : _≡_ {A = ℕ} 0 1 = cc in omega arith)
+    by true false a b = let k = bound-without g v q x m a b in absurd (let z : _≡_ {A = ℕ} 0 1 = cc in omega arith)
+    by true true a b = let k = bound g v q x m a b in let is : d ≡ filled x (rights q) = cc in rw is (bound-to x a)
+
 -- what is done with an actual once it was bound
 abbrev then-raise : View watched → (o : ℕ) → Qual → Cell watched → Res (Cell watched)
 then-raise v o inner c = held c >>= λ h. raise watched o inner (kind-at (v .head) (h .0)) (h .1) >>= λ r. ok (filled (h .0) r)
 
-raised-next : (qual : ℕ → Qual) (v : View watched) (o : ℕ) (inner : Qual) (r : Moved) (w : ℕ) {d : Cell watched}
-    → Full d → slot-in watched qual w ≡ cell d
+raised-next : (qual : ℕ → Qual) (v : View watched) (o : ℕ) (inner q : Qual) (r : Moved) (w : ℕ) {d : Cell watched}
+    → BoundTo v q d → slot-in watched qual w ≡ cell d
     → ((y : Value) (m : ℕ) → slot-in watched qual w ≡ cell (filled y m) → moved-cell qual r ≡ raised o inner (kind-at (v .head) y) y m)
     → moved-cell qual r ≡ then-raise v o inner d
 unfolding raised held _>>=_
-raised-next qual v o inner r w (full y m) e rest = rest y m e
+raised-next qual v o inner q r w (bound-to y f) e rest = rest y (rights q) e
 
-module _ (s : List ℕ) (v : View watched) (k b j : ℕ) where
-  pub actual-to : (r : Moved) (w : ℕ) {pr need owner inner : ℕ}
-      → procedureAt s k ≡ pr → need ≡ byteAt s (variableAt pr j) 3 → owner ≡ byteAt s pr 2 → inner ≡ innerAt s pr j
-      → IsCell w
-      → moved-cell (qualOf s) (To w) ≡ moved watched (programOf s) v (qualOf s need) (v .variable (b + j))
-      → ((y : Value) (m : ℕ) → slot-in watched (qualOf s) w ≡ cell (filled y m)
-      → moved-cell (qualOf s) r ≡ raised owner (qualOf s inner) (kind-at (v .head) y) y m)
-      → moved-cell (qualOf s) r ≡ actual watched (programOf s) v k b j
-  unfolding actual moved-cell needIn innerIn needAt ownerAt _>>=_
-  actual-to r w at n o i is-cell is rest =
-      let full = moved-full (programOf s) v _ _ _ (sym is) in
-      raised-next (qualOf s) v _ _ r w full (is-cell watched (qualOf s)) rest
-      ∙ rw (at, sym n, sym o, sym i, sym is)
+-- raised to the type that it was bound to, by any owner, it is as it was
+raised-same : (v : View watched) (o : ℕ) (q : Qual) {d : Cell watched} → BoundTo v q d → ok d ≡ then-raise v o q d
+unfolding raise raise-if bind ensure held _>>=_ _>>_
+raised-same v o q (bound-to x f) = by (is-record-of o (kind-at (v .head) x) && eqb (base q) o)
+  where
+    by : (b : Bool) → _≡_ {A = Res (Cell watched)} (ok (filled x (rights q))) (raise-if b q (kind-at (v .head) x) (rights q) >>= λ r. ok (filled x r))
+    by true = refl
+    by false = rw (f, within-refl (rights q))
 
-  pub actual-halt : (n : ℕ) {pr need : ℕ}
-      → procedureAt s k ≡ pr → need ≡ byteAt s (variableAt pr j) 3
-      → moved-cell (qualOf s) (Halt n) ≡ moved watched (programOf s) v (qualOf s need) (v .variable (b + j))
+module _ (s : List ℕ) (v : View watched) (k b j : ℕ) {pr need : ℕ} (at : procedureAt s k ≡ pr) (is-need : need ≡ needAt s pr j) where
+  module _ (w : ℕ) {inner : ℕ} (is-inner : inner ≡ innerAt s pr j) (is-cell : IsCell w)
+      (bound-word : moved-cell (qualOf s) (To w) ≡ moved watched (programOf s) v (qualOf s need) (v .variable (b + j))) where
+    pub actual-to : (r : Moved) {owner : ℕ} → owner ≡ byteAt s pr 2
+        → ((y : Value) (m : ℕ) → slot-in watched (qualOf s) w ≡ cell (filled y m)
+        → moved-cell (qualOf s) r ≡ raised owner (qualOf s inner) (kind-at (v .head) y) y m)
+        → moved-cell (qualOf s) r ≡ actual watched (programOf s) v k b j
+    unfolding actual moved-cell needIn innerIn ownerAt _>>=_
+    actual-to r is-owner rest =
+        raised-next (qualOf s) v _ _ (qualOf s need) r w (moved-bound (programOf s) v (qualOf s need) _ _ (sym bound-word)) (is-cell watched (qualOf s)) rest
+        ∙ rw (at, sym is-need, sym is-owner, sym is-inner, sym bound-word)
+
+    pub actual-same : need ≡ inner → moved-cell (qualOf s) (To w) ≡ actual watched (programOf s) v k b j
+    unfolding actual moved-cell needIn innerIn _>>=_
+    actual-same same-type =
+        raised-same v (programOf s .owner k) (qualOf s need) (moved-bound (programOf s) v (qualOf s need) _ _ (sym bound-word))
+        ∙ rw (at, sym is-need, sym is-inner, sym same-type, sym bound-word)
+
+  pub actual-halt : (n : ℕ) → moved-cell (qualOf s) (Halt n) ≡ moved watched (programOf s) v (qualOf s need) (v .variable (b + j))
       → moved-cell (qualOf s) (Halt n) ≡ actual watched (programOf s) v k b j
-  unfolding actual moved-cell needIn needAt
-  actual-halt n at is e = rw (at, sym is, sym e) (sym (halted-then n _))
+  unfolding actual moved-cell needIn
+  actual-halt n e = rw (at, sym is-need, sym e) (sym (halted-then n _))
 
 -- a result: a moved cell, handed over
 pub handed-moved : (qual : ℕ → Qual) (r : Moved) → handed-cell qual r ≡ (moved-cell qual r >>= λ d. ok (some d))

@@ -1,8 +1,9 @@
 // The rules of calls and returns. 255 as a variable, or as a result, is none.
-use order::inner_of;
+use index::Index;
 use order::movement;
 use order::require;
-use sheet::bytes::byte;
+use sheet::fields::field;
+use sheet::fields::inner_of;
 ghost use mathlib.Core.Path.{_≡_};
 ghost use mathlib.Core.Bool.{cond};
 ghost use lib.Dec.{eqb};
@@ -11,12 +12,14 @@ ghost use Rattle.model.specs.Refusal.{failure, each};
 ghost use Rattle.model.specs.Rules.{moves, optional, optional-variable, return-rule, keeps, kept-rule, call-rule};
 ghost use Rattle.sheet.specs.Layout.{formalsAt};
 ghost use Rattle.sheet.specs.Meaning.{innerIn, needIn, resultIn};
+ghost use Rattle.index.specs.Indexed.{Ready};
 
 // A return of variable a in the procedure at pr.
-pub fn return_rule(s: &[u8], pr: u32, a: u8) -> u8
+pub fn return_rule(s: &[u8], index: &Index, pr: u32, a: u8) -> u8
+    requires { ⌜ Ready (now s) (now index) ⌝ }
     ensures { λ r. ⌜ r ≡ failure (return-rule (optional-variable (innerIn (now (s .entry)) pr) (optional a)) (resultIn (now (s .entry)) pr)) ⌝ }
 {
-    let result = byte(s, pr as usize, 5);
+    let result = field(s, pr, 5);
     if a == 255 {
         if result == 255 {
             return 0;
@@ -26,26 +29,28 @@ pub fn return_rule(s: &[u8], pr: u32, a: u8) -> u8
     if result == 255 {
         return 8;
     }
-    movement(s, inner_of(s, pr, a), result)
+    movement(index, inner_of(s, pr, a), result)
 }
 
 // Actual j of a call with variables from b on moves to need j of the procedure called.
-fn actual_rule(s: &[u8], pr: u32, to: u32, b: u8, j: u8) -> u8
+fn actual_rule(s: &[u8], index: &Index, pr: u32, to: u32, b: u8, j: u8) -> u8
+    requires { ⌜ Ready (now s) (now index) ⌝ }
     ensures { λ r. ⌜ r ≡ failure (moves (innerIn (now (s .entry)) pr (b + j)) (needIn (now (s .entry)) to j)) ⌝ }
 {
-    let x = (b as usize) + (j as usize);
-    let from = byte(s, (pr as usize) + (8 + 4 * x), 2);
-    let need = byte(s, (to as usize) + (8 + 4 * (j as usize)), 3);
-    movement(s, from, need)
+    let x = (b as u16) + (j as u16);
+    let from = field(s, pr, 10 + 4 * x);
+    let need = field(s, to, 11 + 4 * (j as u16));
+    movement(index, from, need)
 }
 
-fn actuals_rule(s: &[u8], pr: u32, to: u32, b: u8) -> u8
+fn actuals_rule(s: &[u8], index: &Index, pr: u32, to: u32, b: u8) -> u8
+    requires { ⌜ Ready (now s) (now index) ⌝ }
     ensures { λ r. ⌜ r ≡ failure (each (formalsAt (now (s .entry)) to) (λ j. moves (innerIn (now (s .entry)) pr (b + j)) (needIn (now (s .entry)) to j))) ⌝ }
 {
-    let f = byte(s, to as usize, 3);
+    let f = field(s, to, 3);
     let mut j: u8 = 0;
     while j < f {
-        let n = actual_rule(s, pr, to, b, j);
+        let n = actual_rule(s, index, pr, to, b, j);
         if 0 < n {
             return n;
         }
@@ -58,20 +63,21 @@ fn actuals_rule(s: &[u8], pr: u32, to: u32, b: u8) -> u8
 fn keeps_result(s: &[u8], pr: u32, to: u32, a: u8) -> bool
     ensures { λ r. ⌜ r ≡ keeps (optional-variable (innerIn (now (s .entry)) pr) (optional a)) (resultIn (now (s .entry)) to) ⌝ }
 {
-    (a == 255) | (byte(s, to as usize, 5) != 255)
+    (a == 255) | (field(s, to, 5) != 255)
 }
 
-fn kept_result_rule(s: &[u8], pr: u32, to: u32, a: u8) -> u8
+fn kept_result_rule(s: &[u8], index: &Index, pr: u32, to: u32, a: u8) -> u8
+    requires { ⌜ Ready (now s) (now index) ⌝ }
     ensures { λ r. ⌜ r ≡ failure (kept-rule (optional-variable (innerIn (now (s .entry)) pr) (optional a)) (resultIn (now (s .entry)) to)) ⌝ }
 {
-    let result = byte(s, to as usize, 5);
+    let result = field(s, to, 5);
     if a == 255 {
         return 0;
     }
     if result == 255 {
         return 0;
     }
-    movement(s, result, inner_of(s, pr, a))
+    movement(index, result, inner_of(s, pr, a))
 }
 
 fn first_of(a: u8, b: u8) -> u8
@@ -81,11 +87,12 @@ fn first_of(a: u8, b: u8) -> u8
 }
 
 // A call, in the procedure at pr, of the procedure at `to`.
-pub fn call_rule(s: &[u8], pr: u32, to: u32, a: u8, b: u8) -> u8
+pub fn call_rule(s: &[u8], index: &Index, pr: u32, to: u32, a: u8, b: u8) -> u8
+    requires { ⌜ Ready (now s) (now index) ⌝ }
     ensures { λ r. ⌜ r ≡ failure (call-rule (innerIn (now (s .entry)) pr) (needIn (now (s .entry)) to) (formalsAt (now (s .entry)) to) (resultIn (now (s .entry)) to) a b) ⌝ }
 {
     let keeps = keeps_result(s, pr, to, a);
-    let actuals = actuals_rule(s, pr, to, b);
-    let kept = kept_result_rule(s, pr, to, a);
+    let actuals = actuals_rule(s, index, pr, to, b);
+    let kept = kept_result_rule(s, index, pr, to, a);
     require(keeps, 8, first_of(actuals, kept))
 }

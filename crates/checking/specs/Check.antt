@@ -4,7 +4,7 @@ use mathlib.Core.List.{List, _++_}
 use Rattle.model.specs.Refusal.{Tests, Gives, verdict}
 use Rattle.model.specs.Rules.{access-rules}
 use Rattle.model.specs.declared.Verdict.{Verdict}
-use Rattle.sheet.specs.Meaning.{programOf}
+use Rattle.sheet.specs.Meaning.{programOf, placeOf}
 use Rattle.form.specs.WellFormed.{form-tests}
 
 -- refusals 1 to 5 alone: a sheet is well-formed when none of them is given
@@ -14,7 +14,7 @@ form-verdict s = verdict (form-tests s)
 -- "Order: 1; then record by record 2, 3, 4, 5 in field order; leftover bytes 2; then, call by call, the 5s that wait for the procedure called;
 -- then record by record 6, 7, 8, 9"
 unfoldable pub check-tests : List ℕ → List Tests
-check-tests s = form-tests s ++ access-rules (programOf s)
+check-tests s = form-tests s ++ access-rules (placeOf s) (programOf s)
 
 unfoldable pub check : List ℕ → Verdict
 check s = verdict (check-tests s)

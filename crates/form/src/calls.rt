@@ -1,5 +1,9 @@
 // The limits of a call that wait for the procedure called.
 use crate::layout::layout;
+use index::Index;
+use index::procedures::formals_in;
+use index::procedures::place_of;
+use index::procedures::procedure_word;
 use limits::actuals_scale;
 use model::Verdict;
 use sheet::bytes::byte;
@@ -10,20 +14,20 @@ ghost use Prim.Native.Nat.{_≤_, _<_};
 ghost use mathlib.Core.List.{[], _∷_};
 ghost use Rattle.model.specs.Refusal.{verdict, failure, tests, each};
 ghost use Rattle.sheet.specs.Layout.{proceduresOf, instructionsAt};
-ghost use Rattle.sheet.specs.Inner.Places.{Places};
+ghost use Rattle.index.specs.Indexed.{Indexed};
 ghost use Rattle.form.specs.WellFormed.{call-tests-at, call-tests, calls-tests, form-tests};
 
 // The number of the refusal of the IN at a place, in a procedure with v variables; 0 where there is none.
-fn call_number(s: &[u8], table: &[u32; 65], v: u8, at: usize) -> u8
-    requires { ⌜ Places (now s) (now table) ⌝ }
+fn call_number(s: &[u8], index: &Index, v: u8, at: usize) -> u8
+    requires { ⌜ Indexed (now s) (now index) ⌝ }
     requires { ⌜ proceduresOf (now s) ≤ 64 ⌝ }
     ensures { λ r. ⌜ r ≡ failure (call-tests-at (now (s .entry)) v at) ⌝ }
 {
     if byte(s, at, 2) == 16 {
         let k = word(s, at, 6) as usize;
         if k < (byte(s, 0, 5) as usize) {
-            let pr = table[k];
-            if actuals_scale(byte(s, pr as usize, 3), byte(s, at, 4), v) {
+            let formals = formals_in(procedure_word(index, k));
+            if actuals_scale(formals, byte(s, at, 4), v) {
                 return 0;
             }
             return 5;
@@ -33,20 +37,20 @@ fn call_number(s: &[u8], table: &[u32; 65], v: u8, at: usize) -> u8
     0
 }
 
-fn call_record(s: &[u8], table: &[u32; 65], v: u8, at: usize) -> Verdict
-    requires { ⌜ Places (now s) (now table) ⌝ }
+fn call_record(s: &[u8], index: &Index, v: u8, at: usize) -> Verdict
+    requires { ⌜ Indexed (now s) (now index) ⌝ }
     requires { ⌜ proceduresOf (now s) ≤ 64 ⌝ }
     ensures { λ r. ⌜ r ≡ verdict (tests at (call-tests-at (now (s .entry)) v at) ∷ []) ⌝ }
 {
-    let n = call_number(s, table, v, at);
+    let n = call_number(s, index, v, at);
     if n == 0 {
         return Verdict::Accepted;
     }
     Verdict::Refused(n, at)
 }
 
-fn calls_pass(s: &[u8], table: &[u32; 65], pr: u32) -> Verdict
-    requires { ⌜ Places (now s) (now table) ⌝ }
+fn calls_pass(s: &[u8], index: &Index, pr: u32) -> Verdict
+    requires { ⌜ Indexed (now s) (now index) ⌝ }
     requires { ⌜ proceduresOf (now s) ≤ 64 ⌝ }
     ensures { λ r. ⌜ r ≡ verdict (each (instructionsAt (now (s .entry)) pr) (call-tests (now (s .entry)) pr)) ⌝ }
 {
@@ -55,7 +59,7 @@ fn calls_pass(s: &[u8], table: &[u32; 65], pr: u32) -> Verdict
     let first = instruction_at(s, pr, 0);
     let mut i: u16 = 0;
     while i < n {
-        let v = call_record(s, table, vars, first + 8 * (i as usize));
+        let v = call_record(s, index, vars, first + 8 * (i as usize));
         let Verdict::Accepted = v else {
             return v;
         };
@@ -64,15 +68,15 @@ fn calls_pass(s: &[u8], table: &[u32; 65], pr: u32) -> Verdict
     Verdict::Accepted
 }
 
-fn calls(s: &[u8], table: &[u32; 65], n: usize) -> Verdict
-    requires { ⌜ Places (now s) (now table) ⌝ }
+fn calls(s: &[u8], index: &Index, n: usize) -> Verdict
+    requires { ⌜ Indexed (now s) (now index) ⌝ }
     requires { ⌜ proceduresOf (now s) ≤ 64 ⌝ }
     requires { ⌜ n ≡ proceduresOf (now s) ⌝ }
     ensures { λ r. ⌜ r ≡ verdict (calls-tests (now (s .entry))) ⌝ }
 {
     let mut p = 0;
     while p < n {
-        let v = calls_pass(s, table, table[p]);
+        let v = calls_pass(s, index, place_of(index, p));
         let Verdict::Accepted = v else {
             return v;
         };
@@ -82,13 +86,13 @@ fn calls(s: &[u8], table: &[u32; 65], n: usize) -> Verdict
 }
 
 // Refusals 1 to 5.
-pub fn well_formed(s: &[u8], table: &[u32; 65]) -> Verdict
-    requires { ⌜ Places (now s) (now table) ⌝ }
+pub fn well_formed(s: &[u8], index: &Index) -> Verdict
+    requires { ⌜ Indexed (now s) (now index) ⌝ }
     ensures { λ r. ⌜ r ≡ verdict (form-tests (now (s .entry))) ⌝ }
 {
-    let v = layout(s, table);
+    let v = layout(s, index);
     let Verdict::Accepted = v else {
         return v;
     };
-    calls(s, table, byte(s, 0, 5) as usize)
+    calls(s, index, byte(s, 0, 5) as usize)
 }

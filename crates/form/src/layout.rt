@@ -5,6 +5,8 @@ use crate::records::instruction_record;
 use crate::records::qual_record;
 use crate::records::type_record;
 use crate::records::variable_record;
+use index::Index;
+use index::procedures::place_of;
 use limits::Limits;
 use model::Verdict;
 use reader::left_after;
@@ -17,7 +19,7 @@ ghost use mathlib.Core.List.{_++_};
 ghost use Prim.Native.Nat.{_-_, _≤_, _<_};
 ghost use Rattle.model.specs.Refusal.{verdict, each};
 ghost use Rattle.sheet.specs.Layout.{proceduresOf, variablesAt, instructionsAt};
-ghost use Rattle.sheet.specs.Inner.Places.{Places};
+ghost use Rattle.index.specs.Indexed.{Indexed};
 ghost use Rattle.sheet.specs.Reader.{pastAt};
 ghost use Rattle.form.specs.WellFormed.{length-tests, type-tests, qual-tests, variable-tests, limitsAt, instruction-tests, procedure-tests-at, procedure-tests, leftover-tests, layout-tests};
 
@@ -113,15 +115,15 @@ fn procedure_pass(s: &[u8], p: usize, pr: u32) -> Verdict
     instructions_pass(s, pr)
 }
 
-fn procedures_pass(s: &[u8], table: &[u32; 65], n: usize) -> Verdict
-    requires { ⌜ Places (now s) (now table) ⌝ }
+fn procedures_pass(s: &[u8], index: &Index, n: usize) -> Verdict
+    requires { ⌜ Indexed (now s) (now index) ⌝ }
     requires { ⌜ n ≤ 64 ⌝ }
     requires { ⌜ n ≡ proceduresOf (now s) ⌝ }
     ensures { λ r. ⌜ r ≡ verdict (each n (procedure-tests (now (s .entry)))) ⌝ }
 {
     let mut p = 0;
     while p < n {
-        let v = procedure_pass(s, p, table[p]);
+        let v = procedure_pass(s, p, place_of(index, p));
         let Verdict::Accepted = v else {
             return v;
         };
@@ -153,8 +155,8 @@ fn overlong(s: &[u8]) -> Verdict
 }
 
 // Refusal 1, then 2 to 5 record by record, then bytes left over.
-pub fn layout(s: &[u8], table: &[u32; 65]) -> Verdict
-    requires { ⌜ Places (now s) (now table) ⌝ }
+pub fn layout(s: &[u8], index: &Index) -> Verdict
+    requires { ⌜ Indexed (now s) (now index) ⌝ }
     ensures { λ r. ⌜ r ≡ verdict (length-tests (now (s .entry)) ++ layout-tests (now (s .entry))) ⌝ }
 {
     let long = overlong(s);
@@ -174,9 +176,9 @@ pub fn layout(s: &[u8], table: &[u32; 65]) -> Verdict
         return quals;
     };
     let n = byte(s, 0, 5) as usize;
-    let procedures = procedures_pass(s, table, n);
+    let procedures = procedures_pass(s, index, n);
     let Verdict::Accepted = procedures else {
         return procedures;
     };
-    leftover(s, table[n])
+    leftover(s, place_of(index, n))
 }

@@ -7,10 +7,8 @@ use lib.ListN.{length}
 use Rattle.model.specs.Outcome.{Stop, Res, ok, stop, stuck}
 use Rattle.model.specs.Modes.{Mode}
 use Rattle.model.specs.Machine.{frame, State, state, Next, view, plan, step}
-use Rattle.sheet.specs.Layout.{instructionAt, procedureAt}
 use Rattle.sheet.specs.Decode.{operationAt}
 use Rattle.sheet.specs.Meaning.{programOf}
-use Rattle.form.proofs.Laws.{instruction-from}
 use Rattle.writers.specs.declared.Registers.{Registers}
 use Rattle.writers.specs.declared.Stepped.{Stepped}
 use Rattle.writers.specs.declared.Stepped.the-variants.{Go, Enter, Halt, Done}
@@ -18,23 +16,19 @@ use Rattle.writers.specs.Memory.{Given, StandsFor}
 use Rattle.writers.specs.Steps.{Unchanged, After}
 use Rattle.frames.specs.Performs.{performed}
 use Rattle.frames.specs.Fetch.{place-in}
+use Rattle.frames.proofs.Kept.{place-is}
 use Rattle.lent_step.specs.Counts.{TurnIs, counted, turned, after-turn}
 
 -- ---- what is fetched
 
 module _ (m : Mode) (c : Given) (words out : List ℕ) (r : Registers) where
-  pub here : (p i : ℕ) → r .next ≡ i → r .first ≡ instructionAt (c .sheet) (procedureAt (c .sheet) p) 0
-      → place-in r ≡ instructionAt (c .sheet) (procedureAt (c .sheet) p) i
-  here p i n e = rw n (instruction-from (c .sheet) (procedureAt (c .sheet) p) (r .first) i e)
-
   -- the operation that is fetched is the one that the definition does
   pub same-step : (t : State m) → StandsFor m c words out r t
       → performed (c .sheet) t (plan m (programOf (c .sheet)) (view (length words) (length out) t) (operationAt (c .sheet) (place-in r)))
       ≡ step (programOf (c .sheet)) (length words) (length out) t
   unfolding step
   same-step (state (frame p i vs) fs os input put) S =
-      let e : place-in r ≡ instructionAt (c .sheet) (procedureAt (c .sheet) p) i = here p i (S .next) (S .first) in
-      rw e
+      rw (place-is S)
 
 -- ---- what is counted
 

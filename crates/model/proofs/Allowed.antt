@@ -9,7 +9,7 @@ use lib.Dec.{eqb, leb, ltb}
 use borrow.Author.Tests.{lt-ltb, leb-true, eqb-true, not-true}
 use Rattle.model.specs.Rights.{within, has, none-above, record-rights, open-right, fetch-right, store-right, size-right, array-rights}
 use Rattle.model.specs.Qualified.{Qual, base, rights, element, isInteger, isArray, same, alike}
-use Rattle.model.specs.Program.{Program}
+use Rattle.model.specs.Program.{Program, Record, type-record, qual-record, procedure-record, variable-record, instruction-record}
 use Rattle.model.specs.Refusal.{type-mismatch, insufficient-rights, open-exposed, false-raise, Test, test, Tests, tests, failure, verdict, span}
 use Rattle.model.specs.Rules.{optional, moves, owned-by, integer-rule, integers-rule, new-array-rule, new-record-rule, fetch-rule, store-rule, size-rule, get-slot-rule, set-slot-rule, return-rule, keeps, kept-rule, closed, closed-result, agrees, formal-rule, local-rule, declaration-rule, optional-variable, call-rule, closed-rule, rule, type-rules, qual-rules, variable-rule, variable-rules, instruction-rules, head-rules, procedure-rules, access-rules}
 use Rattle.model.specs.declared.Verdict.the-variants.{Accepted}
@@ -267,47 +267,47 @@ at-each f n h k l = rw zero-add at (accepted-span f n 0 h k l)
 one-test : (at : ℕ) (b : Bool) → verdict (tests at (test open-exposed b ∷ []) ∷ []) ≡ Accepted → b ≡ true
 one-test at b h = passed-test open-exposed b [] (accepted-tests at _ h) .0
 
-pub facts : (g : Program) → verdict (access-rules g) ≡ Accepted → Facts g
+pub facts : (at : Record → ℕ) (g : Program) → verdict (access-rules at g) ≡ Accepted → Facts g
 unfolding access-rules procedure-rules head-rules instruction-rules variable-rules variable-rule qual-rules type-rules closed-rule
-facts g h =
+facts at g h =
     record {
       allowed = λ p i hp hi.
-          rule-fact g p (g .operation p i) (accepted-tests (g .instruction-at p i) _ (at-each (instruction-rules g p) (g .instructions p) (body p hp .1) i hi));
+          rule-fact g p (g .operation p i) (accepted-tests (at (instruction-record p i)) _ (at-each (instruction-rules at g p) (g .instructions p) (body p hp .1) i hi));
       formal = λ p x hp hx hf. agrees-fact (g .owner p) (g .need p x) (g .inner p x) (formal-part p x hp hx hf .2);
       variable = λ p x hp hx.
           inner-fact (g .owner p) (g .inner p x) (open-fact (g .owner p) (g .formals p) x (g .need p x) (g .inner p x) (declaration p x hp hx));
       need-closed = λ p x hp hx hf. closed-fact (g .need p x) (formal-part p x hp hx hf .0);
-      result-closed = λ p q hp e. result-fact (g .result p) q (one-test (g .procedure-at p) _ (parts p hp .0)) e;
-      element-closed = λ j hj. closed-fact (element (g .qual j)) (one-test (g .qual-at j) _ (at-each (qual-rules g) (g .quals) (rest .0) j hj));
+      result-closed = λ p q hp e. result-fact (g .result p) q (one-test (at (procedure-record p)) _ (parts p hp .0)) e;
+      element-closed = λ j hj. closed-fact (element (g .qual j)) (one-test (at (qual-record j)) _ (at-each (qual-rules at g) (g .quals) (rest .0) j hj));
       slot-closed = λ t k ht hk.
           let z : failure (closed-rule (g .slot (2 + t) k)) ≡ 0 = rw zero-add at (passed-span (λ (k : ℕ). closed-rule (g .slot (2 + t) k)) (g .slots (2 + t)) 0 (slots t ht) k hk) in
           closed-fact (g .slot (2 + t) k) (passed-test open-exposed (closed (g .slot (2 + t) k)) [] z .0);
     }
   where
     whole :
-        (verdict (span (type-rules g) 0 (g .types)) ≡ Accepted) ×
-        (verdict (span (qual-rules g) 0 (g .quals) ++ span (procedure-rules g) 0 (g .procedures)) ≡ Accepted)
-    whole = split (span (type-rules g) 0 (g .types)) _ h
+        (verdict (span (type-rules at g) 0 (g .types)) ≡ Accepted) ×
+        (verdict (span (qual-rules at g) 0 (g .quals) ++ span (procedure-rules at g) 0 (g .procedures)) ≡ Accepted)
+    whole = split (span (type-rules at g) 0 (g .types)) _ h
 
-    rest : (verdict (span (qual-rules g) 0 (g .quals)) ≡ Accepted) × (verdict (span (procedure-rules g) 0 (g .procedures)) ≡ Accepted)
-    rest = split (span (qual-rules g) 0 (g .quals)) _ (whole .1)
+    rest : (verdict (span (qual-rules at g) 0 (g .quals)) ≡ Accepted) × (verdict (span (procedure-rules at g) 0 (g .procedures)) ≡ Accepted)
+    rest = split (span (qual-rules at g) 0 (g .quals)) _ (whole .1)
 
     slots : (t : ℕ) → t < g .types → failure (span (λ (k : ℕ). closed-rule (g .slot (2 + t) k)) 0 (g .slots (2 + t))) ≡ 0
-    slots t ht = accepted-tests (g .type-at (2 + t)) _ (at-each (type-rules g) (g .types) (whole .0) t ht)
+    slots t ht = accepted-tests (at (type-record (2 + t))) _ (at-each (type-rules at g) (g .types) (whole .0) t ht)
 
     parts :
         (p : ℕ) → p < g .procedures →
-        (verdict (head-rules g p) ≡ Accepted) ×
-        (verdict (span (variable-rules g p) 0 (g .variables p) ++ span (instruction-rules g p) 0 (g .instructions p)) ≡ Accepted)
-    parts p hp = split (head-rules g p) _ (at-each (procedure-rules g) (g .procedures) (rest .1) p hp)
+        (verdict (head-rules at g p) ≡ Accepted) ×
+        (verdict (span (variable-rules at g p) 0 (g .variables p) ++ span (instruction-rules at g p) 0 (g .instructions p)) ≡ Accepted)
+    parts p hp = split (head-rules at g p) _ (at-each (procedure-rules at g) (g .procedures) (rest .1) p hp)
 
     body :
         (p : ℕ) → p < g .procedures →
-        (verdict (span (variable-rules g p) 0 (g .variables p)) ≡ Accepted) × (verdict (span (instruction-rules g p) 0 (g .instructions p)) ≡ Accepted)
-    body p hp = split (span (variable-rules g p) 0 (g .variables p)) _ (parts p hp .1)
+        (verdict (span (variable-rules at g p) 0 (g .variables p)) ≡ Accepted) × (verdict (span (instruction-rules at g p) 0 (g .instructions p)) ≡ Accepted)
+    body p hp = split (span (variable-rules at g p) 0 (g .variables p)) _ (parts p hp .1)
 
     declaration : (p x : ℕ) → p < g .procedures → x < g .variables p → failure (declaration-rule (g .owner p) (g .formals p) x (g .need p x) (g .inner p x)) ≡ 0
-    declaration p x hp hx = accepted-tests (g .variable-at p x) _ (at-each (variable-rules g p) (g .variables p) (body p hp .0) x hx)
+    declaration p x hp hx = accepted-tests (at (variable-record p x)) _ (at-each (variable-rules at g p) (g .variables p) (body p hp .0) x hx)
 
     formal-part :
         (p x : ℕ) → p < g .procedures → x < g .variables p → x < g .formals p →

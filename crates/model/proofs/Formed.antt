@@ -1,7 +1,9 @@
 -- What the proofs of condition 3 lean on beside the access rules: parts of the layout (refusals 1 to 5), which a well-formed sheet has.
 use Prim.Native.Nat.{ℕ, suc, _+_, _<_, _≤_}
 use mathlib.Core.Path.{_≡_}
+use mathlib.Core.Option.{Option, none, some}
 use Rattle.model.specs.Program.{Program}
+use Rattle.model.specs.Rules.{optional}
 use Rattle.model.specs.declared.Operation.{Operation}
 use Rattle.model.specs.declared.Operation.the-variants.{Set, Add, Subtract, Less, JumpZero, Bind, Take, Put, NewArray, Fetch, Store, Size, NewRecord, GetSlot, SetSlot, Call, Return}
 
@@ -31,6 +33,33 @@ module _ (g : Program) where
     pub begins : (p : ℕ) → p < g .procedures → 0 < g .instructions p
     pub formals : (p : ℕ) → p < g .procedures → g .formals p ≤ g .variables p
     pub operations : (p i : ℕ) → p < g .procedures → i < g .instructions p → Formed-at p i (g .operation p i)
+
+  -- what Same.antt leans on beside these: a variable named is below v, an actual too, and an owner whose records are made or opened is a declared type
+  abbrev pub Below-or-none : (p : ℕ) → Option ℕ → Type 0
+  Below-or-none p none = Unit {0}
+  Below-or-none p (some a) = a < g .variables p
+
+  abbrev pub Operands-at : (p : ℕ) → Operation → Type 0
+  Operands-at p (Set a k) = a < g .variables p
+  Operands-at p (Add a b c) = (a < g .variables p) × (b < g .variables p) × (c < g .variables p)
+  Operands-at p (Subtract a b c) = (a < g .variables p) × (b < g .variables p) × (c < g .variables p)
+  Operands-at p (Less a b c) = (a < g .variables p) × (b < g .variables p) × (c < g .variables p)
+  Operands-at p (JumpZero a k) = a < g .variables p
+  Operands-at p (Bind a b) = (a < g .variables p) × (b < g .variables p)
+  Operands-at p (Take a) = a < g .variables p
+  Operands-at p (Put a) = a < g .variables p
+  Operands-at p (NewArray a b) = (a < g .variables p) × (b < g .variables p)
+  Operands-at p (Fetch a b c) = (a < g .variables p) × (b < g .variables p) × (c < g .variables p)
+  Operands-at p (Store a b c) = (a < g .variables p) × (b < g .variables p) × (c < g .variables p)
+  Operands-at p (Size a b) = (a < g .variables p) × (b < g .variables p)
+  Operands-at p (NewRecord a) = (a < g .variables p) × (g .owner p < 2 + g .types)
+  Operands-at p (GetSlot a b k) = (a < g .variables p) × (b < g .variables p) × (g .owner p < 2 + g .types)
+  Operands-at p (SetSlot a b k) = (a < g .variables p) × (b < g .variables p) × (g .owner p < 2 + g .types)
+  Operands-at p (Call a b k) = Below-or-none p (optional a) × ((j : ℕ) → j < g .formals k → b + j < g .variables p)
+  Operands-at p (Return a) = Below-or-none p (optional a)
+
+  pub record Operands : Type 0 where
+    pub named : (p i : ℕ) → p < g .procedures → i < g .instructions p → Operands-at p (g .operation p i)
 
 -- what "open stays" leans on beside these: a variable named is below v, an inner QT is one of the QTs, an owner is one of the declared types
 pub record Numbered (g : Program) : Type 0 where

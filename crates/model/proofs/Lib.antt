@@ -15,4 +15,7 @@ pub mod Open
 pub mod Plans
 pub mod Ends
 pub mod AnyProgram
+pub mod Inside
+pub mod Same
+pub mod SameRules
 pub mod Numbers

@@ -9,7 +9,7 @@ use native.Mathlib.Omega.{arith}
 use lib.Dec.{leb, ltb}
 use borrow.Author.Tests.{leb-true, le-leb}
 use Rattle.model.specs.Qualified.{Qual}
-use Rattle.model.specs.Program.{Program}
+use Rattle.model.specs.Program.{Program, Record, type-record, variable-record, instruction-record}
 use Rattle.model.specs.Refusal.{refusal-number, Gives, Test, test, Tests, tests, failure, refuse, verdict, span, each}
 use Rattle.model.specs.Rules.{optional, moves, integer-rule, integers-rule, new-array-rule, new-record-rule, fetch-rule, store-rule, size-rule, get-slot-rule, set-slot-rule, return-rule, kept-rule, formal-rule, local-rule, declaration-rule, optional-variable, call-rule, closed-rule, rule, type-rules, qual-rules, variable-rule, variable-rules, instruction-rules, head-rules, procedure-rules, access-rules}
 use Rattle.model.specs.declared.Verdict.{Verdict}
@@ -150,39 +150,40 @@ module _ (g : Program) where
       (kept-range (optional-variable (g .inner p) (optional a)) (g .result k))
   rule-range p (Return a) = returns-range (optional-variable (g .inner p) (optional a)) (g .result p)
 
-  type-range : (i : ℕ) → all-in-range 6 9 (type-rules g i) ≡ true
+module _ (at : Record → ℕ) (g : Program) where
+  type-range : (i : ℕ) → all-in-range 6 9 (type-rules at g i) ≡ true
   unfolding type-rules closed-rule
   type-range i =
-      all-one 6 9 (g .type-at (2 + i)) (each (g .slots (2 + i)) (λ k. closed-rule (g .slot (2 + i) k)))
+      all-one 6 9 (at (type-record (2 + i))) (each (g .slots (2 + i)) (λ k. closed-rule (g .slot (2 + i) k)))
       (range-span 6 9 (λ k. closed-rule (g .slot (2 + i) k)) (λ k. refl) 0 (g .slots (2 + i)))
 
-  qual-range : (j : ℕ) → all-in-range 6 9 (qual-rules g j) ≡ true
+  qual-range : (j : ℕ) → all-in-range 6 9 (qual-rules at g j) ≡ true
   unfolding qual-rules closed-rule
   qual-range j = refl
 
-  variable-range : (p x : ℕ) → all-in-range 6 9 (variable-rules g p x) ≡ true
+  variable-range : (p x : ℕ) → all-in-range 6 9 (variable-rules at g p x) ≡ true
   unfolding variable-rules variable-rule declaration-rule
   variable-range p x =
-      all-one 6 9 (g .variable-at p x) (variable-rule g p x)
+      all-one 6 9 (at (variable-record p x)) (variable-rule g p x)
       (declared-range (ltb x (g .formals p)) (g .owner p) (g .need p x) (g .inner p x))
 
-  instruction-range : (p i : ℕ) → all-in-range 6 9 (instruction-rules g p i) ≡ true
+  instruction-range : (p i : ℕ) → all-in-range 6 9 (instruction-rules at g p i) ≡ true
   unfolding instruction-rules
-  instruction-range p i = all-one 6 9 (g .instruction-at p i) (rule g p (g .operation p i)) (rule-range p (g .operation p i))
+  instruction-range p i = all-one 6 9 (at (instruction-record p i)) (rule g p (g .operation p i)) (rule-range g p (g .operation p i))
 
-  procedure-range : (p : ℕ) → all-in-range 6 9 (procedure-rules g p) ≡ true
+  procedure-range : (p : ℕ) → all-in-range 6 9 (procedure-rules at g p) ≡ true
   unfolding procedure-rules head-rules
   procedure-range p =
-      all-append 6 9 (head-rules g p) (each (g .variables p) (variable-rules g p) ++ each (g .instructions p) (instruction-rules g p)) refl
-      (all-append 6 9 (each (g .variables p) (variable-rules g p)) (each (g .instructions p) (instruction-rules g p))
-      (all-each 6 9 (variable-rules g p) (variable-range p) (g .variables p))
-      (all-each 6 9 (instruction-rules g p) (instruction-range p) (g .instructions p)))
+      all-append 6 9 (head-rules at g p) (each (g .variables p) (variable-rules at g p) ++ each (g .instructions p) (instruction-rules at g p)) refl
+      (all-append 6 9 (each (g .variables p) (variable-rules at g p)) (each (g .instructions p) (instruction-rules at g p))
+      (all-each 6 9 (variable-rules at g p) (variable-range p) (g .variables p))
+      (all-each 6 9 (instruction-rules at g p) (instruction-range p) (g .instructions p)))
 
-  pub access-range : all-in-range 6 9 (access-rules g) ≡ true
+  pub access-range : all-in-range 6 9 (access-rules at g) ≡ true
   unfolding access-rules
   access-range =
-      all-append 6 9 (each (g .types) (type-rules g)) (each (g .quals) (qual-rules g) ++ each (g .procedures) (procedure-rules g))
-      (all-each 6 9 (type-rules g) type-range (g .types))
-      (all-append 6 9 (each (g .quals) (qual-rules g)) (each (g .procedures) (procedure-rules g))
-      (all-each 6 9 (qual-rules g) qual-range (g .quals))
-      (all-each 6 9 (procedure-rules g) procedure-range (g .procedures)))
+      all-append 6 9 (each (g .types) (type-rules at g)) (each (g .quals) (qual-rules at g) ++ each (g .procedures) (procedure-rules at g))
+      (all-each 6 9 (type-rules at g) type-range (g .types))
+      (all-append 6 9 (each (g .quals) (qual-rules at g)) (each (g .procedures) (procedure-rules at g))
+      (all-each 6 9 (qual-rules at g) qual-range (g .quals))
+      (all-each 6 9 (procedure-rules at g) procedure-range (g .procedures)))

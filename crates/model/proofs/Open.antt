@@ -8,7 +8,7 @@ use native.Mathlib.Omega.{arith}
 use lib.ListN.{length, getD}
 use Rattle.model.specs.Rights.{has, open-right}
 use Rattle.model.specs.Qualified.{Qual, rights}
-use Rattle.model.specs.Program.{Program}
+use Rattle.model.specs.Program.{Program, Record}
 use Rattle.model.specs.Refusal.{verdict}
 use Rattle.model.specs.Rules.{access-rules}
 use Rattle.model.specs.declared.Verdict.the-variants.{Accepted}
@@ -86,9 +86,9 @@ module _ (g : Program) (f : Formed g) (n : Numbered g) (a : Facts g) where
       }
 
 pub open-stays :
-    (g : Program) → Formed g → Numbered g → verdict (access-rules g) ≡ Accepted → (memory output : ℕ) (input : List ℕ) (fuel n : ℕ) →
+    (at : Record → ℕ) (g : Program) → Formed g → Numbered g → verdict (access-rules at g) ≡ Accepted → (memory output : ℕ) (input : List ℕ) (fuel n : ℕ) →
     OpenStays g (state-after watched g memory output input fuel n)
-open-stays g f n h memory output input fuel k =
-    let a = facts g h in
+open-stays at g f n h memory output input fuel k =
+    let a = facts at g h in
     let s : Sound g = record { formed = f; facts = a } in
     state-after-ok g s memory output (OpenStays g) (state-stays g f n a) (none-stays g f n a) input fuel k

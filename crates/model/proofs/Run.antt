@@ -5,7 +5,7 @@ use mathlib.Core.Bool.{Bool, true, false, cond}
 use mathlib.Core.List.{List, []}
 use lib.Dec.{leb}
 use lib.ListN.{length, length-replicate}
-use Rattle.model.specs.Program.{Program}
+use Rattle.model.specs.Program.{Program, Record}
 use Rattle.model.specs.Refusal.{verdict}
 use Rattle.model.specs.Rules.{access-rules}
 use Rattle.model.specs.declared.Verdict.the-variants.{Accepted}
@@ -108,10 +108,10 @@ regular-not-stuck : (e : End) → Regular e → (n : ℕ) (put : List ℕ) (p i 
 regular-not-stuck e r n put p i h = subst Regular h r
 
 pub condition3 :
-    (g : Program) → Formed g → verdict (access-rules g) ≡ Accepted → (memory : ℕ) (input output : List ℕ) (fuel : ℕ) →
+    (at : Record → ℕ) (g : Program) → Formed g → verdict (access-rules at g) ≡ Accepted → (memory : ℕ) (input output : List ℕ) (fuel : ℕ) →
     Condition3 g memory input output fuel
-condition3 g f a memory input output fuel =
-    let s : Sound g = record { formed = f; facts = facts g a } in
+condition3 at g f a memory input output fuel =
+    let s : Sound g = record { formed = f; facts = facts at g a } in
     let z = run-ok g s memory (length output) input fuel in
     record {
       not-stuck = regular-not-stuck _ (subst Regular (z .same) (z .regular));

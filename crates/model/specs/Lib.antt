@@ -7,4 +7,6 @@ pub mod Outcome
 pub mod Modes
 pub mod Machine
 pub mod Run
+pub mod Inside
+pub mod Same
 pub mod Claim

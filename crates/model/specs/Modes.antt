@@ -6,7 +6,7 @@ use mathlib.Core.Bool.{Bool, true, false, _&&_}
 use mathlib.Core.Option.{Option, none, some}
 use lib.Dec.{eqb, leb}
 use Rattle.model.specs.Rights.{Rights, within, has}
-use Rattle.model.specs.Qualified.{Qual, base, rights, element, isInteger, isArray, same}
+use Rattle.model.specs.Qualified.{Qual, base, rights, element, isInteger, isArray, elements}
 use Rattle.model.specs.Outcome.{wrong-kind, missing-right, Res, ok, stop, stuck, _>>=_, _>>_, ensure}
 
 pub data Mode : Type 0 where
@@ -69,7 +69,7 @@ is-of watched t u = ensure wrong-kind (eqb u t)
 -- "the value's type is the QT's base and, for a tray, the object's element equals the QT's"
 unfoldable pub fits : Qual → Kind watched → Bool
 fits q integer-kind = isInteger q
-fits q (array-kind e) = isArray q && same e (element q)
+fits q (array-kind e) = isArray q && elements e (element q)
 fits q (record-kind t) = leb 2 t && eqb (base q) t
 fits q no-kind = false
 

@@ -23,9 +23,12 @@ pub record Program : Type 0 where
   pub need : ℕ → ℕ → Qual
   pub instructions : ℕ → ℕ
   pub operation : ℕ → ℕ → Operation
-  -- the bytes at which the records of a type, a qualified type, a procedure, a variable, an instruction start
-  pub type-at : ℕ → ℕ
-  pub qual-at : ℕ → ℕ
-  pub procedure-at : ℕ → ℕ
-  pub variable-at : ℕ → ℕ → ℕ
-  pub instruction-at : ℕ → ℕ → ℕ
+
+-- the records that an access rule refuses; the byte at which one starts is not the program's to say
+pub data Record : Type 0 where
+  -- the TY of declared type t
+  type-record : (t : ℕ) → Record
+  qual-record : (j : ℕ) → Record
+  procedure-record : (p : ℕ) → Record
+  variable-record : (p x : ℕ) → Record
+  instruction-record : (p i : ℕ) → Record

@@ -49,10 +49,14 @@ same (array r e) (declared u s) = false
 same (declared t r) integer = false
 same (declared t r) (array s f) = false
 
+-- how the elements of two arrays must agree: one line, for the rules (`alike`) and the watched machine's test of kind (`fits` of Modes.antt) ask the same
+abbrev pub elements : Qual → Qual → Bool
+elements e f = same e f
+
 -- Q1 ≥ Q2 but for the rights at the top: "the bases are equal and, for trays, the elements are equal"
 unfoldable pub alike : Qual → Qual → Bool
 alike integer integer = true
-alike (array r e) (array s f) = same e f
+alike (array r e) (array s f) = elements e f
 alike (declared t r) (declared u s) = eqb t u
 alike integer (array s f) = false
 alike integer (declared u s) = false

@@ -6,7 +6,7 @@ use mathlib.Core.Option.{Option, none, some}
 use lib.Dec.{eqb, leb, ltb}
 use Rattle.model.specs.Rights.{within, has, none-above, open-right, fetch-right, store-right, size-right, array-rights}
 use Rattle.model.specs.Qualified.{Qual, base, rights, element, isInteger, isArray, same, alike}
-use Rattle.model.specs.Program.{Program}
+use Rattle.model.specs.Program.{Program, Record, type-record, qual-record, procedure-record, variable-record, instruction-record}
 use Rattle.model.specs.Refusal.{open-exposed, false-raise, type-mismatch, insufficient-rights, Test, test, Tests, tests, each}
 use Rattle.model.specs.declared.Operation.{Operation}
 use Rattle.model.specs.declared.Operation.the-variants.{Set, Add, Subtract, Less, JumpZero, Bind, Take, Put, NewArray, Fetch, Store, Size, NewRecord, GetSlot, SetSlot, Call, Return}
@@ -139,23 +139,25 @@ module _ (g : Program) where
   rule p (Call a b k) = call-rule (g .inner p) (g .need k) (g .formals k) (g .result k) a b
   rule p (Return a) = return-rule (optional-variable (g .inner p) (optional a)) (g .result p)
 
-  unfoldable pub type-rules : ℕ → List Tests
-  type-rules i = tests (g .type-at (2 + i)) (each (g .slots (2 + i)) (λ k. closed-rule (g .slot (2 + i) k))) ∷ []
-
-  unfoldable pub qual-rules : ℕ → List Tests
-  qual-rules j = tests (g .qual-at j) (closed-rule (element (g .qual j))) ∷ []
-
   unfoldable pub variable-rule : (p x : ℕ) → List Test
   variable-rule p x = declaration-rule (g .owner p) (g .formals p) x (g .need p x) (g .inner p x)
 
+-- record by record, each with the byte at which it starts
+module _ (at : Record → ℕ) (g : Program) where
+  unfoldable pub type-rules : ℕ → List Tests
+  type-rules i = tests (at (type-record (2 + i))) (each (g .slots (2 + i)) (λ k. closed-rule (g .slot (2 + i) k))) ∷ []
+
+  unfoldable pub qual-rules : ℕ → List Tests
+  qual-rules j = tests (at (qual-record j)) (closed-rule (element (g .qual j))) ∷ []
+
   unfoldable pub variable-rules : (p x : ℕ) → List Tests
-  variable-rules p x = tests (g .variable-at p x) (variable-rule p x) ∷ []
+  variable-rules p x = tests (at (variable-record p x)) (variable-rule g p x) ∷ []
 
   unfoldable pub instruction-rules : (p i : ℕ) → List Tests
-  instruction-rules p i = tests (g .instruction-at p i) (rule p (g .operation p i)) ∷ []
+  instruction-rules p i = tests (at (instruction-record p i)) (rule g p (g .operation p i)) ∷ []
 
   unfoldable pub head-rules : (p : ℕ) → List Tests
-  head-rules p = tests (g .procedure-at p) (test open-exposed (closed-result (g .result p)) ∷ []) ∷ []
+  head-rules p = tests (at (procedure-record p)) (test open-exposed (closed-result (g .result p)) ∷ []) ∷ []
 
   unfoldable pub procedure-rules : ℕ → List Tests
   procedure-rules p =

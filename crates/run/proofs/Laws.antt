@@ -9,7 +9,7 @@ use Rattle.model.specs.Refusal.{verdict}
 use Rattle.model.specs.Rules.{access-rules}
 use Rattle.model.specs.Run.{End, stopped, run}
 use Rattle.model.specs.declared.Verdict.the-variants.{Accepted}
-use Rattle.sheet.specs.Meaning.{programOf}
+use Rattle.sheet.specs.Meaning.{programOf, placeOf}
 use Rattle.form.specs.WellFormed.{form-tests}
 use Rattle.model.proofs.Verdicts.{left-accepted}
 use Rattle.checking.specs.Check.{check, check-tests}
@@ -28,7 +28,7 @@ answers memory output output′ e r zeros (stopped x n put p i) q z (ended a b c
 
 pub formed-sheet : (s : List ℕ) → check s ≡ Accepted → verdict (form-tests s) ≡ Accepted
 unfolding check check-tests
-formed-sheet s a = left-accepted (form-tests s) (access-rules (programOf s)) a
+formed-sheet s a = left-accepted (form-tests s) (access-rules (placeOf s) (programOf s)) a
 
 -- condition 3, (a)
 pub never-stuck : (s : List ℕ) → check s ≡ Accepted → (memory : ℕ) → memory ≤ 65536 → (input output : List ℕ) → ((k : ℕ) → getD input k 0 < 2 ^ 32)

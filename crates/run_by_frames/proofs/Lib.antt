@@ -1,3 +1,2 @@
-pub mod Inside
 pub mod Turn
 pub mod Begin

@@ -12,7 +12,9 @@ use Rattle.model.specs.Program.{Program}
 use Rattle.model.specs.Modes.{Mode}
 use Rattle.model.specs.Machine.{frame, State, state, Next, go, finished, view, plan, step}
 use Rattle.model.specs.Run.{End, stopped, end-in, stuck-in, snapshot, running, over, settle, end-of, advance, opened, start, trace, run}
+use Rattle.model.specs.Inside.{Inside}
 use Rattle.model.proofs.AnyProgram.{IsOver, over-run}
+use Rattle.model.proofs.Inside.{yielded, step-inside, opened-inside}
 use Rattle.model.specs.declared.Verdict.the-variants.{Accepted}
 use Rattle.sheet.specs.Layout.{variablesAt, instructionAt, procedureAt}
 use Rattle.sheet.specs.Decode.{operationAt}
@@ -27,17 +29,16 @@ use Rattle.writers.specs.Memory.{Given, Sane, StandsFor}
 use Rattle.writers.specs.Steps.{After, onward}
 use Rattle.frames.specs.Performs.{Loaded, performed}
 use Rattle.frames.specs.Fetch.{place-in, Fetchable}
+use Rattle.frames.proofs.Kept.{place-is}
 use Rattle.lent_step.specs.Counts.{Ready, TurnIs, counted}
-use Rattle.lent_step.proofs.Laws.{here, same-step, counted-stands, turned-go, turned-enter, turned-halt, turned-done}
+use Rattle.lent_step.proofs.Laws.{same-step, counted-stands, turned-go, turned-enter, turned-halt, turned-done}
 use Rattle.run_by_frames.specs.declared.Ended.{Ended}
 use Rattle.run_by_frames.specs.Reply.{EndedIs, ended}
-use Rattle.run_by_frames.specs.Inside.{Inside}
 use Rattle.run_by_frames.specs.declared.Paused.{Paused}
 use Rattle.run_by_frames.specs.declared.Paused.the-variants as P
 use Rattle.run_by_frames.specs.declared.Halted.{Halted}
 use Rattle.run_by_frames.specs.declared.Halted.the-variants as H
 use Rattle.run_by_frames.specs.Turn.{Never-stuck, whole-run, Going, RunOf, Begun, PausedIs, HaltedIs, FrameRuns, RunsUntil}
-use Rattle.run_by_frames.proofs.Inside.{yielded, step-inside, opened-inside}
 
 -- what is told at a stop after so many steps
 abbrev pub told : Registers → (number steps : ℕ) → Ended
@@ -52,7 +53,7 @@ module _ (m : Mode) (c : Given) (words out : List ℕ) (r : Registers) where
       let s = c .sheet in
       let l = I .0 .procedure in
       let n = I .0 .instruction in
-      let e : place-in r ≡ instructionAt s (procedureAt s p) i = here m c words out r p i (S .next) (S .first) in
+      let e : place-in r ≡ instructionAt s (procedureAt s p) i = place-is S in
       record {
         whole = rw e (instruction-whole s wf p l i n);
         first = let w : place-in r + 8 ≤ length s = rw e (instruction-whole s wf p l i n) in omega arith;

@@ -9,12 +9,11 @@ use sheet::bytes::byte;
 use sheet::places::instruction_at;
 use watched_step::step::guarded_step;
 use words::clear;
-use words::place_word;
 use writers::Registers;
 use writers::Stepped;
 ghost use mathlib.Core.Path.{_≡_};
 ghost use mathlib.Core.List.{List};
-ghost use Prim.Native.Nat.{ℕ, _+_, _≤_};
+ghost use Prim.Native.Nat.{ℕ, _+_, _≤_, _<_};
 ghost use lib.ListN.{length};
 ghost use Rattle.model.specs.Modes.{Mode};
 ghost use Rattle.model.specs.Run.{run, opened};
@@ -29,7 +28,7 @@ ghost use Rattle.run_by_frames.specs.Turn.{mode-of, Never-stuck, Begun, 
 // Main's frame, at the end of the memory; no frame waits for it.
 fn open_main(s: &[u8], table: &[u32; 65], memory: &mut [u64], v: usize) -> Registers
     requires { ⌜ Loaded (now s) (now table) ⌝ }
-    requires { ⌜ v ≡ variablesAt (now s) (procedureAt (now s) 0) ⌝ }
+    requires { ⌜ (v ≡ variablesAt (now s) (procedureAt (now s) 0)) × (v < 256) ⌝ }
     requires { ⌜ (v + 2 ≤ length (now memory)) × (length (now memory) ≤ 65536) ⌝ }
     ensures { λ r. ⌜ r .steps ≡ 0 ⌝ }
     ensures { λ r. ⌜ ((m : Mode) (input out : List ℕ) → StandsFor m (record { sheet = now (s .entry); input = input; output = out }) (now (memory .exit)) out r (opened m (programOf (now (s .entry))) (length (now (memory .entry))) (length out) input)) ⌝ }
@@ -37,9 +36,6 @@ fn open_main(s: &[u8], table: &[u32; 65], memory: &mut [u64], v: usize) -> Regis
     let len = memory.len();
     let at = len - (v + 2);
     clear(&mut memory[at..len]);
-    let none = place_word(0, 0);
-    memory[at + v] = none;
-    memory[at + v + 1] = none;
     Registers {
         procedure: 0,
         next: 0,

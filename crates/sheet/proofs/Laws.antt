@@ -1,6 +1,6 @@
 -- Laws of the definitions in specs/, which the functions' proofs and the layers above cite.
-use Prim.Native.Nat.{ℕ, zero, suc, _+_, _-_, _<_, _≤_}
-use mathlib.Core.Path.{_≡_, refl, sym, ap, _∙_}
+use Prim.Native.Nat.{ℕ, _+_, _*_, _-_, _<_, _≤_}
+use mathlib.Core.Path.{_≡_, refl, _∙_}
 use mathlib.Core.List.{List}
 use mathlib.Core.Logic.{_⊎_, inl, inr}
 use mathlib.Core.Bool.{Bool, true, false, _&&_, cond}
@@ -10,13 +10,11 @@ use lib.Dec.{leb, ltb, eqb}
 use lib.ListN.{length, getD, set, take, drop, length-take, length-drop}
 use lib.Seq.{getD-set-same, getD-set-other, getD-take, getD-drop, length-take-le}
 use borrow.Author.Count.{below-more}
-use borrow.Author.Tests.{leb-true, leb-false, le-leb, lt-leb, ltb-true, ltb-false, le-ltb, eqb-true}
-use Rattle.model.specs.Qualified.{Qual, integer, array, base}
+use borrow.Author.Tests.{leb-true, leb-false, le-leb, lt-leb, ltb-true, ltb-false, eqb-true}
 use Rattle.model.proofs.Verdicts.{both-true}
 use Rattle.sheet.specs.Bytes.{byteAt, wholeAt, mark, markedAt}
-use Rattle.sheet.specs.Layout.{hd-mark, in-mark, qualsOf, rightsOf, elementOf, instructionAt, instructionsAt, procedureAt}
+use Rattle.sheet.specs.Layout.{hd-mark, in-mark, variableAt, innerAt, needAt, instructionAt, instructionsAt, procedureAt}
 use Rattle.sheet.specs.Reader.{sizeAt, recordAt}
-use Rattle.sheet.specs.Meaning.{shaped, baseIn, elementIn, tree, qualOf}
 
 -- ---- tests
 -- the test of a loop with two ends: in a turn, and after it
@@ -105,59 +103,12 @@ pub procedure-next : (s : List ℕ) (i at : ℕ) → at ≡ procedureAt s i → 
 unfolding procedureAt
 procedure-next s i at e = rw (add-one, e)
 
--- ---- the qualified types that a sheet means
-base-shaped : (b r : ℕ) (e : Qual) → base (shaped b r e) ≡ b
-unfolding base shaped
-base-shaped zero r e = refl
-base-shaped (suc zero) r e = refl
-base-shaped (suc (suc t)) r e = refl
+-- ---- fields of the VRs, counted from the place of their procedure
+module _ (s : List ℕ) (pr x : ℕ) where
+  pub inner-field : byteAt s pr (10 + 4 * x) ≡ innerAt s pr x
+  unfolding byteAt innerAt variableAt
+  inner-field = let e : pr + (10 + 4 * x) ≡ pr + 8 + 4 * x + 2 = omega arith in rw e
 
-pub base-qual : (s : List ℕ) (j : ℕ) → base (qualOf s j) ≡ baseIn s j
-unfolding qualOf tree
-base-qual s j = base-shaped (baseIn s j) (rightsOf s j) (tree s j (elementIn s j))
-
-pub qual-integer : (s : List ℕ) (j : ℕ) → baseIn s j ≡ 0 → qualOf s j ≡ integer
-unfolding qualOf tree shaped
-qual-integer s j b = rw b
-
--- an element's number is below its own array's, or 255
-element-below : (s : List ℕ) (j : ℕ) → (elementIn s j < j) ⊎ (elementIn s j ≡ 255)
-unfolding elementIn
-element-below s j = go (ltb (elementOf s j) j) refl
-  where
-    go : (t : Bool) → ltb (elementOf s j) j ≡ t → (cond t (elementOf s j) 255 < j) ⊎ (cond t (elementOf s j) 255 ≡ 255)
-    go true e = inl (ltb-true (elementOf s j) j e)
-    go false e = inr refl
-
-module _ (s : List ℕ) (q : qualsOf s ≤ 255) where
-  base-none : baseIn s 255 ≡ 0
-  unfolding baseIn
-  base-none = rw (le-ltb 255 (qualsOf s) q)
-
-  -- no QT has the number 255: it is read as an integer
-  pub none-qual : qualOf s 255 ≡ integer
-  none-qual = qual-integer s 255 base-none
-
-  tree-none : (n : ℕ) → tree s n 255 ≡ integer
-  unfolding tree shaped
-  tree-none zero = refl
-  tree-none (suc n) = rw base-none
-
-  -- the depth does not matter as long as it is above j, since an element's number falls
-  pub tree-enough : (n m j : ℕ) → j < n → j < m → tree s n j ≡ tree s m j
-  unfolding tree
-  tree-enough zero m j l k = absurd (omega arith)
-  tree-enough (suc n) zero j l k = absurd (omega arith)
-  tree-enough (suc n) (suc m) j l k = ap (shaped (baseIn s j) (rightsOf s j)) (go (tree-enough n m (elementIn s j)) (element-below s j))
-    where
-      go : (elementIn s j < n → elementIn s j < m → tree s n (elementIn s j) ≡ tree s m (elementIn s j)) → (elementIn s j < j) ⊎ (elementIn s j ≡ 255) → tree s n (elementIn s j) ≡ tree s m (elementIn s j)
-      go f (inl h) = f (omega arith) (omega arith)
-      go f (inr h) = rw h (tree-none n ∙ sym (tree-none m))
-
-  pub qual-array : (j : ℕ) → baseIn s j ≡ 1 → qualOf s j ≡ array (rightsOf s j) (qualOf s (elementIn s j))
-  unfolding qualOf tree shaped
-  qual-array j b = rw b (ap (array (rightsOf s j)) (go (element-below s j)))
-    where
-      go : (elementIn s j < j) ⊎ (elementIn s j ≡ 255) → tree s j (elementIn s j) ≡ tree s (suc (elementIn s j)) (elementIn s j)
-      go (inl h) = tree-enough j (suc (elementIn s j)) (elementIn s j) h (omega arith)
-      go (inr h) = rw h (tree-none j ∙ sym (tree-none 256))
+  pub need-field : byteAt s pr (11 + 4 * x) ≡ needAt s pr x
+  unfolding byteAt needAt variableAt
+  need-field = let e : pr + (11 + 4 * x) ≡ pr + 8 + 4 * x + 3 = omega arith in rw e

@@ -97,9 +97,13 @@ resultAt s pr = byteAt s pr 5
 unfoldable pub instructionsAt : List ℕ → ℕ → ℕ
 instructionsAt s pr = wordAt s pr 6
 
+-- where the VRs of the procedure at `pr` start
+abbrev pub startAt : ℕ → ℕ
+startAt pr = pr + pr-size
+
 -- VR x of the procedure at `pr`: inner, need
 unfoldable pub variableAt : ℕ → ℕ → ℕ
-variableAt pr x = pr + (pr-size + vr-size * x)
+variableAt pr x = startAt pr + vr-size * x
 
 unfoldable pub innerAt : List ℕ → ℕ → ℕ → ℕ
 innerAt s pr x = byteAt s (variableAt pr x) 2

@@ -1,4 +1,4 @@
--- The program that a sheet's bytes mean. It is total: where a well-formed sheet has no such number, the value is of no account.
+-- The program that a sheet's bytes mean, and where its records stand. It is total: where a well-formed sheet has no such number, the value is of no account.
 use Prim.Native.Nat.{ℕ, zero, suc}
 use mathlib.Core.List.{List}
 use mathlib.Core.Bool.{cond}
@@ -6,7 +6,7 @@ use mathlib.Core.Option.{Option, none, some}
 use lib.Dec.{eqb, ltb}
 use Rattle.model.specs.Rights.{Rights}
 use Rattle.model.specs.Qualified.{Qual, integer, array, declared}
-use Rattle.model.specs.Program.{Program}
+use Rattle.model.specs.Program.{Program, Record, type-record, qual-record, procedure-record, variable-record, instruction-record}
 use Rattle.sheet.specs.Layout.{typesOf, qualsOf, proceduresOf, typeAt, namedOf, slotsOf, slotOf, qualAt, baseOf, rightsOf, elementOf, ownerAt, formalsAt, variablesAt, resultAt, instructionsAt, variableAt, innerAt, needAt, instructionAt, procedureAt}
 use Rattle.sheet.specs.Decode.{operationAt}
 
@@ -64,9 +64,12 @@ programOf s =
       need = λ p. needIn s (procedureAt s p);
       instructions = λ p. instructionsAt s (procedureAt s p);
       operation = λ p i. operationAt s (instructionAt s (procedureAt s p) i);
-      type-at = typeAt;
-      qual-at = qualAt s;
-      procedure-at = procedureAt s;
-      variable-at = λ p x. variableAt (procedureAt s p) x;
-      instruction-at = λ p i. instructionAt s (procedureAt s p) i;
     }
+
+-- "with the byte at which the record starts"
+abbrev pub placeOf : List ℕ → Record → ℕ
+placeOf s (type-record t) = typeAt t
+placeOf s (qual-record j) = qualAt s j
+placeOf s (procedure-record p) = procedureAt s p
+placeOf s (variable-record p x) = variableAt (procedureAt s p) x
+placeOf s (instruction-record p i) = instructionAt s (procedureAt s p) i

@@ -15,13 +15,18 @@ use Rattle.model.specs.Rights.{Rights, within, has, none-above, record-rights, 
 use Rattle.model.specs.Qualified.{Qual, integer, array, declared, rights, element, isInteger, isArray}
 use Rattle.model.specs.Outcome.{blank, past-end, wrong-kind, missing-right, Res, ok, stop, stuck, _>>=_, _>>_, ensure}
 use Rattle.model.specs.Program.{Program}
-use Rattle.model.specs.Modes.{watched, Kind, array-kind, amiss, demand, licence, is-of, fits, bind, bind-element}
+use Rattle.model.specs.Rules.{owned-by}
+use Rattle.model.specs.Modes.{watched, Kind, array-kind, record-kind, amiss, demand, licence, is-of, fits, bind, bind-element}
 use Rattle.model.specs.Machine.{Value, word, Cell, empty, filled, Head, View, Effect, write, held, as-integer, array-head-of, record-head-of, array-at, record-at, declared-as, moved, give, gives, integers, one-integer, slot-there, plan, plan-fetch, plan-store, plan-size, plan-get, plan-set}
 use Rattle.model.proofs.Verdicts.{both-true}
 use Rattle.model.proofs.Order.{same-refl}
 use Rattle.model.proofs.Rights.{within-refl, within-all}
+use Rattle.sheet.specs.Layout.{innerAt}
+use Rattle.sheet.specs.Meaning.{qualOf, innerIn}
+use Rattle.index.specs.Types.{qualIn}
+use Rattle.index.specs.Indexed.{Ready}
 use Rattle.words.specs.Word.{tag, low, payload, size-of, info-of as kind-number, cell, slot-in, as-head}
-use Rattle.words.specs.Sees.{head-size, heads-in, Sees}
+use Rattle.words.specs.Sees.{head-size, Sees}
 use Rattle.words.specs.Answer.{read-as}
 use Rattle.words.specs.Answers.{MovedOk, InObject, StoredOk, halted, number-as, given, moved-to, stored}
 use Rattle.words.specs.declared.Cell.{Cell as Read}
@@ -30,7 +35,7 @@ use Rattle.words.specs.declared.Number.{Number}
 use Rattle.words.specs.declared.Moved.{Moved}
 use Rattle.words.specs.declared.Stored.{Stored}
 use Rattle.words.proofs.Laws.{told-blank, told-filled, blank-word, slot-array, slot-record}
-use Rattle.binding.specs.Kinds.{moved-cell}
+use Rattle.binding.specs.Binds.{Heads, moved-cell}
 use Rattle.binding.proofs.Views.{ValueOf, integer-in, object-in, value-word, CellOf, blank-in, cell-word, HeadOf, array-in, record-in, no-head-in, head-word}
 use Rattle.binding.proofs.Laws.{bound, bound-misfit, halted-then}
 use Rattle.watched_plan.specs.Spots.{pair-as, element-as, slot-as, SpotOk, storing, made, index-of, element-at, slot-of, slot-at, size-for}
@@ -42,6 +47,11 @@ use Rattle.words.specs.declared.Moved.the-variants as M
 use Rattle.words.specs.declared.Stored.the-variants as T
 use Rattle.watched_plan.specs.declared.Pair.the-variants as P
 use Rattle.watched_plan.specs.declared.Spot.the-variants as S
+
+-- the type of variable a of the procedure at pr, by its number in the index
+pub inner-type : (s : List ℕ) (pr a : ℕ) {t : List ℕ} {q : ℕ} → Ready s t → q ≡ innerAt s pr a → qualIn t q ≡ innerIn s pr a
+unfolding innerIn
+inner-type s pr a {q = q} ready is = ready .types q ∙ ap (qualOf s) is
 
 -- ---- one test after another
 
@@ -219,7 +229,7 @@ bind-plan q g v a b r is e = moved-into q a r ∙ rw (e, is)
 
 -- ---- the head at a name, by its word
 
-module _ (q : ℕ → Qual) (v : View watched) (h : List ℕ) (x : ℕ) {o w : ℕ} (heads : (a : ℕ) → heads-in watched q h a ≡ v .head a)
+module _ (q : ℕ → Qual) (v : View watched) (h : List ℕ) (x : ℕ) {o w : ℕ} (heads : Heads q v h)
     (name : o ≡ payload x) (at : w ≡ getD h o 0) where
   head-seen : as-head (slot-in watched q w) ≡ v .head (payload x)
   head-seen = ap (λ (z : ℕ). as-head (slot-in watched q z)) (at ∙ ap (λ (z : ℕ). getD h z 0) name) ∙ heads (payload x)
@@ -267,7 +277,7 @@ module _ (g : Program) (v : View watched) (q : ℕ → Qual) (right x y w : ℕ)
   index-there (object-in i) (integer-in j) (no-head-in a b) e tags = absurd (a (tags .1))
 
 module _ (g : Program) (v : View watched) (q : ℕ → Qual) (h : List ℕ) (right x y : ℕ) {o w : ℕ} {z u : Value} {m n : ℕ} {tx th ty : ℕ}
-    (heads : (a : ℕ) → heads-in watched q h a ≡ v .head a)
+    (heads : Heads q v h)
     (first : slot-in watched q x ≡ cell (filled z m)) (second : slot-in watched q y ≡ cell (filled u n))
     (name : o ≡ payload x) (at : w ≡ getD h o 0)
     (t-x : tx ≡ tag x) (t-h : th ≡ tag w) (t-y : ty ≡ tag y) where
@@ -406,7 +416,7 @@ module _ (g : Program) (v : View watched) (q : ℕ → Qual) (t j x w : ℕ) whe
   slot-there-is (object-in i) (no-head-in a b) e tags = absurd (b (tags .1))
 
 module _ (g : Program) (v : View watched) (q : ℕ → Qual) (h : List ℕ) (t j x : ℕ) {o w : ℕ} {z : Value} {m : ℕ} {tx th u : ℕ}
-    (heads : (a : ℕ) → heads-in watched q h a ≡ v .head a) (first : slot-in watched q x ≡ cell (filled z m))
+    (heads : Heads q v h) (first : slot-in watched q x ≡ cell (filled z m))
     (name : o ≡ payload x) (at : w ≡ getD h o 0)
     (t-x : tx ≡ tag x) (t-h : th ≡ tag w) (kind : u ≡ kind-number w) where
   pub slot-misfit : (eqb tx 2 && eqb th 4) && eqb u t ≡ false → slot-as (S.Halt 18) ≡ slot-of g v t j z m
@@ -556,7 +566,7 @@ unfolding given halted plan plan-size held _>>=_
 size-blank g v a b e = rw e
 
 module _ (g : Program) (v : View watched) (q : ℕ → Qual) (h : List ℕ) (a b x : ℕ) {o w tx th : ℕ}
-    (heads : (c : ℕ) → heads-in watched q h c ≡ v .head c) (here : Found q x (v .variable b))
+    (heads : Heads q v h) (here : Found q x (v .variable b))
     (name : o ≡ payload x) (at : w ≡ getD h o 0) (t-x : tx ≡ tag x) (t-h : th ≡ tag w) where
   pub size-misfit : eqb tx 2 && eqb th 3 ≡ false → given watched a (N.Halt 18) ≡ plan watched g v (Op.Size a b)
   unfolding given halted amiss plan plan-size gives
@@ -608,6 +618,11 @@ module _ (q : Qual) (k : Kind watched) (r : Rights) where
   pub made-misfit : fits q k ≡ false → made q 18 ≡ bind watched q k r
   unfolding made halted amiss bind ensure _>>_
   made-misfit misfit = rw misfit
+
+-- a new record is of the owner's type
+pub record-fits : (o : ℕ) (q : Qual) {t u : Bool} → t ≡ owned-by o q → t ≡ u → fits q (record-kind o) ≡ u
+unfolding fits owned-by
+record-fits o q is told = sym is ∙ told
 
 -- a new array has its type's element
 pub array-fits : (q : Qual) {t u : Bool} → t ≡ isArray q → t ≡ u → fits q (array-kind (element q)) ≡ u

@@ -1,16 +1,20 @@
 -- What the definition's plans ask before a value moves, each a part of a plan of Machine.antt, and what the code answers there.
 use Prim.Native.Nat.{ℕ, zero, suc}
+use mathlib.Core.Path.{_≡_}
 use mathlib.Core.List.{List}
 use lib.Dec.{ltb}
 use lib.ListN.{getD}
-use Rattle.model.specs.Rights.{Rights, open-right}
-use Rattle.model.specs.Qualified.{Qual, rights, isArray}
+use Rattle.model.specs.Rights.{Rights, open-right, array-rights, record-rights}
+use Rattle.model.specs.Qualified.{Qual, rights, element, isArray}
 use Rattle.model.specs.Program.{Program}
 use Rattle.model.specs.Outcome.{past-end, Res, ok, _>>=_, _>>_, ensure}
-use Rattle.model.specs.Modes.{watched, demand, licence}
-use Rattle.model.specs.Machine.{Value, Cell, View, Effect, store, held, as-integer, array-at, record-at, one-integer, slot-there}
-use Rattle.words.specs.Word.{info-of}
+use Rattle.model.specs.Modes.{watched, array-kind, record-kind, demand, licence, bind}
+use Rattle.model.specs.Machine.{Value, Cell, filled, View, Effect, store, held, as-integer, array-at, record-at, one-integer, slot-there}
+use Rattle.sheet.specs.Layout.{namedOf}
+use Rattle.words.specs.Word.{info-of, cell, slot-in}
+use Rattle.words.specs.Sees.{Sees}
 use Rattle.words.specs.Answers.{halted, InObject}
+use Rattle.binding.specs.Binds.{Heads}
 use Rattle.watched_plan.specs.declared.Pair.{Pair}
 use Rattle.watched_plan.specs.declared.Spot.{Spot}
 use Rattle.watched_plan.specs.declared.Pair.the-variants as P
@@ -79,3 +83,35 @@ module _ (g : Program) (v : View watched) where
     n ← one-integer watched g v b
     demand watched (isArray q)
     ok n
+
+-- ---- An answer is a cell of an object, and the one that the definition gives in every view that sees these words
+
+-- the element of the array of a filled cell, x, by the index in another, y
+pub record FindsIndexed (h : List ℕ) (x y right : ℕ) (r : Spot) : Type 0 where
+  pub inside : SpotOk h r
+  pub finds : (q : ℕ → Qual) (g : Program) (v : View watched) (z u : Value) (m n : ℕ) → Heads q v h
+      → slot-in watched q x ≡ cell (filled z m) → slot-in watched q y ≡ cell (filled u n) → element-as q h r ≡ index-of g v right z m u
+
+-- of the array in variable b by the index in variable c
+pub record FindsElement (f h : List ℕ) (b c right : ℕ) (r : Spot) : Type 0 where
+  pub inside : SpotOk h r
+  pub finds : (q : ℕ → Qual) (g : Program) (v : View watched) → Sees watched q v f h → element-as q h r ≡ element-at g v right b c
+
+-- slot k of the record of a filled cell, x, of type t
+pub record FindsOpened (h : List ℕ) (x t k : ℕ) (r : Spot) : Type 0 where
+  pub inside : SpotOk h r
+  pub finds : (q : ℕ → Qual) (g : Program) (v : View watched) (z : Value) (m : ℕ) → Heads q v h
+      → slot-in watched q x ≡ cell (filled z m) → slot-as r ≡ slot-of g v t k z m
+
+-- of the record in variable b
+pub record FindsSlot (f h : List ℕ) (t b k : ℕ) (r : Spot) : Type 0 where
+  pub inside : SpotOk h r
+  pub finds : (q : ℕ → Qual) (g : Program) (v : View watched) → Sees watched q v f h → slot-as r ≡ slot-at g v t k b
+
+-- ---- A new object with all its rights, bound to a declared type: of that type's element, or of type t
+
+abbrev pub MakesArray : Qual → ℕ → Type 0
+MakesArray q r = made q r ≡ bind watched q (array-kind (element q)) array-rights
+
+abbrev pub MakesRecord : (s : List ℕ) → Qual → (t r : ℕ) → Type 0
+MakesRecord s q t r = made q r ≡ bind watched q (record-kind t) (record-rights (namedOf s t))

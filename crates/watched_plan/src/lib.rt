@@ -1,18 +1,19 @@
 // What each instruction of the watched machine asks for, with every test of kind and right, found by reading alone: f is the running frame's part of the
 // memory, h the objects' part, pr the place of the running procedure's PR. Every test reads carried rights.
-use binding::Kind;
 use binding::bind_word;
-use binding::kind_fits;
-use order::element_of;
-use order::inner_of;
-use order::is_array;
-use order::is_integer;
-use order::rights_of;
-use order::slot_of;
+use index::Index;
+use index::types::element_of;
+use index::types::is_array;
+use index::types::is_integer;
+use index::types::rights_of;
+use order::is_owned;
 use rights::has_none_above;
 use rights::has_right;
 use rights::is_within;
 use sheet::bytes::byte;
+use sheet::fields::field;
+use sheet::fields::inner_of;
+use sheet::fields::slot_of;
 use sheet::places::type_at;
 use words::Cell;
 use words::Moved;
@@ -29,19 +30,20 @@ ghost use mathlib.Core.Path.{_≡_};
 ghost use mathlib.Core.List.{List};
 ghost use Prim.Native.Nat.{ℕ, _<_};
 ghost use lib.Dec.{ltb};
-ghost use Rattle.model.specs.Rights.{array-rights, record-rights};
 ghost use Rattle.model.specs.Qualified.{Qual, rights, element, isInteger};
 ghost use Rattle.model.specs.Program.{Program};
-ghost use Rattle.model.specs.Modes.{watched, array-kind, record-kind, bind};
-ghost use Rattle.model.specs.Machine.{Value, filled, View, plan, as-integer, integers, one-integer, gives, flag};
+ghost use Rattle.model.specs.Modes.{watched};
+ghost use Rattle.model.specs.Machine.{Value, filled, View, as-integer, integers, one-integer, gives, flag};
 ghost use Rattle.model.specs.declared.Operation.the-variants as Op;
-ghost use Rattle.sheet.specs.Layout.{procedureAt, ownerAt, namedOf};
+ghost use Rattle.sheet.specs.Layout.{procedureAt, ownerAt};
 ghost use Rattle.sheet.specs.Meaning.{qualOf, innerIn, programOf};
+ghost use Rattle.index.specs.Indexed.{Ready};
 ghost use Rattle.words.specs.Word.{cell, slot-in};
-ghost use Rattle.words.specs.Sees.{heads-in, Sees};
-ghost use Rattle.words.specs.Answers.{MovedOk, StoredOk, InObject, number-as, given, moved-to, stored};
-ghost use Rattle.binding.specs.Kinds.{moved-cell};
-ghost use Rattle.watched_plan.specs.Spots.{pair-as, element-as, slot-as, SpotOk, storing, made, index-of, element-at, slot-of, slot-at, size-for};
+ghost use Rattle.words.specs.Sees.{Sees};
+ghost use Rattle.words.specs.Answers.{MovedOk, StoredOk, InObject, number-as, given, stored};
+ghost use Rattle.binding.specs.Binds.{moved-cell};
+ghost use Rattle.watched_plan.specs.Spots.{pair-as, storing, size-for, FindsIndexed, FindsElement, FindsOpened, FindsSlot, MakesArray, MakesRecord};
+ghost use Rattle.watched_plan.specs.Plans.{PlansNumber, PlansMoved, PlansStored};
 
 // Two integers, or the number of the stop.
 enum Pair {
@@ -92,42 +94,47 @@ fn two_integers(f: &[u64], b: u8, c: u8) -> Pair
 }
 
 // The input that a take finds may go into variable a.
-pub fn takes_integer(s: &[u8], pr: u32, a: u8) -> bool
+pub fn takes_integer(s: &[u8], index: &Index, pr: u32, a: u8) -> bool
+    requires { ⌜ Ready (now s) (now index) ⌝ }
     ensures { λ r. ⌜ r ≡ isInteger (innerIn (now (s .entry)) pr a) ⌝ }
 {
-    is_integer(s, inner_of(s, pr, a))
+    is_integer(index, inner_of(s, pr, a))
 }
 
 // An integer on its way into variable a.
-fn give(s: &[u8], pr: u32, a: u8, n: u32) -> Number
+fn give(s: &[u8], index: &Index, pr: u32, a: u8, n: u32) -> Number
+    requires { ⌜ Ready (now s) (now index) ⌝ }
     ensures { λ r. ⌜ ((v : View watched) → procedureAt (now (s .entry)) (v .procedure) ≡ pr → given watched a r ≡ gives watched (programOf (now (s .entry))) v a n) ⌝ }
 {
-    if takes_integer(s, pr, a) {
+    if takes_integer(s, index, pr, a) {
         return Number::Is(n);
     }
     Number::Halt(18)
 }
 
-pub fn set_guarded(s: &[u8], pr: u32, a: u8, k: u16) -> Number
-    ensures { λ r. ⌜ ((v : View watched) → procedureAt (now (s .entry)) (v .procedure) ≡ pr → given watched a r ≡ plan watched (programOf (now (s .entry))) v (Op.Set a k)) ⌝ }
+pub fn set_guarded(s: &[u8], index: &Index, pr: u32, a: u8, k: u16) -> Number
+    requires { ⌜ Ready (now s) (now index) ⌝ }
+    ensures { λ r. ⌜ ((f h : List ℕ) → PlansNumber (now (s .entry)) pr f h (Op.Set a k) a r) ⌝ }
 {
-    give(s, pr, a, k as u32)
+    give(s, index, pr, a, k as u32)
 }
 
-pub fn add_guarded(s: &[u8], pr: u32, f: &[u64], a: u8, b: u8, c: u8) -> Number
-    ensures { λ r. ⌜ ((v : View watched) (h : List ℕ) → procedureAt (now (s .entry)) (v .procedure) ≡ pr → Sees watched (qualOf (now (s .entry))) v (now (f .entry)) h → given watched a r ≡ plan watched (programOf (now (s .entry))) v (Op.Add a b c)) ⌝ }
+pub fn add_guarded(s: &[u8], index: &Index, pr: u32, f: &[u64], a: u8, b: u8, c: u8) -> Number
+    requires { ⌜ Ready (now s) (now index) ⌝ }
+    ensures { λ r. ⌜ ((h : List ℕ) → PlansNumber (now (s .entry)) pr (now (f .entry)) h (Op.Add a b c) a r) ⌝ }
 {
     match two_integers(f, b, c) {
-        Pair::Are(m, n) => give(s, pr, a, std::num::wrapping_add_u32(m, n)),
+        Pair::Are(m, n) => give(s, index, pr, a, std::num::wrapping_add_u32(m, n)),
         Pair::Halt(k) => Number::Halt(k),
     }
 }
 
-pub fn subtract_guarded(s: &[u8], pr: u32, f: &[u64], a: u8, b: u8, c: u8) -> Number
-    ensures { λ r. ⌜ ((v : View watched) (h : List ℕ) → procedureAt (now (s .entry)) (v .procedure) ≡ pr → Sees watched (qualOf (now (s .entry))) v (now (f .entry)) h → given watched a r ≡ plan watched (programOf (now (s .entry))) v (Op.Subtract a b c)) ⌝ }
+pub fn subtract_guarded(s: &[u8], index: &Index, pr: u32, f: &[u64], a: u8, b: u8, c: u8) -> Number
+    requires { ⌜ Ready (now s) (now index) ⌝ }
+    ensures { λ r. ⌜ ((h : List ℕ) → PlansNumber (now (s .entry)) pr (now (f .entry)) h (Op.Subtract a b c) a r) ⌝ }
 {
     match two_integers(f, b, c) {
-        Pair::Are(m, n) => give(s, pr, a, std::num::wrapping_sub_u32(m, n)),
+        Pair::Are(m, n) => give(s, index, pr, a, std::num::wrapping_sub_u32(m, n)),
         Pair::Halt(k) => Number::Halt(k),
     }
 }
@@ -141,27 +148,27 @@ fn less(m: u32, n: u32) -> u32
     0
 }
 
-pub fn less_guarded(s: &[u8], pr: u32, f: &[u64], a: u8, b: u8, c: u8) -> Number
-    ensures { λ r. ⌜ ((v : View watched) (h : List ℕ) → procedureAt (now (s .entry)) (v .procedure) ≡ pr → Sees watched (qualOf (now (s .entry))) v (now (f .entry)) h → given watched a r ≡ plan watched (programOf (now (s .entry))) v (Op.Less a b c)) ⌝ }
+pub fn less_guarded(s: &[u8], index: &Index, pr: u32, f: &[u64], a: u8, b: u8, c: u8) -> Number
+    requires { ⌜ Ready (now s) (now index) ⌝ }
+    ensures { λ r. ⌜ ((h : List ℕ) → PlansNumber (now (s .entry)) pr (now (f .entry)) h (Op.Less a b c) a r) ⌝ }
 {
     match two_integers(f, b, c) {
-        Pair::Are(m, n) => give(s, pr, a, less(m, n)),
+        Pair::Are(m, n) => give(s, index, pr, a, less(m, n)),
         Pair::Halt(k) => Number::Halt(k),
     }
 }
 
-pub fn bind_guarded(s: &[u8], pr: u32, f: &[u64], h: &[u64], a: u8, b: u8) -> Moved
-    ensures { λ r. ⌜ MovedOk r ⌝ }
-    ensures { λ r. ⌜ ((v : View watched) → procedureAt (now (s .entry)) (v .procedure) ≡ pr → Sees watched (qualOf (now (s .entry))) v (now (f .entry)) (now (h .entry)) → moved-to watched (qualOf (now (s .entry))) a r ≡ plan watched (programOf (now (s .entry))) v (Op.Bind a b)) ⌝ }
+pub fn bind_guarded(s: &[u8], index: &Index, pr: u32, f: &[u64], h: &[u64], a: u8, b: u8) -> Moved
+    requires { ⌜ Ready (now s) (now index) ⌝ }
+    ensures { λ r. ⌜ PlansMoved (now (s .entry)) pr (now (f .entry)) (now (h .entry)) (Op.Bind a b) a r ⌝ }
 {
-    bind_word(s, h, inner_of(s, pr, a), read(f, b as usize))
+    bind_word(index, h, inner_of(s, pr, a), read(f, b as usize))
 }
 
 // The element of the array of a filled cell, x, by the index in another, y: kinds, right, size.
 fn index_in(h: &[u64], x: u64, y: u64, right: u8) -> Spot
     requires { ⌜ right < 32 ⌝ }
-    ensures { λ r. ⌜ SpotOk (now (h .entry)) r ⌝ }
-    ensures { λ r. ⌜ ((q : ℕ → Qual) (g : Program) (v : View watched) (z u : Value) (m n : ℕ) → ((a : ℕ) → heads-in watched q (now (h .entry)) a ≡ v .head a) → slot-in watched q x ≡ cell (filled z m) → slot-in watched q y ≡ cell (filled u n) → element-as q (now (h .entry)) r ≡ index-of g v right z m u) ⌝ }
+    ensures { λ r. ⌜ FindsIndexed (now (h .entry)) x y right r ⌝ }
 {
     let o = name_of(x);
     let i = low_of(y);
@@ -181,8 +188,7 @@ fn index_in(h: &[u64], x: u64, y: u64, right: u8) -> Spot
 // The element of the array in variable b by the index in variable c.
 fn element_spot(f: &[u64], h: &[u64], b: u8, c: u8, right: u8) -> Spot
     requires { ⌜ right < 32 ⌝ }
-    ensures { λ r. ⌜ SpotOk (now (h .entry)) r ⌝ }
-    ensures { λ r. ⌜ ((q : ℕ → Qual) (g : Program) (v : View watched) → Sees watched q v (now (f .entry)) (now (h .entry)) → element-as q (now (h .entry)) r ≡ element-at g v right b c) ⌝ }
+    ensures { λ r. ⌜ FindsElement (now (f .entry)) (now (h .entry)) b c right r ⌝ }
 {
     let Cell::Filled(x) = cell_of(read(f, b as usize)) else {
         return Spot::Halt(13);
@@ -193,14 +199,23 @@ fn element_spot(f: &[u64], h: &[u64], b: u8, c: u8, right: u8) -> Spot
     index_in(h, x, y, right)
 }
 
-pub fn fetch_guarded(s: &[u8], pr: u32, f: &[u64], h: &[u64], a: u8, b: u8, c: u8) -> Moved
-    ensures { λ r. ⌜ MovedOk r ⌝ }
-    ensures { λ r. ⌜ ((v : View watched) → procedureAt (now (s .entry)) (v .procedure) ≡ pr → Sees watched (qualOf (now (s .entry))) v (now (f .entry)) (now (h .entry)) → moved-to watched (qualOf (now (s .entry))) a r ≡ plan watched (programOf (now (s .entry))) v (Op.Fetch a b c)) ⌝ }
+pub fn fetch_guarded(
+    s: &[u8],
+    index: &Index,
+    pr: u32,
+    f: &[u64],
+    h: &[u64],
+    a: u8,
+    b: u8,
+    c: u8,
+) -> Moved
+    requires { ⌜ Ready (now s) (now index) ⌝ }
+    ensures { λ r. ⌜ PlansMoved (now (s .entry)) pr (now (f .entry)) (now (h .entry)) (Op.Fetch a b c) a r ⌝ }
 {
     match element_spot(f, h, b, c, 1) {
         Spot::At(o, i) => {
             let w = read(h, (o as usize) + 1 + (i as usize));
-            bind_word(s, h, inner_of(s, pr, a), w)
+            bind_word(index, h, inner_of(s, pr, a), w)
         }
         Spot::Halt(k) => Moved::Halt(k),
     }
@@ -217,21 +232,21 @@ fn stored_at(o: u32, i: u32, m: Moved) -> Stored
     }
 }
 
-pub fn store_guarded(s: &[u8], f: &[u64], h: &[u64], a: u8, b: u8, c: u8) -> Stored
-    ensures { λ r. ⌜ StoredOk (now (h .entry)) r ⌝ }
-    ensures { λ r. ⌜ ((v : View watched) → Sees watched (qualOf (now (s .entry))) v (now (f .entry)) (now (h .entry)) → stored watched (qualOf (now (s .entry))) r ≡ plan watched (programOf (now (s .entry))) v (Op.Store a b c)) ⌝ }
+pub fn store_guarded(index: &Index, f: &[u64], h: &[u64], a: u8, b: u8, c: u8) -> Stored
+    ensures { λ r. ⌜ ((s : List ℕ) (pr : ℕ) → Ready s (now (index .entry)) → PlansStored s pr (now (f .entry)) (now (h .entry)) (Op.Store a b c) r) ⌝ }
 {
     match element_spot(f, h, a, b, 2) {
         Spot::At(o, i) => {
             let element = kind_in(read(h, o as usize));
-            stored_at(o, i, bind_word(s, h, element, read(f, c as usize)))
+            stored_at(o, i, bind_word(index, h, element, read(f, c as usize)))
         }
         Spot::Halt(k) => Stored::Halt(k),
     }
 }
 
-pub fn size_guarded(s: &[u8], pr: u32, f: &[u64], h: &[u64], a: u8, b: u8) -> Number
-    ensures { λ r. ⌜ ((v : View watched) → procedureAt (now (s .entry)) (v .procedure) ≡ pr → Sees watched (qualOf (now (s .entry))) v (now (f .entry)) (now (h .entry)) → given watched a r ≡ plan watched (programOf (now (s .entry))) v (Op.Size a b)) ⌝ }
+pub fn size_guarded(s: &[u8], index: &Index, pr: u32, f: &[u64], h: &[u64], a: u8, b: u8) -> Number
+    requires { ⌜ Ready (now s) (now index) ⌝ }
+    ensures { λ r. ⌜ PlansNumber (now (s .entry)) pr (now (f .entry)) (now (h .entry)) (Op.Size a b) a r ⌝ }
 {
     let Cell::Filled(x) = cell_of(read(f, b as usize)) else {
         return Number::Halt(13);
@@ -239,7 +254,7 @@ pub fn size_guarded(s: &[u8], pr: u32, f: &[u64], h: &[u64], a: u8, b: u8) -> Nu
     let head = read(h, name_of(x) as usize);
     if (tag_of(x) == 2) & (tag_of(head) == 3) {
         if has_right(3, low_of(x)) {
-            return give(s, pr, a, size_of(head));
+            return give(s, index, pr, a, size_of(head));
         }
         return Number::Halt(19);
     }
@@ -248,8 +263,7 @@ pub fn size_guarded(s: &[u8], pr: u32, f: &[u64], h: &[u64], a: u8, b: u8) -> Nu
 
 // Slot k of the record of a filled cell, of type t: kind, open, size.
 fn open_slot(h: &[u64], x: u64, t: u8, k: u16) -> Spot
-    ensures { λ r. ⌜ SpotOk (now (h .entry)) r ⌝ }
-    ensures { λ r. ⌜ ((q : ℕ → Qual) (g : Program) (v : View watched) (z : Value) (m : ℕ) → ((a : ℕ) → heads-in watched q (now (h .entry)) a ≡ v .head a) → slot-in watched q x ≡ cell (filled z m) → slot-as r ≡ slot-of g v t k z m) ⌝ }
+    ensures { λ r. ⌜ FindsOpened (now (h .entry)) x t k r ⌝ }
 {
     let o = name_of(x);
     let head = read(h, o as usize);
@@ -267,8 +281,7 @@ fn open_slot(h: &[u64], x: u64, t: u8, k: u16) -> Spot
 
 // Slot k of the record in variable b.
 fn slot_spot(f: &[u64], h: &[u64], t: u8, b: u8, k: u16) -> Spot
-    ensures { λ r. ⌜ SpotOk (now (h .entry)) r ⌝ }
-    ensures { λ r. ⌜ ((q : ℕ → Qual) (g : Program) (v : View watched) → Sees watched q v (now (f .entry)) (now (h .entry)) → slot-as r ≡ slot-at g v t k b) ⌝ }
+    ensures { λ r. ⌜ FindsSlot (now (f .entry)) (now (h .entry)) t b k r ⌝ }
 {
     let Cell::Filled(x) = cell_of(read(f, b as usize)) else {
         return Spot::Halt(13);
@@ -276,68 +289,90 @@ fn slot_spot(f: &[u64], h: &[u64], t: u8, b: u8, k: u16) -> Spot
     open_slot(h, x, t, k)
 }
 
-pub fn get_guarded(s: &[u8], pr: u32, f: &[u64], h: &[u64], a: u8, b: u8, k: u16) -> Moved
-    ensures { λ r. ⌜ MovedOk r ⌝ }
-    ensures { λ r. ⌜ ((v : View watched) → procedureAt (now (s .entry)) (v .procedure) ≡ pr → Sees watched (qualOf (now (s .entry))) v (now (f .entry)) (now (h .entry)) → moved-to watched (qualOf (now (s .entry))) a r ≡ plan watched (programOf (now (s .entry))) v (Op.GetSlot a b k)) ⌝ }
+pub fn get_guarded(
+    s: &[u8],
+    index: &Index,
+    pr: u32,
+    f: &[u64],
+    h: &[u64],
+    a: u8,
+    b: u8,
+    k: u16,
+) -> Moved
+    requires { ⌜ Ready (now s) (now index) ⌝ }
+    ensures { λ r. ⌜ PlansMoved (now (s .entry)) pr (now (f .entry)) (now (h .entry)) (Op.GetSlot a b k) a r ⌝ }
 {
-    match slot_spot(f, h, byte(s, pr as usize, 2), b, k) {
+    match slot_spot(f, h, field(s, pr, 2), b, k) {
         Spot::At(o, i) => {
             let w = read(h, (o as usize) + 1 + (i as usize));
-            bind_word(s, h, inner_of(s, pr, a), w)
+            bind_word(index, h, inner_of(s, pr, a), w)
         }
         Spot::Halt(n) => Moved::Halt(n),
     }
 }
 
-pub fn set_slot_guarded(s: &[u8], pr: u32, f: &[u64], h: &[u64], a: u8, b: u8, k: u16) -> Stored
-    ensures { λ r. ⌜ StoredOk (now (h .entry)) r ⌝ }
-    ensures { λ r. ⌜ ((v : View watched) → procedureAt (now (s .entry)) (v .procedure) ≡ pr → Sees watched (qualOf (now (s .entry))) v (now (f .entry)) (now (h .entry)) → stored watched (qualOf (now (s .entry))) r ≡ plan watched (programOf (now (s .entry))) v (Op.SetSlot a b k)) ⌝ }
+pub fn set_slot_guarded(
+    s: &[u8],
+    index: &Index,
+    pr: u32,
+    f: &[u64],
+    h: &[u64],
+    a: u8,
+    b: u8,
+    k: u16,
+) -> Stored
+    requires { ⌜ Ready (now s) (now index) ⌝ }
+    ensures { λ r. ⌜ PlansStored (now (s .entry)) pr (now (f .entry)) (now (h .entry)) (Op.SetSlot a b k) r ⌝ }
 {
-    let owner = byte(s, pr as usize, 2);
+    let owner = field(s, pr, 2);
     match slot_spot(f, h, owner, a, k) {
         Spot::At(o, i) => stored_at(
             o,
             i,
-            bind_word(s, h, slot_of(s, owner, k), read(f, b as usize)),
+            bind_word(index, h, slot_of(s, owner, k), read(f, b as usize)),
         ),
         Spot::Halt(n) => Stored::Halt(n),
     }
 }
 
 // The size of a new array for variable a, from variable b, before the room for it is tested.
-pub fn sized(s: &[u8], pr: u32, f: &[u64], a: u8, b: u8) -> Number
+pub fn sized(s: &[u8], index: &Index, pr: u32, f: &[u64], a: u8, b: u8) -> Number
+    requires { ⌜ Ready (now s) (now index) ⌝ }
     ensures { λ r. ⌜ ((g : Program) (v : View watched) (h : List ℕ) → Sees watched (qualOf (now (s .entry))) v (now (f .entry)) h → number-as watched r ≡ size-for g v (innerIn (now (s .entry)) pr a) b) ⌝ }
 {
     let n = integer_in(f, b);
     let Number::Is(_) = n else {
         return n;
     };
-    if is_array(s, inner_of(s, pr, a)) {
+    if is_array(index, inner_of(s, pr, a)) {
         return n;
     }
     Number::Halt(18)
 }
 
 // The number of the element, and the rights, of the declared type of variable a.
-pub fn declared_element(s: &[u8], pr: u32, a: u8) -> u8
+pub fn declared_element(s: &[u8], index: &Index, pr: u32, a: u8) -> u8
+    requires { ⌜ Ready (now s) (now index) ⌝ }
     ensures { λ r. ⌜ qualOf (now (s .entry)) r ≡ element (innerIn (now (s .entry)) pr a) ⌝ }
 {
-    element_of(s, inner_of(s, pr, a))
+    element_of(index, inner_of(s, pr, a))
 }
 
-pub fn declared_rights(s: &[u8], pr: u32, a: u8) -> u32
+pub fn declared_rights(s: &[u8], index: &Index, pr: u32, a: u8) -> u32
+    requires { ⌜ Ready (now s) (now index) ⌝ }
     ensures { λ r. ⌜ r ≡ rights (innerIn (now (s .entry)) pr a) ⌝ }
 {
-    rights_of(s, inner_of(s, pr, a))
+    rights_of(index, inner_of(s, pr, a))
 }
 
 // A new array with all its rights, bound to variable a: 0, or the number of the stop.
-pub fn array_made_as(s: &[u8], pr: u32, a: u8) -> u8
-    ensures { λ r. ⌜ made (innerIn (now (s .entry)) pr a) r ≡ bind watched (innerIn (now (s .entry)) pr a) (array-kind (element (innerIn (now (s .entry)) pr a))) array-rights ⌝ }
+pub fn array_made_as(s: &[u8], index: &Index, pr: u32, a: u8) -> u8
+    requires { ⌜ Ready (now s) (now index) ⌝ }
+    ensures { λ r. ⌜ MakesArray (innerIn (now (s .entry)) pr a) r ⌝ }
 {
     let q = inner_of(s, pr, a);
-    if is_array(s, q) {
-        if is_within(rights_of(s, q), 14) {
+    if is_array(index, q) {
+        if is_within(rights_of(index, q), 14) {
             return 0;
         }
         return 19;
@@ -346,13 +381,14 @@ pub fn array_made_as(s: &[u8], pr: u32, a: u8) -> u8
 }
 
 // A new record of the owner's type with all its rights, bound to variable a: 0, or the number of the stop.
-pub fn record_made_as(s: &[u8], pr: u32, a: u8) -> u8
-    ensures { λ r. ⌜ made (innerIn (now (s .entry)) pr a) r ≡ bind watched (innerIn (now (s .entry)) pr a) (record-kind (ownerAt (now (s .entry)) pr)) (record-rights (namedOf (now (s .entry)) (ownerAt (now (s .entry)) pr))) ⌝ }
+pub fn record_made_as(s: &[u8], index: &Index, pr: u32, a: u8) -> u8
+    requires { ⌜ Ready (now s) (now index) ⌝ }
+    ensures { λ r. ⌜ MakesRecord (now (s .entry)) (innerIn (now (s .entry)) pr a) (ownerAt (now (s .entry)) pr) r ⌝ }
 {
     let q = inner_of(s, pr, a);
-    let owner = byte(s, pr as usize, 2);
-    if kind_fits(s, q, Kind::Record(owner)) {
-        if has_none_above(byte(s, type_at(owner), 2), rights_of(s, q)) {
+    let owner = field(s, pr, 2);
+    if is_owned(index, owner, q) {
+        if has_none_above(byte(s, type_at(owner), 2), rights_of(index, q)) {
             return 0;
         }
         return 19;

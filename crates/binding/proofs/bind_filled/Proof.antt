@@ -1,70 +1,150 @@
--- The two tests are those of the definition; where both hold, the cell of the new word carries the declared rights.
+-- An integer is of base 0; an object is tested by its head, and gets the rights in the type's word.
+use native.Mathlib.Omega.{arith}
+use mathlib.Core.Path.{sym, ap, _∙_}
 use borrow.Author.Needs.{needs}
-use Rattle.binding.proofs.Laws.{fits-seen, within-seen, bind-to, bind-without, bind-misfit}
+use Rattle.model.specs.Modes.{watched}
+use Rattle.index.specs.Types.{base-of, rights-of, qualIn}
+use Rattle.words.specs.Word.{payload}
+use Rattle.words.proofs.Laws.{slot-integer}
+use Rattle.binding.proofs.Laws.{bind-integer, bind-no-integer, object-misfits, object-without, object-bound}
 use Rattle.binding.proofs.bind_filled.Statement.{statement}
 use Rattle.binding.proofs.bind_filled.Tie as tie
 
-rights-of-requires : tie.Need-rights-of-requires
-rights-of-requires c κs = search needs
+type-word-requires : tie.Need-type-word-requires
+type-word-requires c κs = search needs
 
-kind-of-requires : tie.Need-kind-of-requires
-kind-of-requires c κs = search needs
+tag-of-requires : tie.Need-tag-of-requires
+tag-of-requires c κs = search needs
 
-kind-fits-requires : tie.Need-kind-fits-requires
-kind-fits-requires c κs = search needs
+base-in-requires : tie.Need-base-in-requires
+base-in-requires c κs = search needs
 
-carried-requires : tie.Need-carried-requires
-carried-requires c κs = search needs
+returns : tie.Need-returns
+returns c =
+    let tag-of = c .before .before .before .tag-of in
+    let first-test = c .before .before .if1 in
+    let args = c .before .before .before .before .before .before .args in
+    let base-in = c .before .base-in in
+    let type-word = c .before .before .before .before .type-word in
+    let second-test = c .if2 in
+    record {
+      fine = λ k q. rw (slot-integer k q _ (sym (tag-of .ensures) ∙ first-test .taken));
+      moves = λ g v x m heads e. bind-integer (args .index .now) (args .h .now) _ _ g v x m heads e (sym (tag-of .ensures) ∙ first-test .taken) (sym (base-in .ensures ∙ ap base-of (type-word .ensures)) ∙ second-test .taken);
+    }
+
+returns-2 : tie.Need-returns-2
+returns-2 c =
+    let args = c .before .before .before .before .before .before .args in
+    let tag-of = c .before .before .before .tag-of in
+    let first-test = c .before .before .if1 in
+    let second-test = c .if2 in
+    let base-in = c .before .base-in in
+    let type-word = c .before .before .before .before .type-word in
+    record {
+      fine = tt;
+      moves = λ g v x m heads e. bind-no-integer (args .index .now) (args .h .now) _ _ g v x m heads e (sym (tag-of .ensures) ∙ first-test .taken) (λ z. second-test .left (base-in .ensures ∙ ap base-of (type-word .ensures) ∙ z));
+    }
+
+name-of-requires : tie.Need-name-of-requires
+name-of-requires c κs = search needs
+
+cast-read : tie.Need-cast-read
+cast-read c = search needs
+
+read-requires : tie.Need-read-requires
+read-requires c κs = search needs
+
+object-fits-requires : tie.Need-object-fits-requires
+object-fits-requires c κs = search needs
+
+rights-in-requires : tie.Need-rights-in-requires
+rights-in-requires c κs = search needs
+
+low-of-requires : tie.Need-low-of-requires
+low-of-requires c κs = search needs
 
 is-within-requires : tie.Need-is-within-requires
 is-within-requires c κs = search needs
 
-with-rights-requires : tie.Need-with-rights-requires
-with-rights-requires c κs = search needs
+name-of-requires-2 : tie.Need-name-of-requires-2
+name-of-requires-2 c κs = search needs
 
-returns : tie.Need-returns
-returns c =
-    let with-rights = c .with-rights in
-    let args = c .before .before .before .before .before .before .before .before .before .before .args in
-    let kind-of = c .before .before .before .before .before .before .kind-of in
-    let kind-fits = c .before .before .before .before .before .kind-fits in
-    let first-test = c .before .before .before .before .if1 in
-    let is-within = c .before .before .is-within in
-    let rights-of = c .before .before .before .before .before .before .before .rights-of in
-    let carried = c .before .before .before .carried in
-    let second-test = c .before .if2 in
-    (with-rights .ensures .0, λ g v x m hd e. bind-to _ g v _ x m _ _ (fits-seen (args .s .now) (args .h .now) v _ x hd (kind-of .ensures _ x m e) (kind-fits .ensures) (first-test .taken)) (within-seen _ (is-within .ensures) (rights-of .ensures) (carried .ensures _ x m e) (second-test .taken)) (rights-of .ensures) (with-rights .ensures .1 _ x m e))
-
-returns-2 : tie.Need-returns-2
-returns-2 c =
-    let args = c .before .before .before .before .before .before .before .before .before .args in
-    let kind-of = c .before .before .before .before .before .kind-of in
-    let kind-fits = c .before .before .before .before .kind-fits in
-    let first-test = c .before .before .before .if1 in
-    let is-within = c .before .is-within in
-    let rights-of = c .before .before .before .before .before .before .rights-of in
-    let carried = c .before .before .carried in
-    let second-test = c .if2 in
-    (tt, λ g v x m hd e. bind-without _ g v _ x m (fits-seen (args .s .now) (args .h .now) v _ x hd (kind-of .ensures _ x m e) (kind-fits .ensures) (first-test .taken)) (within-seen _ (is-within .ensures) (rights-of .ensures) (carried .ensures _ x m e) (second-test .left)))
+object-word-requires : tie.Need-object-word-requires
+unfolding payload
+object-word-requires c κs = rw (c .name-of2 .ensures) (omega arith)
 
 returns-3 : tie.Need-returns-3
 returns-3 c =
-    let args = c .before .before .before .before .before .before .args in
-    let kind-of = c .before .before .kind-of in
-    let kind-fits = c .before .kind-fits in
-    let first-test = c .if1 in
-    (tt, λ g v x m hd e. bind-misfit _ g v _ x m (fits-seen (args .s .now) (args .h .now) v _ x hd (kind-of .ensures _ x m e) (kind-fits .ensures) (first-test .left)))
+    let object-word = c .object-word in
+    let args = c .before .before .before .before .before .before .before .before .before .before .before .before .before .before .args in
+    let first-test = c .before .before .before .before .before .before .before .before .before .before .if1 in
+    let tag-of = c .before .before .before .before .before .before .before .before .before .before .before .tag-of in
+    let name-of = c .before .before .before .before .before .before .before .before .before .name-of in
+    let read = c .before .before .before .before .before .before .before .before .read in
+    let object-fits = c .before .before .before .before .before .before .before .object-fits in
+    let third-test = c .before .before .before .before .before .before .if3 in
+    let rights-in = c .before .before .before .before .before .rights-in in
+    let type-word = c .before .before .before .before .before .before .before .before .before .before .before .before .type-word in
+    let low-of = c .before .before .before .before .low-of in
+    let is-within = c .before .before .before .is-within in
+    let fourth-test = c .before .before .if4 in
+    let name-of2 = c .before .name-of2 in
+    record {
+      fine = λ k q. rw (object-word .ensures k q);
+      moves = λ g v x m heads e. object-bound (args .index .now) (args .h .now) _ _ g v x m heads e (λ z. first-test .left (tag-of .ensures ∙ z)) (name-of .ensures) (read .ensures) (object-fits .ensures) (third-test .taken) (rights-in .ensures ∙ ap rights-of (type-word .ensures)) (low-of .ensures) (is-within .ensures) _ (fourth-test .taken) (name-of2 .ensures) (object-word .ensures watched (qualIn (args .index .now)));
+    }
+
+returns-4 : tie.Need-returns-4
+returns-4 c =
+    let args = c .before .before .before .before .before .before .before .before .before .before .before .before .args in
+    let first-test = c .before .before .before .before .before .before .before .before .if1 in
+    let tag-of = c .before .before .before .before .before .before .before .before .before .tag-of in
+    let name-of = c .before .before .before .before .before .before .before .name-of in
+    let read = c .before .before .before .before .before .before .read in
+    let object-fits = c .before .before .before .before .before .object-fits in
+    let third-test = c .before .before .before .before .if3 in
+    let rights-in = c .before .before .before .rights-in in
+    let type-word = c .before .before .before .before .before .before .before .before .before .before .type-word in
+    let low-of = c .before .before .low-of in
+    let is-within = c .before .is-within in
+    let fourth-test = c .if4 in
+    record {
+      fine = tt;
+      moves = λ g v x m heads e. object-without (args .index .now) (args .h .now) _ _ g v x m heads e (λ z. first-test .left (tag-of .ensures ∙ z)) (name-of .ensures) (read .ensures) (object-fits .ensures) (third-test .taken) (rights-in .ensures ∙ ap rights-of (type-word .ensures)) (low-of .ensures) (is-within .ensures) (fourth-test .left);
+    }
+
+returns-5 : tie.Need-returns-5
+returns-5 c =
+    let args = c .before .before .before .before .before .before .before .before .args in
+    let first-test = c .before .before .before .before .if1 in
+    let tag-of = c .before .before .before .before .before .tag-of in
+    let name-of = c .before .before .before .name-of in
+    let read = c .before .before .read in
+    let object-fits = c .before .object-fits in
+    let third-test = c .if3 in
+    record {
+      fine = tt;
+      moves = λ g v x m heads e. object-misfits (args .index .now) (args .h .now) _ _ g v x m heads e (λ z. first-test .left (tag-of .ensures ∙ z)) (name-of .ensures) (read .ensures) (object-fits .ensures) (third-test .left);
+    }
 
 pub bind-filled-spec : {M : Type 1} → statement M
 bind-filled-spec =
     tie.close
     (tie.spec
-    rights-of-requires
-    kind-of-requires
-    kind-fits-requires
-    carried-requires
-    is-within-requires
-    with-rights-requires
+    type-word-requires
+    tag-of-requires
+    base-in-requires
     returns
     returns-2
-    returns-3)
+    name-of-requires
+    cast-read
+    read-requires
+    object-fits-requires
+    rights-in-requires
+    low-of-requires
+    is-within-requires
+    name-of-requires-2
+    object-word-requires
+    returns-3
+    returns-4
+    returns-5)

@@ -16,7 +16,10 @@ enum-told c = search needs
 
 returns : tie.Need-returns
 returns c =
-    (tt, λ g v d heads e. bind-blank _ g v _ (told-blank (c .before .before .cell-of .ensures) (c .enum-told .given .1)) e)
+    record {
+      fine = tt;
+      moves = λ g v d heads e. bind-blank _ g v _ (told-blank (c .before .before .cell-of .ensures) (c .enum-told .given .1)) e;
+    }
 
 bind-filled-requires : tie.Need-bind-filled-requires
 bind-filled-requires c κs = search needs
@@ -25,8 +28,11 @@ returns-2 : tie.Need-returns-2
 returns-2 c =
     let bind-filled = c .bind-filled in
     let cell-of = c .before .before .before .before .cell-of in
-    let x = c .before .before .x in
-    (bind-filled .ensures .0, λ g v d heads e. bind-value _ g v _ _ (told-filled (cell-of .ensures) (x .given .1)) e (λ y m. bind-filled .ensures .1 g v y m heads))
+    let known = c .before .before .x in
+    record {
+      fine = bind-filled .ensures .fine;
+      moves = λ g v d heads e. bind-value _ g v _ _ (told-filled (cell-of .ensures) (known .given .1)) e (λ y m. bind-filled .ensures .moves g v y m heads);
+    }
 
 pub bind-word-spec : {M : Type 1} → statement M
 bind-word-spec =

@@ -1,39 +1,45 @@
--- In each case the code is the definition.
+-- The tests of the two tags leave the definition's two.
 use borrow.Author.Needs.{needs}
-use Rattle.model.specs.Modes.{is-record-of}
-use Rattle.binding.specs.Kinds.{kind-as}
+use Rattle.binding.proofs.Laws.{own-record}
 use Rattle.binding.proofs.is_record_of.Statement.{statement}
 use Rattle.binding.proofs.is_record_of.Tie as tie
 
-enum-told : tie.Need-enum-told
-enum-told c = search needs
+name-of-requires : tie.Need-name-of-requires
+name-of-requires c κs = search needs
 
-enum-told-2 : tie.Need-enum-told-2
-enum-told-2 c = search needs
+cast-read : tie.Need-cast-read
+cast-read c = search needs
 
-enum-known-k : tie.Need-enum-known-k
-enum-known-k c = search needs
+read-requires : tie.Need-read-requires
+read-requires c κs = search needs
 
-enum-told-3 : tie.Need-enum-told-3
-enum-told-3 c = search needs
+tag-of-requires : tie.Need-tag-of-requires
+tag-of-requires c κs = search needs
+
+tag-of-requires-2 : tie.Need-tag-of-requires-2
+tag-of-requires-2 c κs = search needs
+
+kind-in-requires : tie.Need-kind-in-requires
+kind-in-requires c κs = search needs
 
 returns : tie.Need-returns
-unfolding is-record-of kind-as
-returns c = λ q. rw (c .enum-told .given .1)
-
-returns-2 : tie.Need-returns-2
-unfolding is-record-of kind-as
-returns-2 c = λ q. rw (c .enum-told2 .given .1)
-
-returns-3 : tie.Need-returns-3
-unfolding is-record-of kind-as
-returns-3 c = λ q. rw (c .before .k .given .1)
-
-returns-4 : tie.Need-returns-4
-unfolding is-record-of kind-as
-returns-4 c = λ q. rw (c .enum-told3 .given .1)
+returns c =
+    let args = c .before .before .before .before .before .before .args in
+    let name-of = c .before .before .before .before .name-of in
+    let read = c .before .before .before .read in
+    let tag-of = c .before .before .tag-of in
+    let tag-of2 = c .before .tag-of2 in
+    let kind-in = c .kind-in in
+    λ q x m e. own-record q (args .h .now) _ _ e (name-of .ensures) (read .ensures) (tag-of .ensures) (tag-of2 .ensures) (kind-in .ensures)
 
 pub is-record-of-spec : {M : Type 1} → statement M
 is-record-of-spec =
     tie.close
-    (tie.spec enum-told enum-told-2 enum-known-k enum-told-3 returns returns-2 returns-3 returns-4)
+    (tie.spec
+    name-of-requires
+    cast-read
+    read-requires
+    tag-of-requires
+    tag-of-requires-2
+    kind-in-requires
+    returns)

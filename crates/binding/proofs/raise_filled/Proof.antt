@@ -1,13 +1,14 @@
--- The test is that of the definition: inner's rights, or what `bind_filled` ensures.
-use mathlib.Core.Path.{sym, _∙_}
+-- The test is that of the definition: inner's rights, or what `bind_filled` ensures of any program.
+use native.Mathlib.Omega.{arith}
+use mathlib.Core.List.{[]}
 use borrow.Author.Needs.{needs}
-use Rattle.sheet.specs.Meaning.{qualOf, programOf}
-use Rattle.binding.proofs.Laws.{own-seen, raise-to, raised-bound}
+use Rattle.model.specs.Modes.{watched}
+use Rattle.sheet.specs.Meaning.{programOf}
+use Rattle.index.specs.Types.{qualIn}
+use Rattle.words.specs.Word.{payload}
+use Rattle.binding.proofs.Laws.{raise-own, raise-bound}
 use Rattle.binding.proofs.raise_filled.Statement.{statement}
 use Rattle.binding.proofs.raise_filled.Tie as tie
-
-kind-of-requires : tie.Need-kind-of-requires
-kind-of-requires c κs = search needs
 
 is-record-of-requires : tie.Need-is-record-of-requires
 is-record-of-requires c κs = search needs
@@ -15,22 +16,29 @@ is-record-of-requires c κs = search needs
 base-of-requires : tie.Need-base-of-requires
 base-of-requires c κs = search needs
 
+name-of-requires : tie.Need-name-of-requires
+name-of-requires c κs = search needs
+
 rights-of-requires : tie.Need-rights-of-requires
 rights-of-requires c κs = search needs
 
-with-rights-requires : tie.Need-with-rights-requires
-with-rights-requires c κs = search needs
+object-word-requires : tie.Need-object-word-requires
+unfolding payload
+object-word-requires c κs = rw (c .before .name-of .ensures) (omega arith)
 
 returns : tie.Need-returns
 returns c =
-    let with-rights = c .with-rights in
-    let args = c .before .before .before .before .before .before .before .before .args in
-    let kind-of = c .before .before .before .before .before .kind-of in
-    let is-record-of = c .before .before .before .before .is-record-of in
-    let base-of = c .before .before .before .base-of in
-    let first-test = c .before .before .if1 in
+    let object-word = c .object-word in
+    let args = c .before .before .before .before .before .before .before .args in
+    let is-record-of = c .before .before .before .before .before .is-record-of in
+    let base-of = c .before .before .before .before .base-of in
+    let first-test = c .before .before .before .if1 in
+    let name-of = c .before .before .name-of in
     let rights-of = c .before .rights-of in
-    (with-rights .ensures .0, λ v x m heads e. raise-to _ v _ _ x m _ _ (own-seen (args .s .now) (args .h .now) v _ _ x heads (kind-of .ensures _ x m e) (is-record-of .ensures (qualOf (args .s .now))) (base-of .ensures) (first-test .taken)) (rights-of .ensures) (with-rights .ensures .1 _ x m e))
+    record {
+      fine = λ k q. rw (object-word .ensures k q);
+      moves = λ v x m heads e. raise-own (qualIn (args .index .now)) (args .h .now) v _ _ _ x m heads (is-record-of .ensures _ x m e) (base-of .ensures) _ (first-test .taken) e (name-of .ensures) (rights-of .ensures) (object-word .ensures watched (qualIn (args .index .now)));
+    }
 
 bind-filled-requires : tie.Need-bind-filled-requires
 bind-filled-requires c κs = search needs
@@ -38,22 +46,24 @@ bind-filled-requires c κs = search needs
 returns-2 : tie.Need-returns-2
 returns-2 c =
     let bind-filled = c .bind-filled in
-    let args = c .before .before .before .before .before .before .before .args in
-    let kind-of = c .before .before .before .before .kind-of in
+    let args = c .before .before .before .before .before .args in
     let is-record-of = c .before .before .before .is-record-of in
     let base-of = c .before .before .base-of in
     let first-test = c .before .if1 in
-    (bind-filled .ensures .0, λ v x m heads e. bind-filled .ensures .1 (programOf (args .s .now)) v x m heads e ∙ sym (raised-bound _ _ x m _ v (own-seen (args .s .now) (args .h .now) v _ _ x heads (kind-of .ensures _ x m e) (is-record-of .ensures (qualOf (args .s .now))) (base-of .ensures) (first-test .left))))
+    record {
+      fine = bind-filled .ensures .fine;
+      moves = λ v x m heads e. raise-bound (qualIn (args .index .now)) (args .h .now) v _ (args .w) _ x m heads (is-record-of .ensures _ x m e) (base-of .ensures) (programOf []) _ (first-test .left) (bind-filled .ensures .moves (programOf []) v x m heads e);
+    }
 
 pub raise-filled-spec : {M : Type 1} → statement M
 raise-filled-spec =
     tie.close
     (tie.spec
-    kind-of-requires
     is-record-of-requires
     base-of-requires
+    name-of-requires
     rights-of-requires
-    with-rights-requires
+    object-word-requires
     returns
     bind-filled-requires
     returns-2)

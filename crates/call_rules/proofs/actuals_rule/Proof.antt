@@ -16,13 +16,13 @@ abbrev actual : List ℕ → (pr to b j : ℕ) → List Test
 actual s pr to b j = moves (innerIn s pr (b + j)) (needIn s to j)
 
 abbrev Inv-loop : tie.InvT-loop
-Inv-loop s pr to b f j₀ j = Testing (actual s pr to b) (formalsAt s to) j
+Inv-loop s index pr to b f j₀ j = Testing (actual s pr to b) (formalsAt s to) j
 
 abbrev μ-loop : tie.MeasureT-loop
-μ-loop s pr to b f j₀ j = f - j
+μ-loop s index pr to b f j₀ j = f - j
 
-byte-requires : tie.Need-byte-requires Inv-loop μ-loop
-byte-requires c κs = search needs
+field-requires : tie.Need-field-requires Inv-loop μ-loop
+field-requires c κs = search needs
 
 loop-holds : tie.Need-loop-holds Inv-loop μ-loop
 loop-holds c = test-start _ _
@@ -58,7 +58,7 @@ actuals-rule-spec =
     (tie.spec
     Inv-loop
     μ-loop
-    byte-requires
+    field-requires
     loop-holds
     actual-rule-requires
     returns

@@ -6,14 +6,14 @@ use Rattle.call_rules.proofs.Laws.{keeps-tests}
 use Rattle.call_rules.proofs.keeps_result.Statement.{statement}
 use Rattle.call_rules.proofs.keeps_result.Tie as tie
 
-byte-requires : tie.Need-byte-requires
-byte-requires c κs = search needs
+field-requires : tie.Need-field-requires
+field-requires c κs = search needs
 
 returns : tie.Need-returns
 unfolding resultAt
 returns c =
     let a = c .before .before .args in
-    rw (c .byte .ensures) (keeps-tests (innerIn (a .s .now) (a .pr)) (a .s .now) (a .to) (a .a))
+    rw (c .field .ensures) (keeps-tests (innerIn (a .s .now) (a .pr)) (a .s .now) (a .to) (a .a))
 
 pub keeps-result-spec : {M : Type 1} → statement M
-keeps-result-spec = tie.close (tie.spec byte-requires returns)
+keeps-result-spec = tie.close (tie.spec field-requires returns)

@@ -8,8 +8,8 @@ use Rattle.sheet.specs.Meaning.{innerIn, resultIn}
 use Rattle.call_rules.proofs.kept_result_rule.Statement.{statement}
 use Rattle.call_rules.proofs.kept_result_rule.Tie as tie
 
-byte-requires : tie.Need-byte-requires
-byte-requires c κs = search needs
+field-requires : tie.Need-field-requires
+field-requires c κs = search needs
 
 returns : tie.Need-returns
 unfolding failure kept-rule optional-variable optional
@@ -17,7 +17,7 @@ returns c = rw (eq-eqb _ _ (c .if1 .taken))
 
 returns-2 : tie.Need-returns-2
 unfolding failure kept-rule optional-variable optional resultIn resultAt
-returns-2 c = rw (← c .before .before .byte .ensures, ne-eqb _ _ (c .before .if1 .left), eq-eqb _ _ (c .if2 .taken))
+returns-2 c = rw (← c .before .before .field .ensures, ne-eqb _ _ (c .before .if1 .left), eq-eqb _ _ (c .if2 .taken))
 
 inner-of-requires : tie.Need-inner-of-requires
 inner-of-requires c κs = search needs
@@ -29,9 +29,10 @@ returns-3 : tie.Need-returns-3
 unfolding kept-rule optional-variable optional resultIn resultAt innerIn
 returns-3 c =
     let d = c .before .before in
-    rw (c .movement .ensures, c .before .inner-of .ensures, ← d .before .before .byte .ensures, ne-eqb _ _ (d .before .if1 .left), ne-eqb _ _ (d .if2 .left))
+    let types = d .before .before .before .before .pre .types in
+    rw (c .movement .ensures, c .before .inner-of .ensures, types _, types _, ← d .before .before .field .ensures, ne-eqb _ _ (d .before .if1 .left), ne-eqb _ _ (d .if2 .left))
 
 pub kept-result-rule-spec : {M : Type 1} → statement M
 kept-result-rule-spec =
     tie.close
-    (tie.spec byte-requires returns returns-2 inner-of-requires movement-requires returns-3)
+    (tie.spec field-requires returns returns-2 inner-of-requires movement-requires returns-3)

@@ -8,20 +8,20 @@ use Rattle.sheet.specs.Meaning.{innerIn, resultIn}
 use Rattle.call_rules.proofs.return_rule.Statement.{statement}
 use Rattle.call_rules.proofs.return_rule.Tie as tie
 
-byte-requires : tie.Need-byte-requires
-byte-requires c κs = search needs
+field-requires : tie.Need-field-requires
+field-requires c κs = search needs
 
 returns : tie.Need-returns
 unfolding failure return-rule optional-variable optional resultIn resultAt
-returns c = rw (← c .before .before .byte .ensures, eq-eqb _ _ (c .before .if1 .taken), eq-eqb _ _ (c .if2 .taken))
+returns c = rw (← c .before .before .field .ensures, eq-eqb _ _ (c .before .if1 .taken), eq-eqb _ _ (c .if2 .taken))
 
 returns-2 : tie.Need-returns-2
 unfolding failure return-rule optional-variable optional resultIn resultAt
-returns-2 c = rw (← c .before .before .byte .ensures, eq-eqb _ _ (c .before .if1 .taken), ne-eqb _ _ (c .if2 .left))
+returns-2 c = rw (← c .before .before .field .ensures, eq-eqb _ _ (c .before .if1 .taken), ne-eqb _ _ (c .if2 .left))
 
 returns-3 : tie.Need-returns-3
 unfolding failure return-rule optional-variable optional resultIn resultAt
-returns-3 c = rw (← c .before .before .byte .ensures, ne-eqb _ _ (c .before .if1 .left), eq-eqb _ _ (c .if3 .taken))
+returns-3 c = rw (← c .before .before .field .ensures, ne-eqb _ _ (c .before .if1 .left), eq-eqb _ _ (c .if3 .taken))
 
 inner-of-requires : tie.Need-inner-of-requires
 inner-of-requires c κs = search needs
@@ -33,13 +33,14 @@ returns-4 : tie.Need-returns-4
 unfolding return-rule optional-variable optional resultIn resultAt innerIn
 returns-4 c =
     let d = c .before .before in
-    rw (c .movement .ensures, c .before .inner-of .ensures, ← d .before .before .byte .ensures, ne-eqb _ _ (d .before .if1 .left), ne-eqb _ _ (d .if3 .left))
+    let types = d .before .before .before .before .pre .types in
+    rw (c .movement .ensures, c .before .inner-of .ensures, types _, types _, ← d .before .before .field .ensures, ne-eqb _ _ (d .before .if1 .left), ne-eqb _ _ (d .if3 .left))
 
 pub return-rule-spec : {M : Type 1} → statement M
 return-rule-spec =
     tie.close
     (tie.spec
-    byte-requires
+    field-requires
     returns
     returns-2
     returns-3

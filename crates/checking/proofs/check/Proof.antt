@@ -4,7 +4,7 @@ use borrow.Author.Needs.{needs}
 use Rattle.model.specs.Refusal.{verdict}
 use Rattle.model.specs.Rules.{access-rules}
 use Rattle.model.specs.declared.Verdict.the-variants.{Accepted}
-use Rattle.sheet.specs.Meaning.{programOf}
+use Rattle.sheet.specs.Meaning.{programOf, placeOf}
 use Rattle.form.specs.WellFormed.{form-tests}
 use Rattle.model.proofs.Verdicts.{stop-here, go-on}
 use Rattle.form.proofs.WellFormed.{form-small, callee-below}
@@ -30,7 +30,7 @@ unfolding check check-tests
 returns c =
     let w = c .before .before in
     let s = w .before .before .before .before .args .s .now in
-    stop-here (form-tests s) (access-rules (programOf s)) _ _ _ (w .well-formed .ensures) (c .enum-told2 .given .1)
+    stop-here (form-tests s) (access-rules (placeOf s) (programOf s)) _ _ _ (w .well-formed .ensures) (c .enum-told2 .given .1)
 
 access-requires : tie.Need-access-requires
 unfolding CalleesAt
@@ -45,7 +45,7 @@ unfolding check check-tests
 returns-2 c =
     let w = c .before .before .before .before in
     let s = w .before .before .before .before .args .s .now in
-    go-on (form-tests s) (access-rules (programOf s)) _ _ (w .well-formed .ensures) (c .before .before .enum-told .given .1) (c .access .ensures)
+    go-on (form-tests s) (access-rules (placeOf s) (programOf s)) _ _ (w .well-formed .ensures) (c .before .before .enum-told .given .1) (c .access .ensures)
 
 pub check-spec : {M : Type 1} → statement M
 check-spec =

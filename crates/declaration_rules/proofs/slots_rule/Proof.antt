@@ -10,10 +10,10 @@ use Rattle.declaration_rules.proofs.slots_rule.Statement.{statement}
 use Rattle.declaration_rules.proofs.slots_rule.Tie as tie
 
 abbrev Inv-loop : tie.InvT-loop
-Inv-loop s at slots k₀ k = Testing (λ k. closed-rule (qualOf s (byteAt s at (4 + k)))) slots k
+Inv-loop s index at slots k₀ k = Testing (λ k. closed-rule (qualOf s (byteAt s at (4 + k)))) slots k
 
 abbrev μ-loop : tie.MeasureT-loop
-μ-loop s at slots k₀ k = slots - k
+μ-loop s index at slots k₀ k = slots - k
 
 byte-requires : tie.Need-byte-requires Inv-loop μ-loop
 byte-requires c κs = search needs
@@ -37,7 +37,7 @@ returns : tie.Need-returns Inv-loop μ-loop
 returns c =
     let d = c .before in
     let l = d .before .before in
-    let e = rw (d .before .byte2 .ensures) at (d .closed-rule .ensures) in
+    let e = rw (d .before .byte2 .ensures, l .before .before .before .before .pre .types _) at (d .closed-rule .ensures) in
     rw (← l .before .before .byte .ensures)
     (test-stop _ _ _ (l .before .loop .inv) (l .loop-test .taken) _ e (λ z. omega arith))
 
@@ -51,7 +51,7 @@ loop-again : tie.Need-loop-again Inv-loop μ-loop
 loop-again c =
     let d = c .before in
     let l = d .before .before in
-    let e = rw (d .before .byte2 .ensures) at (d .closed-rule .ensures) in
+    let e = rw (d .before .byte2 .ensures, l .before .before .before .before .pre .types _) at (d .closed-rule .ensures) in
     test-next _ _ _ (l .before .loop .inv) (l .loop-test .taken) _ e (omega arith)
 
 returns-2 : tie.Need-returns-2 Inv-loop μ-loop

@@ -1,7 +1,7 @@
--- Each arm is the definition's line of its operation, with the procedure's place for its number. The procedure called is one of the sheet's, so that the table has room for it and holds its place.
+-- Each arm is the definition's line of its operation, with the procedure's place for its number. The procedure called is one of the sheet's, so that the index has its place.
+use native.Mathlib.Nat.{le-of-lt}
 use borrow.Author.Needs.{needs}
 use Rattle.model.specs.Rules.{rule, callee}
-use Rattle.instruction_rules.proofs.Places.{has-room, placed}
 use Rattle.instruction_rules.proofs.instruction_number.Statement.{statement}
 use Rattle.instruction_rules.proofs.instruction_number.Tie as tie
 
@@ -98,17 +98,11 @@ set-slot-rule-requires c κs = search needs
 enum-known-operation-16 : tie.Need-enum-known-operation-16
 enum-known-operation-16 c = search needs
 
-cast-call-rule : tie.Need-cast-call-rule
-cast-call-rule c = search needs
+cast-place-of : tie.Need-cast-place-of
+cast-place-of c = search needs
 
-mul-call-rule : tie.Need-mul-call-rule
-mul-call-rule c = search needs
-
-element-copy-out-call-rule : tie.Need-element-copy-out-call-rule
-unfolding callee
-element-copy-out-call-rule c =
-    let d = c .before .before .before .before in
-    has-room _ _ (d .pre .0) _ (rw (c .before .operation16 .given .1) at (d .pre .1 .1))
+place-of-requires : tie.Need-place-of-requires
+place-of-requires c κs = search needs
 
 call-rule-requires : tie.Need-call-rule-requires
 call-rule-requires c κs = search needs
@@ -199,7 +193,7 @@ unfolding rule callee
 returns-16 c =
     let d = c .before .before .before .before .before .before in
     let o = c .before .before .before .operation16 .given in
-    rw (c .call-rule .ensures, o .1, placed _ _ (d .pre .0) _ (rw (o .1) at (d .pre .1 .1)), d .pre .1 .0)
+    rw (c .call-rule .ensures, c .before .place-of .ensures, d .pre .0 .places _ (le-of-lt (rw (o .1) at (d .pre .1 .1))), o .1, d .pre .1 .0)
 
 returns-17 : tie.Need-returns-17
 unfolding rule
@@ -241,9 +235,8 @@ instruction-number-spec =
     enum-known-operation-15
     set-slot-rule-requires
     enum-known-operation-16
-    cast-call-rule
-    mul-call-rule
-    element-copy-out-call-rule
+    cast-place-of
+    place-of-requires
     call-rule-requires
     enum-known-operation-17
     return-rule-requires

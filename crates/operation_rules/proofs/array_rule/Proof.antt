@@ -34,6 +34,7 @@ returns : tie.Need-returns
 unfolding failure new-array-rule innerIn
 returns c =
     let d = c .before .before .before .before in
+    let types = d .before .before .before .before .before .pre .types in
     rw (
       c .require2 .ensures,
       c .before .require .ensures,
@@ -43,6 +44,8 @@ returns c =
       d .before .is-integer .ensures,
       d .before .before .inner-of2 .ensures,
       d .before .before .before .inner-of .ensures,
+      types _,
+      types _,
     )
 
 pub array-rule-spec : {M : Type 1} → statement M

@@ -15,7 +15,9 @@ movement-requires c κs = search needs
 
 returns : tie.Need-returns
 unfolding innerIn
-returns c = rw (c .movement .ensures, c .before .inner-of2 .ensures, c .before .before .inner-of .ensures)
+returns c =
+    let types = c .before .before .before .before .pre .types in
+    rw (c .movement .ensures, c .before .inner-of2 .ensures, c .before .before .inner-of .ensures, types _, types _)
 
 pub bind-rule-spec : {M : Type 1} → statement M
 bind-rule-spec =

@@ -7,8 +7,8 @@ use Rattle.sheet.specs.Meaning.{slotIn, innerIn}
 use Rattle.operation_rules.proofs.get_slot_rule.Statement.{statement}
 use Rattle.operation_rules.proofs.get_slot_rule.Tie as tie
 
-byte-requires : tie.Need-byte-requires
-byte-requires c κs = search needs
+field-requires : tie.Need-field-requires
+field-requires c κs = search needs
 
 inner-of-requires : tie.Need-inner-of-requires
 inner-of-requires c κs = search needs
@@ -42,6 +42,7 @@ unfolding failure get-slot-rule innerIn slotIn ownerAt
 returns c =
     let d = c .before .before .before .before in
     let e = d .before .before .before .before in
+    let types = e .before .before .before .pre .types in
     rw (
       c .require2 .ensures,
       c .before .require .ensures,
@@ -52,14 +53,17 @@ returns c =
       d .before .before .inner-of2 .ensures,
       d .before .before .before .slot-of .ensures,
       e .inner-of .ensures,
-      e .before .byte .ensures,
+      e .before .field .ensures,
+      types _,
+      types _,
+      types _,
     )
 
 pub get-slot-rule-spec : {M : Type 1} → statement M
 get-slot-rule-spec =
     tie.close
     (tie.spec
-    byte-requires
+    field-requires
     inner-of-requires
     slot-of-requires
     inner-of-requires-2

@@ -17,7 +17,9 @@ require-requires c κs = search needs
 
 returns : tie.Need-returns
 unfolding failure integer-rule innerIn
-returns c = rw (c .require .ensures, c .before .is-integer .ensures, c .before .before .inner-of .ensures)
+returns c =
+    let types = c .before .before .before .before .pre .types in
+    rw (c .require .ensures, c .before .is-integer .ensures, c .before .before .inner-of .ensures, types _)
 
 pub integer-rule-spec : {M : Type 1} → statement M
 integer-rule-spec =

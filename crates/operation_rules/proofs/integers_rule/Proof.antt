@@ -31,6 +31,7 @@ returns : tie.Need-returns
 unfolding failure integers-rule innerIn
 returns c =
     let d = c .before .before .before .before in
+    let types = d .before .before .before .before .pre .types in
     rw (
       c .require .ensures,
       c .before .is-integer3 .ensures,
@@ -39,6 +40,9 @@ returns c =
       d .inner-of2 .ensures,
       d .before .is-integer .ensures,
       d .before .before .inner-of .ensures,
+      types _,
+      types _,
+      types _,
     )
 
 pub integers-rule-spec : {M : Type 1} → statement M

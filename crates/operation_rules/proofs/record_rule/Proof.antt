@@ -7,14 +7,14 @@ use Rattle.sheet.specs.Meaning.{innerIn}
 use Rattle.operation_rules.proofs.record_rule.Statement.{statement}
 use Rattle.operation_rules.proofs.record_rule.Tie as tie
 
-byte-requires : tie.Need-byte-requires
-byte-requires c κs = search needs
+field-requires : tie.Need-field-requires
+field-requires c κs = search needs
 
 type-at-requires : tie.Need-type-at-requires
 type-at-requires c κs = search needs
 
-byte-requires-2 : tie.Need-byte-requires-2
-byte-requires-2 c κs = search needs
+byte-requires : tie.Need-byte-requires
+byte-requires c κs = search needs
 
 inner-of-requires : tie.Need-inner-of-requires
 inner-of-requires c κs = search needs
@@ -39,6 +39,7 @@ unfolding failure new-record-rule innerIn ownerAt namedOf
 returns c =
     let d = c .before .before .before .before in
     let e = d .before .before .before .before in
+    let types = e .before .before .pre .types in
     rw (
       c .require2 .ensures,
       c .before .require .ensures,
@@ -46,18 +47,19 @@ returns c =
       c .before .before .before .rights-of .ensures,
       d .is-owned .ensures,
       d .before .inner-of .ensures,
-      d .before .before .byte2 .ensures,
+      d .before .before .byte .ensures,
       d .before .before .before .type-at .ensures,
-      e .byte .ensures,
+      e .field .ensures,
+      types _,
     )
 
 pub record-rule-spec : {M : Type 1} → statement M
 record-rule-spec =
     tie.close
     (tie.spec
-    byte-requires
+    field-requires
     type-at-requires
-    byte-requires-2
+    byte-requires
     inner-of-requires
     is-owned-requires
     rights-of-requires

@@ -31,6 +31,7 @@ returns : tie.Need-returns
 unfolding failure size-rule innerIn
 returns c =
     let d = c .before .before .before .before in
+    let types = d .before .before .before .before .pre .types in
     rw (
       c .require2 .ensures,
       c .before .require .ensures,
@@ -39,6 +40,7 @@ returns c =
       d .is-array .ensures,
       d .before .integer-rule .ensures,
       d .before .before .inner-of .ensures,
+      types _,
     )
 
 pub size-rule-spec : {M : Type 1} → statement M

@@ -1,21 +1,18 @@
--- What `equal_in` ensures, of the header that it asks for.
+-- A type is equal to itself; else what `equal_in` ensures.
+use mathlib.Core.Path.{sym}
 use borrow.Author.Needs.{needs}
-use Rattle.sheet.specs.Layout.{qualsOf}
+use Rattle.model.proofs.Order.{same-refl}
 use Rattle.order.proofs.equal.Statement.{statement}
 use Rattle.order.proofs.equal.Tie as tie
 
-quals-at-requires : tie.Need-quals-at-requires
-quals-at-requires c κs = search needs
-
-byte-requires : tie.Need-byte-requires
-byte-requires c κs = search needs
+returns : tie.Need-returns
+returns c = rw (c .if1 .taken) (sym (same-refl _))
 
 equal-in-requires : tie.Need-equal-in-requires
-unfolding qualsOf
 equal-in-requires c κs = search needs
 
-returns : tie.Need-returns
-returns c = search needs
+returns-2 : tie.Need-returns-2
+returns-2 c = search needs
 
 pub equal-spec : {M : Type 1} → statement M
-equal-spec = tie.close (tie.spec quals-at-requires byte-requires equal-in-requires returns)
+equal-spec = tie.close (tie.spec returns equal-in-requires returns-2)

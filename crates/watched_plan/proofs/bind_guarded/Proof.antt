@@ -4,6 +4,7 @@ use borrow.Author.Needs.{needs}
 use Rattle.model.specs.Modes.{watched}
 use Rattle.sheet.specs.Meaning.{qualOf, innerIn, programOf}
 use Rattle.words.specs.Word.{slot-in}
+use Rattle.binding.proofs.Laws.{word-of-sheet}
 use Rattle.watched_plan.proofs.Laws.{bind-plan}
 use Rattle.watched_plan.proofs.bind_guarded.Statement.{statement}
 use Rattle.watched_plan.proofs.bind_guarded.Tie as tie
@@ -20,11 +21,12 @@ bind-word-requires c κs = search needs
 returns : tie.Need-returns
 unfolding innerIn
 returns c =
+    let pre = c .before .before .before .before .before .before .pre in
     let bind-word = c .bind-word in
     let args = c .before .before .before .before .before .before .args in
     let inner-of = c .before .before .inner-of in
     let read = c .before .read in
-    (bind-word .ensures .0, λ v at s. bind-plan _ (programOf (args .s .now)) v _ _ _ (rw (at, sym (inner-of .ensures))) (bind-word .ensures .1 _ v _ (s .head) (ap (slot-in watched (qualOf (args .s .now))) (read .ensures) ∙ s .variable _)))
+    let bound = word-of-sheet (pre) (bind-word .ensures) in (bound .fine, λ v at S. bind-plan _ (programOf (args .s .now)) v _ _ _ (rw (at, sym (inner-of .ensures))) (bound .moves _ v _ (S .head) (ap (slot-in watched (qualOf (args .s .now))) (read .ensures) ∙ S .variable _)))
 
 pub bind-guarded-spec : {M : Type 1} → statement M
 bind-guarded-spec = tie.close (tie.spec inner-of-requires read-requires bind-word-requires returns)

@@ -1,7 +1,8 @@
 -- What the calls ensure.
-use mathlib.Core.Path.{_∙_}
+use mathlib.Core.Path.{sym, ap, _∙_}
 use borrow.Author.Needs.{needs}
-use Rattle.sheet.specs.Meaning.{innerIn}
+use Rattle.model.specs.Qualified.{element}
+use Rattle.watched_plan.proofs.Laws.{inner-type}
 use Rattle.watched_plan.proofs.declared_element.Statement.{statement}
 use Rattle.watched_plan.proofs.declared_element.Tie as tie
 
@@ -12,9 +13,12 @@ element-of-requires : tie.Need-element-of-requires
 element-of-requires c κs = search needs
 
 returns : tie.Need-returns
-unfolding innerIn
 returns c =
-    c .element-of .ensures .means ∙ rw (c .before .inner-of .ensures)
+    let pre = c .before .before .before .pre in
+    let element-of = c .element-of in
+    let args = c .before .before .before .args in
+    let inner-of = c .before .inner-of in
+    sym (pre .types _) ∙ element-of .ensures .means ∙ ap element (inner-type (args .s .now) (args .pr) (args .a) (pre) (inner-of .ensures))
 
 pub declared-element-spec : {M : Type 1} → statement M
 declared-element-spec = tie.close (tie.spec inner-of-requires element-of-requires returns)

@@ -1,6 +1,8 @@
 -- What the calls ensure.
+use mathlib.Core.Path.{ap, _∙_}
 use borrow.Author.Needs.{needs}
-use Rattle.sheet.specs.Meaning.{innerIn}
+use Rattle.model.specs.Qualified.{rights}
+use Rattle.watched_plan.proofs.Laws.{inner-type}
 use Rattle.watched_plan.proofs.declared_rights.Statement.{statement}
 use Rattle.watched_plan.proofs.declared_rights.Tie as tie
 
@@ -11,8 +13,12 @@ rights-of-requires : tie.Need-rights-of-requires
 rights-of-requires c κs = search needs
 
 returns : tie.Need-returns
-unfolding innerIn
-returns c = rw (c .rights-of .ensures, c .before .inner-of .ensures)
+returns c =
+    let rights-of = c .rights-of in
+    let args = c .before .before .before .args in
+    let pre = c .before .before .before .pre in
+    let inner-of = c .before .inner-of in
+    rights-of .ensures ∙ ap rights (inner-type (args .s .now) (args .pr) (args .a) (pre) (inner-of .ensures))
 
 pub declared-rights-spec : {M : Type 1} → statement M
 declared-rights-spec = tie.close (tie.spec inner-of-requires rights-of-requires returns)

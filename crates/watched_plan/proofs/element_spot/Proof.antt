@@ -18,7 +18,13 @@ enum-told c = search needs
 
 returns : tie.Need-returns
 returns c =
-    (tt, λ q g v s. element-blank g v q _ _ _ _ (blank-seen s (c .before .before .before .read .ensures) (c .before .before .cell-of .ensures) (c .enum-told .given .1)))
+    let read = c .before .before .before .read in
+    let cell-of = c .before .before .cell-of in
+    let enum-told = c .enum-told in
+    record {
+      inside = tt;
+      finds = λ q g v S. element-blank g v q _ _ _ _ (blank-seen S (read .ensures) (cell-of .ensures) (enum-told .given .1));
+    }
 
 read-requires-2 : tie.Need-read-requires-2
 read-requires-2 c κs = search needs
@@ -36,11 +42,14 @@ returns-2 : tie.Need-returns-2
 returns-2 c =
     let read = c .before .before .before .before .before .before .before .before .read in
     let cell-of = c .before .before .before .before .before .before .before .cell-of in
-    let x = c .before .before .before .before .before .x in
+    let known = c .before .before .before .before .before .x in
     let read2 = c .before .before .before .read2 in
     let cell-of2 = c .before .before .cell-of2 in
     let enum-told2 = c .enum-told2 in
-    (tt, λ q g v s. element-blank-index g v q _ _ _ _ (filled-seen s (read .ensures) (cell-of .ensures) (x .given .1)) (blank-seen s (read2 .ensures) (cell-of2 .ensures) (enum-told2 .given .1)))
+    record {
+      inside = tt;
+      finds = λ q g v S. element-blank-index g v q _ _ _ _ (filled-seen S (read .ensures) (cell-of .ensures) (known .given .1)) (blank-seen S (read2 .ensures) (cell-of2 .ensures) (enum-told2 .given .1));
+    }
 
 index-in-requires : tie.Need-index-in-requires
 index-in-requires c κs = search needs
@@ -50,11 +59,14 @@ returns-3 c =
     let index-in = c .index-in in
     let read = c .before .before .before .before .before .before .before .before .before .before .read in
     let cell-of = c .before .before .before .before .before .before .before .before .before .cell-of in
-    let x = c .before .before .before .before .before .before .before .x in
+    let known = c .before .before .before .before .before .before .before .x in
     let read2 = c .before .before .before .before .before .read2 in
     let cell-of2 = c .before .before .before .before .cell-of2 in
-    let y = c .before .before .y in
-    (index-in .ensures .0, λ q g v s. element-found g v q _ _ _ _ _ (filled-seen s (read .ensures) (cell-of .ensures) (x .given .1)) (filled-seen s (read2 .ensures) (cell-of2 .ensures) (y .given .1)) (λ z u m n. index-in .ensures .1 q g v z u m n (s .head)))
+    let known-y = c .before .before .y in
+    record {
+      inside = index-in .ensures .inside;
+      finds = λ q g v S. element-found g v q _ _ _ _ _ (filled-seen S (read .ensures) (cell-of .ensures) (known .given .1)) (filled-seen S (read2 .ensures) (cell-of2 .ensures) (known-y .given .1)) (λ z u m n. index-in .ensures .finds q g v z u m n (S .head));
+    }
 
 pub element-spot-spec : {M : Type 1} → statement M
 element-spot-spec =

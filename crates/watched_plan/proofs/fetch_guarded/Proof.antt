@@ -2,6 +2,7 @@
 use mathlib.Core.Path.{sym}
 use borrow.Author.Needs.{needs}
 use Rattle.sheet.specs.Meaning.{innerIn, programOf}
+use Rattle.binding.proofs.Laws.{word-of-sheet}
 use Rattle.watched_plan.proofs.Laws.{fetch-at, fetch-halt}
 use Rattle.watched_plan.proofs.fetch_guarded.Statement.{statement}
 use Rattle.watched_plan.proofs.fetch_guarded.Tie as tie
@@ -39,17 +40,21 @@ enum-known-k c = search needs
 returns : tie.Need-returns
 unfolding innerIn
 returns c =
+    let pre = c .before .before .before .before .before .before .before .before .before .before .pre in
     let bind-word = c .bind-word in
     let args = c .before .before .before .before .before .before .before .before .before .before .args in
     let element-spot = c .before .before .before .before .before .before .element-spot in
-    let o = c .before .before .before .before .o in
+    let known = c .before .before .before .before .o in
     let inner-of = c .before .inner-of in
     let read = c .before .before .read in
-    (bind-word .ensures .0, λ v at s. fetch-at _ (programOf (args .s .now)) v (args .f .now) (args .h .now) _ _ _ (element-spot .ensures .1 _ _ v s) _ (o .given .1) (element-spot .ensures .0) s (rw (at, sym (inner-of .ensures))) (read .ensures) (λ d. bind-word .ensures .1 _ v d (s .head)))
+    let bound = word-of-sheet (pre) (bind-word .ensures) in (bound .fine, λ v at S. fetch-at _ (programOf (args .s .now)) v (args .f .now) (args .h .now) _ _ _ (element-spot .ensures .finds _ _ v S) _ (known .given .1) (element-spot .ensures .inside) S (rw (at, sym (inner-of .ensures))) (read .ensures) (λ d. bound .moves _ v d (S .head)))
 
 returns-2 : tie.Need-returns-2
 returns-2 c =
-    (tt, λ v at s. fetch-halt _ (programOf (c .before .before .before .before .before .before .before .args .s .now)) v (c .before .before .before .before .before .before .before .args .f .now) (c .before .before .before .before .before .before .before .args .h .now) _ _ _ (c .before .before .before .element-spot .ensures .1 _ _ v s) (c .before .k .given .1))
+    let args = c .before .before .before .before .before .before .before .args in
+    let element-spot = c .before .before .before .element-spot in
+    let known = c .before .k in
+    (tt, λ v at S. fetch-halt _ (programOf (args .s .now)) v (args .f .now) (args .h .now) _ _ _ (element-spot .ensures .finds _ _ v S) (known .given .1))
 
 pub fetch-guarded-spec : {M : Type 1} → statement M
 fetch-guarded-spec =

@@ -3,12 +3,13 @@ use mathlib.Core.Path.{sym}
 use borrow.Author.Needs.{needs}
 use Rattle.sheet.specs.Layout.{ownerAt}
 use Rattle.sheet.specs.Meaning.{innerIn, programOf}
+use Rattle.binding.proofs.Laws.{word-of-sheet}
 use Rattle.watched_plan.proofs.Laws.{get-at, get-halt}
 use Rattle.watched_plan.proofs.get_guarded.Statement.{statement}
 use Rattle.watched_plan.proofs.get_guarded.Tie as tie
 
-byte-requires : tie.Need-byte-requires
-byte-requires c κs = search needs
+field-requires : tie.Need-field-requires
+field-requires c κs = search needs
 
 slot-spot-requires : tie.Need-slot-spot-requires
 slot-spot-requires c κs = search needs
@@ -43,29 +44,30 @@ enum-known-n c = search needs
 returns : tie.Need-returns
 unfolding innerIn ownerAt
 returns c =
+    let pre = c .before .before .before .before .before .before .before .before .before .before .before .pre in
     let bind-word = c .bind-word in
     let args = c .before .before .before .before .before .before .before .before .before .before .before .args in
-    let byte = c .before .before .before .before .before .before .before .byte in
+    let field = c .before .before .before .before .before .before .before .field in
     let slot-spot = c .before .before .before .before .before .before .slot-spot in
-    let o = c .before .before .before .before .o in
+    let known = c .before .before .before .before .o in
     let inner-of = c .before .inner-of in
     let read = c .before .before .read in
-    (bind-word .ensures .0, λ v at s. get-at _ (programOf (args .s .now)) v (args .f .now) (args .h .now) _ _ _ (rw (at, sym (byte .ensures))) (slot-spot .ensures .1 _ _ v s) _ (o .given .1) (slot-spot .ensures .0) s (rw (at, sym (inner-of .ensures))) (read .ensures) (λ d. bind-word .ensures .1 _ v d (s .head)))
+    let bound = word-of-sheet (pre) (bind-word .ensures) in (bound .fine, λ v at S. get-at _ (programOf (args .s .now)) v (args .f .now) (args .h .now) _ _ _ (rw (at, sym (field .ensures))) (slot-spot .ensures .finds _ _ v S) _ (known .given .1) (slot-spot .ensures .inside) S (rw (at, sym (inner-of .ensures))) (read .ensures) (λ d. bound .moves _ v d (S .head)))
 
 returns-2 : tie.Need-returns-2
 unfolding ownerAt
 returns-2 c =
     let args = c .before .before .before .before .before .before .before .before .args in
-    let byte = c .before .before .before .before .byte in
+    let field = c .before .before .before .before .field in
     let slot-spot = c .before .before .before .slot-spot in
-    let n = c .before .n in
-    (tt, λ v at s. get-halt _ (programOf (args .s .now)) v (args .f .now) (args .h .now) _ _ _ (rw (at, sym (byte .ensures))) (slot-spot .ensures .1 _ _ v s) (n .given .1))
+    let known = c .before .n in
+    (tt, λ v at S. get-halt _ (programOf (args .s .now)) v (args .f .now) (args .h .now) _ _ _ (rw (at, sym (field .ensures))) (slot-spot .ensures .finds _ _ v S) (known .given .1))
 
 pub get-guarded-spec : {M : Type 1} → statement M
 get-guarded-spec =
     tie.close
     (tie.spec
-    byte-requires
+    field-requires
     slot-spot-requires
     enum-known-o
     cast-read

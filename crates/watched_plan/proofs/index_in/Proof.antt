@@ -50,7 +50,10 @@ returns c =
     let has-right = c .before .before .before .has-right in
     let second-test = c .before .before .if2 in
     let low-of = c .before .before .before .before .before .before .before .before .before .before .low-of in
-    (inside-array (args .h .now) _ _ _ (eqb (tag-of .result) 2) (eqb (tag-of3 .result) 1) (read .ensures) (tag-of2 .ensures) (first-test .taken) (size-of .ensures) (third-test .taken), λ q g v z u m n heads first second. index-at g v q (args .h .now) (args .right) (args .x) (args .y) heads first second (name-of .ensures) (read .ensures) (tag-of .ensures) (tag-of2 .ensures) (tag-of3 .ensures) (first-test .taken) (low-of2 .ensures) (has-right .ensures) (second-test .taken) (low-of .ensures) (size-of .ensures) (third-test .taken))
+    record {
+      inside = inside-array (args .h .now) _ _ _ (eqb (tag-of .result) 2) (eqb (tag-of3 .result) 1) (read .ensures) (tag-of2 .ensures) (first-test .taken) (size-of .ensures) (third-test .taken);
+      finds = λ q g v z u m n heads first second. index-at g v q (args .h .now) (args .right) (args .x) (args .y) heads first second (name-of .ensures) (read .ensures) (tag-of .ensures) (tag-of2 .ensures) (tag-of3 .ensures) (first-test .taken) (low-of2 .ensures) (has-right .ensures) (second-test .taken) (low-of .ensures) (size-of .ensures) (third-test .taken);
+    }
 
 returns-2 : tie.Need-returns-2
 returns-2 c =
@@ -67,7 +70,10 @@ returns-2 c =
     let low-of = c .before .before .before .before .before .before .before .before .before .before .low-of in
     let size-of = c .before .size-of in
     let third-test = c .if3 in
-    (tt, λ q g v z u m n heads first second. index-past g v q (args .h .now) (args .right) (args .x) (args .y) heads first second (name-of .ensures) (read .ensures) (tag-of .ensures) (tag-of2 .ensures) (tag-of3 .ensures) (first-test .taken) (low-of2 .ensures) (has-right .ensures) (second-test .taken) (low-of .ensures) (size-of .ensures) (third-test .left))
+    record {
+      inside = tt;
+      finds = λ q g v z u m n heads first second. index-past g v q (args .h .now) (args .right) (args .x) (args .y) heads first second (name-of .ensures) (read .ensures) (tag-of .ensures) (tag-of2 .ensures) (tag-of3 .ensures) (first-test .taken) (low-of2 .ensures) (has-right .ensures) (second-test .taken) (low-of .ensures) (size-of .ensures) (third-test .left);
+    }
 
 returns-3 : tie.Need-returns-3
 returns-3 c =
@@ -81,7 +87,10 @@ returns-3 c =
     let low-of2 = c .before .before .low-of2 in
     let has-right = c .before .has-right in
     let second-test = c .if2 in
-    (tt, λ q g v z u m n heads first second. index-without g v q (args .h .now) (args .right) (args .x) (args .y) heads first second (name-of .ensures) (read .ensures) (tag-of .ensures) (tag-of2 .ensures) (tag-of3 .ensures) (first-test .taken) (low-of2 .ensures) (has-right .ensures) (second-test .left))
+    record {
+      inside = tt;
+      finds = λ q g v z u m n heads first second. index-without g v q (args .h .now) (args .right) (args .x) (args .y) heads first second (name-of .ensures) (read .ensures) (tag-of .ensures) (tag-of2 .ensures) (tag-of3 .ensures) (first-test .taken) (low-of2 .ensures) (has-right .ensures) (second-test .left);
+    }
 
 returns-4 : tie.Need-returns-4
 returns-4 c =
@@ -92,7 +101,10 @@ returns-4 c =
     let tag-of2 = c .before .before .tag-of2 in
     let tag-of3 = c .before .tag-of3 in
     let first-test = c .if1 in
-    (tt, λ q g v z u m n heads first second. index-misfit g v q (args .h .now) (args .right) (args .x) (args .y) heads first second (name-of .ensures) (read .ensures) (tag-of .ensures) (tag-of2 .ensures) (tag-of3 .ensures) (first-test .left))
+    record {
+      inside = tt;
+      finds = λ q g v z u m n heads first second. index-misfit g v q (args .h .now) (args .right) (args .x) (args .y) heads first second (name-of .ensures) (read .ensures) (tag-of .ensures) (tag-of2 .ensures) (tag-of3 .ensures) (first-test .left);
+    }
 
 pub index-in-spec : {M : Type 1} → statement M
 index-in-spec =

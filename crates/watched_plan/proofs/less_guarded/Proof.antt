@@ -28,15 +28,18 @@ unfolding plan
 returns c =
     let args = c .before .before .before .before .before .before .before .before .args in
     let two-integers = c .before .before .before .before .before .two-integers in
-    let m-known = c .before .before .before .m in
+    let known = c .before .before .before .m in
     let less = c .before .less in
     let give = c .give in
-    λ v h at s. computed (programOf (args .s .now)) v _ _ _ (λ (m n : ℕ). flag (ltb m n)) (two-integers .ensures _ _ v h s) _ (m-known .given .1) (less .ensures) (give .ensures v at)
+    λ h v at S. computed (programOf (args .s .now)) v _ _ _ (λ (m n : ℕ). flag (ltb m n)) (two-integers .ensures _ _ v h S) _ (known .given .1) (less .ensures) (give .ensures v at)
 
 returns-2 : tie.Need-returns-2
 unfolding plan
 returns-2 c =
-    λ v h at s. not-computed (programOf (c .before .before .before .before .before .before .args .s .now)) v _ _ _ (λ (m n : ℕ). flag (ltb m n)) (c .before .before .before .two-integers .ensures _ _ v h s) (c .before .k .given .1)
+    let args = c .before .before .before .before .before .before .args in
+    let two-integers = c .before .before .before .two-integers in
+    let known = c .before .k in
+    λ h v at S. not-computed (programOf (args .s .now)) v _ _ _ (λ (m n : ℕ). flag (ltb m n)) (two-integers .ensures _ _ v h S) (known .given .1)
 
 pub less-guarded-spec : {M : Type 1} → statement M
 less-guarded-spec =

@@ -46,7 +46,10 @@ returns c =
     let low-of = c .before .before .before .before .low-of in
     let has-right = c .before .before .before .has-right in
     let second-test = c .before .before .if2 in
-    (inside-record (args .h .now) _ _ _ (eqb (tag-of .result) 2) (eqb (kind-in .result) (args .t)) (read .ensures) (tag-of2 .ensures) (first-test .taken) (size-of .ensures) (third-test .taken), λ q g v z m heads first. slot-there-at g v q (args .h .now) (args .t) (args .k) (args .x) heads first (name-of .ensures) (read .ensures) (tag-of .ensures) (tag-of2 .ensures) (kind-in .ensures) (first-test .taken) (low-of .ensures) (has-right .ensures) (second-test .taken) (size-of .ensures) (third-test .taken))
+    record {
+      inside = inside-record (args .h .now) _ _ _ (eqb (tag-of .result) 2) (eqb (kind-in .result) (args .t)) (read .ensures) (tag-of2 .ensures) (first-test .taken) (size-of .ensures) (third-test .taken);
+      finds = λ q g v z m heads first. slot-there-at g v q (args .h .now) (args .t) (args .k) (args .x) heads first (name-of .ensures) (read .ensures) (tag-of .ensures) (tag-of2 .ensures) (kind-in .ensures) (first-test .taken) (low-of .ensures) (has-right .ensures) (second-test .taken) (size-of .ensures) (third-test .taken);
+    }
 
 returns-2 : tie.Need-returns-2
 returns-2 c =
@@ -62,7 +65,10 @@ returns-2 c =
     let second-test = c .before .before .if2 in
     let size-of = c .before .size-of in
     let third-test = c .if3 in
-    (tt, λ q g v z m heads first. slot-past g v q (args .h .now) (args .t) (args .k) (args .x) heads first (name-of .ensures) (read .ensures) (tag-of .ensures) (tag-of2 .ensures) (kind-in .ensures) (first-test .taken) (low-of .ensures) (has-right .ensures) (second-test .taken) (size-of .ensures) (third-test .left))
+    record {
+      inside = tt;
+      finds = λ q g v z m heads first. slot-past g v q (args .h .now) (args .t) (args .k) (args .x) heads first (name-of .ensures) (read .ensures) (tag-of .ensures) (tag-of2 .ensures) (kind-in .ensures) (first-test .taken) (low-of .ensures) (has-right .ensures) (second-test .taken) (size-of .ensures) (third-test .left);
+    }
 
 returns-3 : tie.Need-returns-3
 returns-3 c =
@@ -76,7 +82,10 @@ returns-3 c =
     let low-of = c .before .before .low-of in
     let has-right = c .before .has-right in
     let second-test = c .if2 in
-    (tt, λ q g v z m heads first. slot-without g v q (args .h .now) (args .t) (args .k) (args .x) heads first (name-of .ensures) (read .ensures) (tag-of .ensures) (tag-of2 .ensures) (kind-in .ensures) (first-test .taken) (low-of .ensures) (has-right .ensures) (second-test .left))
+    record {
+      inside = tt;
+      finds = λ q g v z m heads first. slot-without g v q (args .h .now) (args .t) (args .k) (args .x) heads first (name-of .ensures) (read .ensures) (tag-of .ensures) (tag-of2 .ensures) (kind-in .ensures) (first-test .taken) (low-of .ensures) (has-right .ensures) (second-test .left);
+    }
 
 returns-4 : tie.Need-returns-4
 returns-4 c =
@@ -87,7 +96,10 @@ returns-4 c =
     let tag-of2 = c .before .before .tag-of2 in
     let kind-in = c .before .kind-in in
     let first-test = c .if1 in
-    (tt, λ q g v z m heads first. slot-misfit g v q (args .h .now) (args .t) (args .k) (args .x) heads first (name-of .ensures) (read .ensures) (tag-of .ensures) (tag-of2 .ensures) (kind-in .ensures) (first-test .left))
+    record {
+      inside = tt;
+      finds = λ q g v z m heads first. slot-misfit g v q (args .h .now) (args .t) (args .k) (args .x) heads first (name-of .ensures) (read .ensures) (tag-of .ensures) (tag-of2 .ensures) (kind-in .ensures) (first-test .left);
+    }
 
 pub open-slot-spec : {M : Type 1} → statement M
 open-slot-spec =

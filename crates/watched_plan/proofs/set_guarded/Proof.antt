@@ -9,7 +9,7 @@ give-requires c κs = search needs
 
 returns : tie.Need-returns
 unfolding plan
-returns c = λ v at. c .give .ensures v at
+returns c = λ f h v at S. c .give .ensures v at
 
 pub set-guarded-spec : {M : Type 1} → statement M
 set-guarded-spec = tie.close (tie.spec give-requires returns)

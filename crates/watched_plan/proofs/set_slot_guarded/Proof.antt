@@ -5,12 +5,13 @@ use Rattle.model.specs.Modes.{watched}
 use Rattle.sheet.specs.Layout.{ownerAt}
 use Rattle.sheet.specs.Meaning.{qualOf, slotIn, programOf}
 use Rattle.words.specs.Word.{slot-in}
+use Rattle.binding.proofs.Laws.{word-of-sheet}
 use Rattle.watched_plan.proofs.Laws.{inside-spot, set-at, set-halt}
 use Rattle.watched_plan.proofs.set_slot_guarded.Statement.{statement}
 use Rattle.watched_plan.proofs.set_slot_guarded.Tie as tie
 
-byte-requires : tie.Need-byte-requires
-byte-requires c κs = search needs
+field-requires : tie.Need-field-requires
+field-requires c κs = search needs
 
 slot-spot-requires : tie.Need-slot-spot-requires
 slot-spot-requires c κs = search needs
@@ -36,26 +37,31 @@ enum-known-n c = search needs
 returns : tie.Need-returns
 unfolding ownerAt slotIn
 returns c =
-    let stored-at = c .stored-at in
-    let o = c .before .before .before .before .before .o in
-    let slot-spot = c .before .before .before .before .before .before .before .slot-spot in
+    let pre = c .before .before .before .before .before .before .before .before .before .before .before .before .pre in
     let bind-word = c .before .bind-word in
+    let stored-at = c .stored-at in
+    let known = c .before .before .before .before .before .o in
+    let slot-spot = c .before .before .before .before .before .before .before .slot-spot in
     let args = c .before .before .before .before .before .before .before .before .before .before .before .before .args in
-    let byte = c .before .before .before .before .before .before .before .before .byte in
+    let field = c .before .before .before .before .before .before .before .before .field in
     let slot-of = c .before .before .before .slot-of in
     let read = c .before .before .read in
-    (stored-at .ensures .0 _ (inside-spot (o .given .1) (slot-spot .ensures .0)) (bind-word .ensures .0), λ v at s. set-at _ (programOf (args .s .now)) v _ _ _ (rw (at, sym (byte .ensures))) (slot-spot .ensures .1 _ _ v s) _ _ (o .given .1) (stored-at .ensures .1 _) (rw (sym (slot-of .ensures)) (bind-word .ensures .1 _ v _ (s .head) (ap (slot-in watched (qualOf (args .s .now))) (read .ensures) ∙ s .variable _))))
+    let bound = word-of-sheet (pre) (bind-word .ensures) in (stored-at .ensures .0 _ (inside-spot (known .given .1) (slot-spot .ensures .inside)) (bound .fine), λ v at S. set-at _ (programOf (args .s .now)) v _ _ _ (rw (at, sym (field .ensures))) (slot-spot .ensures .finds _ _ v S) _ _ (known .given .1) (stored-at .ensures .1 _) (rw (sym (slot-of .ensures)) (bound .moves _ v _ (S .head) (ap (slot-in watched (qualOf (args .s .now))) (read .ensures) ∙ S .variable _))))
 
 returns-2 : tie.Need-returns-2
 unfolding ownerAt
 returns-2 c =
-    (tt, λ v at s. set-halt _ (programOf (c .before .before .before .before .before .before .before .before .args .s .now)) v _ _ _ (rw (at, sym (c .before .before .before .before .byte .ensures))) (c .before .before .before .slot-spot .ensures .1 _ _ v s) (c .before .n .given .1))
+    let args = c .before .before .before .before .before .before .before .before .args in
+    let field = c .before .before .before .before .field in
+    let slot-spot = c .before .before .before .slot-spot in
+    let known = c .before .n in
+    (tt, λ v at S. set-halt _ (programOf (args .s .now)) v _ _ _ (rw (at, sym (field .ensures))) (slot-spot .ensures .finds _ _ v S) (known .given .1))
 
 pub set-slot-guarded-spec : {M : Type 1} → statement M
 set-slot-guarded-spec =
     tie.close
     (tie.spec
-    byte-requires
+    field-requires
     slot-spot-requires
     enum-known-o
     slot-of-requires

@@ -19,7 +19,11 @@ enum-told c = search needs
 
 returns : tie.Need-returns
 returns c =
-    λ v at s. size-blank (programOf (c .before .before .before .before .before .before .before .args .s .now)) v _ _ (blank-seen s (c .before .before .before .read .ensures) (c .before .before .cell-of .ensures) (c .enum-told .given .1))
+    let args = c .before .before .before .before .before .before .before .args in
+    let read = c .before .before .before .read in
+    let cell-of = c .before .before .cell-of in
+    let enum-told = c .enum-told in
+    λ v at S. size-blank (programOf (args .s .now)) v _ _ (blank-seen S (read .ensures) (cell-of .ensures) (enum-told .given .1))
 
 name-of-requires : tie.Need-name-of-requires
 name-of-requires c κs = search needs
@@ -53,7 +57,7 @@ returns-2 c =
     let args = c .before .before .before .before .before .before .before .before .before .before .before .before .before .before .before .before .before .before .args in
     let read = c .before .before .before .before .before .before .before .before .before .before .before .before .before .before .read in
     let cell-of = c .before .before .before .before .before .before .before .before .before .before .before .before .before .cell-of in
-    let x = c .before .before .before .before .before .before .before .before .before .before .before .x in
+    let known = c .before .before .before .before .before .before .before .before .before .before .before .x in
     let name-of = c .before .before .before .before .before .before .before .before .before .name-of in
     let read2 = c .before .before .before .before .before .before .before .before .read2 in
     let tag-of = c .before .before .before .before .before .before .before .tag-of in
@@ -64,14 +68,14 @@ returns-2 c =
     let second-test = c .before .before .if2 in
     let size-of = c .before .size-of in
     let give = c .give in
-    λ v at s. size-given (programOf (args .s .now)) v _ (args .h .now) _ _ _ (s .head) (filled-seen s (read .ensures) (cell-of .ensures) (x .given .1)) (name-of .ensures) (read2 .ensures) (tag-of .ensures) (tag-of2 .ensures) (first-test .taken) (low-of .ensures) (has-right .ensures) _ (second-test .taken) (size-of .ensures) (give .ensures v at)
+    λ v at S. size-given (programOf (args .s .now)) v _ (args .h .now) _ _ _ (S .head) (filled-seen S (read .ensures) (cell-of .ensures) (known .given .1)) (name-of .ensures) (read2 .ensures) (tag-of .ensures) (tag-of2 .ensures) (first-test .taken) (low-of .ensures) (has-right .ensures) _ (second-test .taken) (size-of .ensures) (give .ensures v at)
 
 returns-3 : tie.Need-returns-3
 returns-3 c =
     let args = c .before .before .before .before .before .before .before .before .before .before .before .before .before .before .before .before .args in
     let read = c .before .before .before .before .before .before .before .before .before .before .before .before .read in
     let cell-of = c .before .before .before .before .before .before .before .before .before .before .before .cell-of in
-    let x = c .before .before .before .before .before .before .before .before .before .x in
+    let known = c .before .before .before .before .before .before .before .before .before .x in
     let name-of = c .before .before .before .before .before .before .before .name-of in
     let read2 = c .before .before .before .before .before .before .read2 in
     let tag-of = c .before .before .before .before .before .tag-of in
@@ -80,20 +84,20 @@ returns-3 c =
     let low-of = c .before .before .low-of in
     let has-right = c .before .has-right in
     let second-test = c .if2 in
-    λ v at s. size-without (programOf (args .s .now)) v _ (args .h .now) _ _ _ (s .head) (filled-seen s (read .ensures) (cell-of .ensures) (x .given .1)) (name-of .ensures) (read2 .ensures) (tag-of .ensures) (tag-of2 .ensures) (first-test .taken) (low-of .ensures) (has-right .ensures) (second-test .left)
+    λ v at S. size-without (programOf (args .s .now)) v _ (args .h .now) _ _ _ (S .head) (filled-seen S (read .ensures) (cell-of .ensures) (known .given .1)) (name-of .ensures) (read2 .ensures) (tag-of .ensures) (tag-of2 .ensures) (first-test .taken) (low-of .ensures) (has-right .ensures) (second-test .left)
 
 returns-4 : tie.Need-returns-4
 returns-4 c =
     let args = c .before .before .before .before .before .before .before .before .before .before .before .before .before .args in
     let read = c .before .before .before .before .before .before .before .before .before .read in
     let cell-of = c .before .before .before .before .before .before .before .before .cell-of in
-    let x = c .before .before .before .before .before .before .x in
+    let known = c .before .before .before .before .before .before .x in
     let name-of = c .before .before .before .before .name-of in
     let read2 = c .before .before .before .read2 in
     let tag-of = c .before .before .tag-of in
     let tag-of2 = c .before .tag-of2 in
     let first-test = c .if1 in
-    λ v at s. size-misfit (programOf (args .s .now)) v _ (args .h .now) _ _ _ (s .head) (filled-seen s (read .ensures) (cell-of .ensures) (x .given .1)) (name-of .ensures) (read2 .ensures) (tag-of .ensures) (tag-of2 .ensures) (first-test .left)
+    λ v at S. size-misfit (programOf (args .s .now)) v _ (args .h .now) _ _ _ (S .head) (filled-seen S (read .ensures) (cell-of .ensures) (known .given .1)) (name-of .ensures) (read2 .ensures) (tag-of .ensures) (tag-of2 .ensures) (first-test .left)
 
 pub size-guarded-spec : {M : Type 1} → statement M
 size-guarded-spec =

@@ -1,10 +1,8 @@
 -- A stop stays what it is; an integer is the size of a declared array.
-use Prim.Native.Nat.{ℕ}
 use mathlib.Core.Path.{ap, _∙_}
 use borrow.Author.Needs.{needs}
 use Rattle.model.specs.Qualified.{isArray}
-use Rattle.sheet.specs.Meaning.{qualOf, innerIn}
-use Rattle.watched_plan.proofs.Laws.{size-halts, size-asked, size-refused}
+use Rattle.watched_plan.proofs.Laws.{inner-type, size-halts, size-asked, size-refused}
 use Rattle.watched_plan.proofs.sized.Statement.{statement}
 use Rattle.watched_plan.proofs.sized.Tie as tie
 
@@ -19,7 +17,7 @@ enum-told-2 c = search needs
 
 returns : tie.Need-returns
 returns c =
-    λ g v h s. size-halts g v _ _ (c .before .before .integer-in .ensures _ g v h s) (c .enum-told2 .given .1)
+    λ g v h S. size-halts g v _ _ (c .before .before .integer-in .ensures _ g v h S) (c .enum-told2 .given .1)
 
 inner-of-requires : tie.Need-inner-of-requires
 inner-of-requires c κs = search needs
@@ -28,26 +26,26 @@ is-array-requires : tie.Need-is-array-requires
 is-array-requires c κs = search needs
 
 returns-2 : tie.Need-returns-2
-unfolding innerIn
 returns-2 c =
     let integer-in = c .before .before .before .before .before .integer-in in
     let enum-told = c .before .before .before .enum-told in
     let is-array = c .before .is-array in
     let args = c .before .before .before .before .before .before .before .before .args in
+    let pre = c .before .before .before .before .before .before .before .before .pre in
     let inner-of = c .before .before .inner-of in
     let first-test = c .if1 in
-    λ g v h s. size-asked g v _ _ (integer-in .ensures _ g v h s) (enum-told .given .1) (is-array .ensures ∙ ap (λ (j : ℕ). isArray (qualOf (args .s .now) j)) (inner-of .ensures)) (first-test .taken)
+    λ g v h S. size-asked g v _ _ (integer-in .ensures _ g v h S) (enum-told .given .1) (is-array .ensures ∙ ap isArray (inner-type (args .s .now) (args .pr) (args .a) (pre) (inner-of .ensures))) (first-test .taken)
 
 returns-3 : tie.Need-returns-3
-unfolding innerIn
 returns-3 c =
     let integer-in = c .before .before .before .before .before .integer-in in
     let enum-told = c .before .before .before .enum-told in
     let is-array = c .before .is-array in
     let args = c .before .before .before .before .before .before .before .before .args in
+    let pre = c .before .before .before .before .before .before .before .before .pre in
     let inner-of = c .before .before .inner-of in
     let first-test = c .if1 in
-    λ g v h s. size-refused g v _ _ (integer-in .ensures _ g v h s) (enum-told .given .1) (is-array .ensures ∙ ap (λ (j : ℕ). isArray (qualOf (args .s .now) j)) (inner-of .ensures)) (first-test .left)
+    λ g v h S. size-refused g v _ _ (integer-in .ensures _ g v h S) (enum-told .given .1) (is-array .ensures ∙ ap isArray (inner-type (args .s .now) (args .pr) (args .a) (pre) (inner-of .ensures))) (first-test .left)
 
 pub sized-spec : {M : Type 1} → statement M
 sized-spec =

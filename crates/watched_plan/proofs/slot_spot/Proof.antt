@@ -18,7 +18,13 @@ enum-told c = search needs
 
 returns : tie.Need-returns
 returns c =
-    (tt, λ q g v s. slot-blank g v _ _ _ (blank-seen s (c .before .before .before .read .ensures) (c .before .before .cell-of .ensures) (c .enum-told .given .1)))
+    let read = c .before .before .before .read in
+    let cell-of = c .before .before .cell-of in
+    let enum-told = c .enum-told in
+    record {
+      inside = tt;
+      finds = λ q g v S. slot-blank g v _ _ _ (blank-seen S (read .ensures) (cell-of .ensures) (enum-told .given .1));
+    }
 
 open-slot-requires : tie.Need-open-slot-requires
 open-slot-requires c κs = search needs
@@ -28,8 +34,11 @@ returns-2 c =
     let open-slot = c .open-slot in
     let read = c .before .before .before .before .before .read in
     let cell-of = c .before .before .before .before .cell-of in
-    let x = c .before .before .x in
-    (open-slot .ensures .0, λ q g v s. slot-found g v _ _ _ _ (filled-seen s (read .ensures) (cell-of .ensures) (x .given .1)) (λ z m. open-slot .ensures .1 q g v z m (s .head)))
+    let known = c .before .before .x in
+    record {
+      inside = open-slot .ensures .inside;
+      finds = λ q g v S. slot-found g v _ _ _ _ (filled-seen S (read .ensures) (cell-of .ensures) (known .given .1)) (λ z m. open-slot .ensures .finds q g v z m (S .head));
+    }
 
 pub slot-spot-spec : {M : Type 1} → statement M
 slot-spot-spec =

@@ -4,6 +4,7 @@ use borrow.Author.Needs.{needs}
 use Rattle.model.specs.Modes.{watched}
 use Rattle.sheet.specs.Meaning.{qualOf, programOf}
 use Rattle.words.specs.Word.{slot-in}
+use Rattle.binding.proofs.Laws.{word-of-sheet}
 use Rattle.watched_plan.proofs.Laws.{inside-spot, store-at, store-halt}
 use Rattle.watched_plan.proofs.store_guarded.Statement.{statement}
 use Rattle.watched_plan.proofs.store_guarded.Tie as tie
@@ -38,18 +39,21 @@ enum-known-k c = search needs
 returns : tie.Need-returns
 returns c =
     let stored-at = c .stored-at in
-    let o = c .before .before .before .before .before .before .o in
+    let known = c .before .before .before .before .before .before .o in
     let element-spot = c .before .before .before .before .before .before .before .before .element-spot in
     let bind-word = c .before .bind-word in
-    let args = c .before .before .before .before .before .before .before .before .before .before .before .before .args in
+    let args = c .before .before .before .before .before .before .before .before .before .before .before .args in
     let read = c .before .before .before .before .read in
     let kind-in = c .before .before .before .kind-in in
     let read2 = c .before .before .read2 in
-    (stored-at .ensures .0 _ (inside-spot (o .given .1) (element-spot .ensures .0)) (bind-word .ensures .0), λ v s. store-at _ (programOf (args .s .now)) v (args .h .now) _ _ _ (element-spot .ensures .1 _ _ v s) _ _ (o .given .1) (stored-at .ensures .1 _) (read .ensures) (kind-in .ensures) (bind-word .ensures .1 _ v _ (s .head) (ap (slot-in watched (qualOf (args .s .now))) (read2 .ensures) ∙ s .variable _)))
+    λ s pr ready. (stored-at .ensures .0 _ (inside-spot (known .given .1) (element-spot .ensures .inside)) (bind-word .ensures .fine), λ v at S. store-at _ (programOf s) v (args .h .now) _ _ _ (element-spot .ensures .finds _ _ v S) _ _ (known .given .1) (stored-at .ensures .1 _) (read .ensures) (kind-in .ensures) (word-of-sheet ready (bind-word .ensures) .moves _ v _ (S .head) (ap (slot-in watched (qualOf s)) (read2 .ensures) ∙ S .variable _)))
 
 returns-2 : tie.Need-returns-2
 returns-2 c =
-    (tt, λ v s. store-halt _ (programOf (c .before .before .before .before .before .before .before .args .s .now)) v (c .before .before .before .before .before .before .before .args .h .now) _ _ _ (c .before .before .before .element-spot .ensures .1 _ _ v s) (c .before .k .given .1))
+    let args = c .before .before .before .before .before .before .args in
+    let element-spot = c .before .before .before .element-spot in
+    let known = c .before .k in
+    λ s pr ready. (tt, λ v at S. store-halt _ (programOf s) v (args .h .now) _ _ _ (element-spot .ensures .finds _ _ v S) (known .given .1))
 
 pub store-guarded-spec : {M : Type 1} → statement M
 store-guarded-spec =

@@ -7,6 +7,8 @@ use Rattle.watched_plan.proofs.Laws.{computed, not-computed}
 use Rattle.watched_plan.proofs.subtract_guarded.Statement.{statement}
 use Rattle.watched_plan.proofs.subtract_guarded.Tie as tie
 
+-- Two integers, whose difference `give` moves on, or a stop, which stays what it is.
+
 two-integers-requires : tie.Need-two-integers-requires
 two-integers-requires c κs = search needs
 
@@ -27,15 +29,18 @@ unfolding plan minus
 returns c =
     let args = c .before .before .before .before .before .before .before .before .args in
     let two-integers = c .before .before .before .before .before .two-integers in
-    let m = c .before .before .before .m in
+    let known = c .before .before .before .m in
     let wrapping-sub-u32 = c .before .wrapping-sub-u32 in
     let give = c .give in
-    λ v h at s. computed (programOf (args .s .now)) v _ _ _ minus (two-integers .ensures _ _ v h s) _ (m .given .1) (omega (arith, wrapping-sub-u32 .ensures)) (give .ensures v at)
+    λ h v at S. computed (programOf (args .s .now)) v _ _ _ minus (two-integers .ensures _ _ v h S) _ (known .given .1) (omega (arith, wrapping-sub-u32 .ensures)) (give .ensures v at)
 
 returns-2 : tie.Need-returns-2
 unfolding plan
 returns-2 c =
-    λ v h at s. not-computed (programOf (c .before .before .before .before .before .before .args .s .now)) v _ _ _ minus (c .before .before .before .two-integers .ensures _ _ v h s) (c .before .k .given .1)
+    let args = c .before .before .before .before .before .before .args in
+    let two-integers = c .before .before .before .two-integers in
+    let known = c .before .k in
+    λ h v at S. not-computed (programOf (args .s .now)) v _ _ _ minus (two-integers .ensures _ _ v h S) (known .given .1)
 
 pub subtract-guarded-spec : {M : Type 1} → statement M
 subtract-guarded-spec =

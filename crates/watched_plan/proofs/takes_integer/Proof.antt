@@ -1,6 +1,8 @@
 -- The code is the definition, with what the calls ensure in place of their results.
+use mathlib.Core.Path.{ap, _∙_}
 use borrow.Author.Needs.{needs}
-use Rattle.sheet.specs.Meaning.{innerIn}
+use Rattle.model.specs.Qualified.{isInteger}
+use Rattle.watched_plan.proofs.Laws.{inner-type}
 use Rattle.watched_plan.proofs.takes_integer.Statement.{statement}
 use Rattle.watched_plan.proofs.takes_integer.Tie as tie
 
@@ -11,8 +13,12 @@ is-integer-requires : tie.Need-is-integer-requires
 is-integer-requires c κs = search needs
 
 returns : tie.Need-returns
-unfolding innerIn
-returns c = rw (c .is-integer .ensures, c .before .inner-of .ensures)
+returns c =
+    let is-integer = c .is-integer in
+    let args = c .before .before .before .args in
+    let pre = c .before .before .before .pre in
+    let inner-of = c .before .inner-of in
+    is-integer .ensures ∙ ap isInteger (inner-type (args .s .now) (args .pr) (args .a) (pre) (inner-of .ensures))
 
 pub takes-integer-spec : {M : Type 1} → statement M
 takes-integer-spec = tie.close (tie.spec inner-of-requires is-integer-requires returns)

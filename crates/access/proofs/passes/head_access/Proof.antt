@@ -17,7 +17,7 @@ refused-requires c κs = search needs
 returns : tie.Need-returns
 unfolding verdict failure head-rules
 returns c =
-    rw (c .refused .ensures, c .before .require .ensures, c .before .before .has-closed-result .ensures, c .before .before .before .before .pre)
+    rw (c .refused .ensures, c .before .require .ensures, c .before .before .has-closed-result .ensures, c .before .before .before .before .pre .1)
 
 pub head-access-spec : {M : Type 1} → statement M
 head-access-spec =

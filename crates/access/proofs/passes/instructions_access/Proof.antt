@@ -5,16 +5,16 @@ use borrow.Author.Needs.{needs}
 use Rattle.model.specs.Rules.{instruction-rules}
 use Rattle.model.proofs.Verdicts.{Passing, pass-start, pass-next, pass-stop, pass-end}
 use Rattle.sheet.specs.Layout.{instructionsAt}
-use Rattle.sheet.specs.Meaning.{programOf}
+use Rattle.sheet.specs.Meaning.{programOf, placeOf}
 use Rattle.access.specs.Inner.Callees.{CalleesAt}
 use Rattle.access.proofs.passes.instructions_access.Statement.{statement}
 use Rattle.access.proofs.passes.instructions_access.Tie as tie
 
 abbrev Inv-loop : tie.InvT-loop
-Inv-loop s table p pr n i₀ i = Passing (instruction-rules (programOf s) p) n i
+Inv-loop s index p pr n i₀ i = Passing (instruction-rules (placeOf s) (programOf s) p) n i
 
 abbrev μ-loop : tie.MeasureT-loop
-μ-loop s table p pr n i₀ i = n - i
+μ-loop s index p pr n i₀ i = n - i
 
 word-requires : tie.Need-word-requires Inv-loop μ-loop
 word-requires c κs = search needs

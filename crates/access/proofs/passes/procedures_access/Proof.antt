@@ -1,36 +1,33 @@
--- The loop over the procedures: what is left to say is the verdict from the present one on. The table holds where each one stands.
+-- The loop over the procedures: what is left to say is the verdict from the present one on. The index says where each one stands.
 use Prim.Native.Nat.{_-_, _<_}
+use mathlib.Core.Path.{_∙_}
 use native.Mathlib.Omega.{arith}
 use borrow.Author.Needs.{needs}
 use Rattle.model.specs.Rules.{procedure-rules}
 use Rattle.model.proofs.Verdicts.{Passing, pass-start, pass-next, pass-stop, pass-end}
 use Rattle.sheet.specs.Layout.{proceduresOf}
-use Rattle.sheet.specs.Meaning.{programOf}
-use Rattle.instruction_rules.proofs.Places.{placed}
+use Rattle.sheet.specs.Meaning.{programOf, placeOf}
 use Rattle.access.proofs.passes.procedures_access.Statement.{statement}
 use Rattle.access.proofs.passes.procedures_access.Tie as tie
 
 abbrev Inv-loop : tie.InvT-loop
-Inv-loop s table n p₀ p = Passing (procedure-rules (programOf s)) n p
+Inv-loop s index n p₀ p = Passing (procedure-rules (placeOf s) (programOf s)) n p
 
 abbrev μ-loop : tie.MeasureT-loop
-μ-loop s table n p₀ p = n - p
+μ-loop s index n p₀ p = n - p
 
 loop-holds : tie.Need-loop-holds Inv-loop μ-loop
 loop-holds c = pass-start _ _
 
-mul-procedure-access : tie.Need-mul-procedure-access Inv-loop μ-loop
-mul-procedure-access c = omega arith
-
-element-copy-out-procedure-access : tie.Need-element-copy-out-procedure-access Inv-loop μ-loop
-element-copy-out-procedure-access c = omega arith
+place-of-requires : tie.Need-place-of-requires Inv-loop μ-loop
+place-of-requires c κs = search needs
 
 procedure-access-requires : tie.Need-procedure-access-requires Inv-loop μ-loop
 procedure-access-requires c κs =
     let a = c .before .before .before .before in
     let p = c .before .before .loop .p in
     let inside : p < proceduresOf (a .args .s .now) = omega arith in
-    let at = placed _ _ (a .pre .0) p inside in
+    let at = c .place-of .ensures ∙ a .pre .0 .places p (omega arith) in
     (a .pre .0, (at, rw at (a .pre .1 .0 .each p inside)))
 
 enum-told : tie.Need-enum-told Inv-loop μ-loop
@@ -63,8 +60,7 @@ procedures-access-spec =
     Inv-loop
     μ-loop
     loop-holds
-    mul-procedure-access
-    element-copy-out-procedure-access
+    place-of-requires
     procedure-access-requires
     enum-told
     enum-told-2

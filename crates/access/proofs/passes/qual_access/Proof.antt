@@ -17,7 +17,7 @@ refused-requires c κs = search needs
 returns : tie.Need-returns
 unfolding verdict qual-rules
 returns c =
-    rw (c .refused .ensures, c .before .qual-at .ensures .0, c .before .before .element-rule .ensures)
+    rw (c .refused .ensures, c .before .qual-at .ensures .0, c .before .before .element-rule .ensures, c .before .before .before .before .pre .types _)
 
 pub qual-access-spec : {M : Type 1} → statement M
 qual-access-spec =

@@ -4,15 +4,15 @@ use native.Mathlib.Omega.{arith}
 use borrow.Author.Needs.{needs}
 use Rattle.model.specs.Rules.{qual-rules}
 use Rattle.model.proofs.Verdicts.{Passing, pass-start, pass-next, pass-stop, pass-end}
-use Rattle.sheet.specs.Meaning.{programOf}
+use Rattle.sheet.specs.Meaning.{programOf, placeOf}
 use Rattle.access.proofs.passes.quals_access.Statement.{statement}
 use Rattle.access.proofs.passes.quals_access.Tie as tie
 
 abbrev Inv-loop : tie.InvT-loop
-Inv-loop s n j₀ j = Passing (qual-rules (programOf s)) n j
+Inv-loop s index n j₀ j = Passing (qual-rules (placeOf s) (programOf s)) n j
 
 abbrev μ-loop : tie.MeasureT-loop
-μ-loop s n j₀ j = n - j
+μ-loop s index n j₀ j = n - j
 
 loop-holds : tie.Need-loop-holds Inv-loop μ-loop
 loop-holds c = pass-start _ _

@@ -4,15 +4,15 @@ use native.Mathlib.Omega.{arith}
 use borrow.Author.Needs.{needs}
 use Rattle.model.specs.Rules.{type-rules}
 use Rattle.model.proofs.Verdicts.{Passing, pass-start, pass-next, pass-stop, pass-end}
-use Rattle.sheet.specs.Meaning.{programOf}
+use Rattle.sheet.specs.Meaning.{programOf, placeOf}
 use Rattle.access.proofs.passes.types_access.Statement.{statement}
 use Rattle.access.proofs.passes.types_access.Tie as tie
 
 abbrev Inv-loop : tie.InvT-loop
-Inv-loop s n i₀ i = Passing (type-rules (programOf s)) n i
+Inv-loop s index n i₀ i = Passing (type-rules (placeOf s) (programOf s)) n i
 
 abbrev μ-loop : tie.MeasureT-loop
-μ-loop s n i₀ i = n - i
+μ-loop s index n i₀ i = n - i
 
 loop-holds : tie.Need-loop-holds Inv-loop μ-loop
 loop-holds c = pass-start _ _

@@ -17,7 +17,7 @@ refused-requires c κs = search needs
 returns : tie.Need-returns
 unfolding verdict variable-rule variable-rules
 returns c =
-    rw (c .refused .ensures, c .before .variable-at .ensures, c .before .before .variable-number .ensures, c .before .before .before .before .pre)
+    rw (c .refused .ensures, c .before .variable-at .ensures, c .before .before .variable-number .ensures, c .before .before .before .before .pre .1)
 
 pub variable-access-spec : {M : Type 1} → statement M
 variable-access-spec =

@@ -5,15 +5,15 @@ use borrow.Author.Needs.{needs}
 use Rattle.model.specs.Rules.{variable-rules}
 use Rattle.model.proofs.Verdicts.{Passing, pass-start, pass-next, pass-stop, pass-end}
 use Rattle.sheet.specs.Layout.{variablesAt}
-use Rattle.sheet.specs.Meaning.{programOf}
+use Rattle.sheet.specs.Meaning.{programOf, placeOf}
 use Rattle.access.proofs.passes.variables_access.Statement.{statement}
 use Rattle.access.proofs.passes.variables_access.Tie as tie
 
 abbrev Inv-loop : tie.InvT-loop
-Inv-loop s p pr n x₀ x = Passing (variable-rules (programOf s) p) n x
+Inv-loop s index p pr n x₀ x = Passing (variable-rules (placeOf s) (programOf s) p) n x
 
 abbrev μ-loop : tie.MeasureT-loop
-μ-loop s p pr n x₀ x = n - x
+μ-loop s index p pr n x₀ x = n - x
 
 byte-requires : tie.Need-byte-requires Inv-loop μ-loop
 byte-requires c κs = search needs

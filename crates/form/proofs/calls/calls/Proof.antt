@@ -1,4 +1,4 @@
--- The loop over the procedures: what is left to say is the verdict from the present one on. The table holds where each one stands.
+-- The loop over the procedures: what is left to say is the verdict from the present one on. The index says where each one stands.
 use Prim.Native.Nat.{ℕ, _-_}
 use mathlib.Core.Path.{_≡_, ap, _∙_}
 use native.Mathlib.Omega.{arith}
@@ -7,24 +7,20 @@ use Rattle.model.specs.Refusal.{verdict, each}
 use Rattle.model.proofs.Verdicts.{Passing, pass-start, pass-next, pass-stop, pass-end}
 use Rattle.sheet.specs.Layout.{instructionsAt}
 use Rattle.form.specs.WellFormed.{call-tests, calls-tests, procedure-calls}
-use Rattle.form.proofs.Laws.{placed}
 use Rattle.form.proofs.calls.calls.Statement.{statement}
 use Rattle.form.proofs.calls.calls.Tie as tie
 
 abbrev Inv-loop : tie.InvT-loop
-Inv-loop s table n p₀ p = Passing (procedure-calls s) n p
+Inv-loop s index n p₀ p = Passing (procedure-calls s) n p
 
 abbrev μ-loop : tie.MeasureT-loop
-μ-loop s table n p₀ p = n - p
+μ-loop s index n p₀ p = n - p
 
 loop-holds : tie.Need-loop-holds Inv-loop μ-loop
 loop-holds c = pass-start _ _
 
-mul-calls-pass : tie.Need-mul-calls-pass Inv-loop μ-loop
-mul-calls-pass c = omega arith
-
-element-copy-out-calls-pass : tie.Need-element-copy-out-calls-pass Inv-loop μ-loop
-element-copy-out-calls-pass c = omega arith
+place-of-requires : tie.Need-place-of-requires Inv-loop μ-loop
+place-of-requires c κs = search needs
 
 calls-pass-requires : tie.Need-calls-pass-requires Inv-loop μ-loop
 calls-pass-requires c κs = search needs
@@ -43,7 +39,7 @@ as-defined c =
     let l = c .before .before .before in
     let a = l .before .before in
     let s = a .args .s .now in
-    let at = placed s (a .args .table .now) (a .pre .0) (l .loop .p) (omega arith) (omega arith) in
+    let at = c .before .place-of .ensures ∙ a .pre .0 .places (l .loop .p) (omega arith) (omega arith) in
     c .calls-pass .ensures ∙ ap (λ (pr : ℕ). verdict (each (instructionsAt s pr) (call-tests s pr))) at
 
 returns : tie.Need-returns Inv-loop μ-loop
@@ -75,8 +71,7 @@ calls-spec =
     Inv-loop
     μ-loop
     loop-holds
-    mul-calls-pass
-    element-copy-out-calls-pass
+    place-of-requires
     calls-pass-requires
     enum-told
     enum-told-2

@@ -12,10 +12,10 @@ use Rattle.form.proofs.calls.calls_pass.Statement.{statement}
 use Rattle.form.proofs.calls.calls_pass.Tie as tie
 
 abbrev Inv-loop : tie.InvT-loop
-Inv-loop s table pr vars n first i₀ i = Passing (call-tests s pr) n i
+Inv-loop s index pr vars n first i₀ i = Passing (call-tests s pr) n i
 
 abbrev μ-loop : tie.MeasureT-loop
-μ-loop s table pr vars n first i₀ i = n - i
+μ-loop s index pr vars n first i₀ i = n - i
 
 byte-requires : tie.Need-byte-requires Inv-loop μ-loop
 byte-requires c κs = search needs

@@ -1,4 +1,4 @@
--- The first pass that refuses is the verdict, else the last one is. An accepted header has at most 64 procedures, which the table has room for;
+-- The first pass that refuses is the verdict, else the last one is. An accepted header has at most 64 procedures, which the index has room for;
 -- accepted procedures end with an IN, after which `leftover` asks what is left.
 use mathlib.Core.Path.{sym, ap, _∙_}
 use native.Mathlib.Omega.{arith}
@@ -6,7 +6,7 @@ use borrow.Author.Needs.{needs}
 use Rattle.model.proofs.Verdicts.{stop-here, go-on}
 use Rattle.sheet.specs.Layout.{typesOf, qualsOf, proceduresOf, procedureAt}
 use Rattle.form.specs.WellFormed.{layout-tests}
-use Rattle.form.proofs.Laws.{placed, header-small}
+use Rattle.form.proofs.Laws.{header-small}
 use Rattle.form.proofs.Procedures.{last-record}
 use Rattle.form.proofs.layout.layout.Statement.{statement}
 use Rattle.form.proofs.layout.layout.Tie as tie
@@ -118,15 +118,8 @@ returns-5 c =
     (go-on _ _ _ _ quals (q .enum-told7 .given .1)
     (stop-here _ _ _ _ _ procedures (c .enum-told10 .given .1)))))
 
-mul-leftover : tie.Need-mul-leftover
-mul-leftover c = search needs
-
-element-copy-out-leftover : tie.Need-element-copy-out-leftover
-unfolding proceduresOf
-element-copy-out-leftover c =
-    let h = c .before .before .before .before .before .before .before .before .before .before .before .before in
-    let small = header-small _ (sym (h .before .before .header .ensures) ∙ h .enum-told3 .given .1) in
-    omega (arith, small .3, c .before .before .before .byte3 .ensures)
+place-of-requires : tie.Need-place-of-requires
+place-of-requires c κs = search needs
 
 leftover-requires : tie.Need-leftover-requires
 unfolding proceduresOf
@@ -139,7 +132,7 @@ leftover-requires c κs =
     let small = header-small s (sym (h .before .before .header .ensures) ∙ h .enum-told3 .given .1) in
     let e = n .before .before .before .byte3 .ensures in
     let procedures = rw e at (n .before .before .procedures-pass .ensures) in
-    let end = placed s (a .args .table .now) (a .pre) k (omega (arith, e)) (omega (arith, e, small .3)) in
+    let end = c .place-of .ensures ∙ a .pre .places k (omega (arith, e)) (omega (arith, e, small .3)) in
     last-record s (sym procedures ∙ n .enum-told9 .given .1) (small .2) _ (end ∙ ap (procedureAt s) e)
 
 returns-6 : tie.Need-returns-6
@@ -157,7 +150,7 @@ returns-6 c =
     let types = rw (t .before .before .before .byte .ensures) at (t .before .before .types-pass .ensures) in
     let quals = rw (q .before .before .before .byte2 .ensures) at (q .before .before .quals-pass .ensures) in
     let procedures = rw e at (n .before .before .procedures-pass .ensures) in
-    let end = placed s (a .args .table .now) (a .pre) k (omega (arith, e)) (omega (arith, e, small .3)) in
+    let end = c .before .place-of .ensures ∙ a .pre .places k (omega (arith, e)) (omega (arith, e, small .3)) in
     let over = rw (end, e) at (c .leftover .ensures) in
     go-on _ _ _ _ (h .before .before .before .before .before .overlong .ensures) (h .before .before .before .enum-told .given .1)
     (go-on _ _ _ _ (h .before .before .header .ensures) (h .enum-told3 .given .1)
@@ -193,7 +186,6 @@ layout-spec =
     enum-told-9
     enum-told-10
     returns-5
-    mul-leftover
-    element-copy-out-leftover
+    place-of-requires
     leftover-requires
     returns-6)

@@ -1,9 +1,6 @@
 -- The bytes and the word that the calls ensure.
-use Rattle.sheet.specs.Layout.{slotsOf}
-use Rattle.sheet.specs.Layout.{ownerAt}
-use Rattle.sheet.specs.Layout.{instructionsAt}
-use Rattle.sheet.specs.Layout.{variablesAt}
 use borrow.Author.Needs.{needs}
+use Rattle.sheet.specs.Layout.{slotsOf, ownerAt, instructionsAt, variablesAt}
 use Rattle.form.proofs.layout.limits_at.Statement.{statement}
 use Rattle.form.proofs.layout.limits_at.Tie as tie
 

@@ -1,4 +1,4 @@
--- The loop over the procedures: what is left to say is the verdict from the present one on. The table holds where each one stands.
+-- The loop over the procedures: what is left to say is the verdict from the present one on. The index says where each one stands.
 use Prim.Native.Nat.{ℕ, _-_}
 use mathlib.Core.Path.{_≡_, ap, _∙_}
 use native.Mathlib.Omega.{arith}
@@ -6,24 +6,20 @@ use borrow.Author.Needs.{needs}
 use Rattle.model.specs.Refusal.{verdict}
 use Rattle.model.proofs.Verdicts.{Passing, pass-start, pass-next, pass-stop, pass-end}
 use Rattle.form.specs.WellFormed.{procedure-tests-at, procedure-tests}
-use Rattle.form.proofs.Laws.{placed}
 use Rattle.form.proofs.layout.procedures_pass.Statement.{statement}
 use Rattle.form.proofs.layout.procedures_pass.Tie as tie
 
 abbrev Inv-loop : tie.InvT-loop
-Inv-loop s table n p₀ p = Passing (procedure-tests s) n p
+Inv-loop s index n p₀ p = Passing (procedure-tests s) n p
 
 abbrev μ-loop : tie.MeasureT-loop
-μ-loop s table n p₀ p = n - p
+μ-loop s index n p₀ p = n - p
 
 loop-holds : tie.Need-loop-holds Inv-loop μ-loop
 loop-holds c = pass-start _ _
 
-mul-procedure-pass : tie.Need-mul-procedure-pass Inv-loop μ-loop
-mul-procedure-pass c = omega arith
-
-element-copy-out-procedure-pass : tie.Need-element-copy-out-procedure-pass Inv-loop μ-loop
-element-copy-out-procedure-pass c = omega arith
+place-of-requires : tie.Need-place-of-requires Inv-loop μ-loop
+place-of-requires c κs = search needs
 
 procedure-pass-requires : tie.Need-procedure-pass-requires Inv-loop μ-loop
 procedure-pass-requires c κs = search needs
@@ -41,7 +37,7 @@ unfolding procedure-tests
 as-defined c =
     let l = c .before .before .before in
     let a = l .before .before in
-    let at = placed (a .args .s .now) (a .args .table .now) (a .pre .0) (l .loop .p) (omega arith) (omega arith) in
+    let at = c .before .place-of .ensures ∙ a .pre .0 .places (l .loop .p) (omega arith) (omega arith) in
     c .procedure-pass .ensures ∙ ap (λ (pr : ℕ). verdict (procedure-tests-at (a .args .s .now) (l .loop .p) pr)) at
 
 returns : tie.Need-returns Inv-loop μ-loop
@@ -70,8 +66,7 @@ procedures-pass-spec =
     Inv-loop
     μ-loop
     loop-holds
-    mul-procedure-pass
-    element-copy-out-procedure-pass
+    place-of-requires
     procedure-pass-requires
     enum-told
     enum-told-2

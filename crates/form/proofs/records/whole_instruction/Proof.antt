@@ -1,11 +1,11 @@
 -- The fields read are those of the definition, and the record stands whole; each way through the other tests is a way through the definition.
 use mathlib.Core.Path.{sym, ap, _∙_}
+use native.Mathlib.Omega.{arith}
+use borrow.Author.Needs.{needs}
 use Rattle.model.specs.Refusal.{verdict, refuse, failure}
 use Rattle.limits.specs.Scale.{instruction-scale}
 use Rattle.form.specs.WellFormed.{record-tests, instruction-tests-at}
 use Rattle.form.proofs.Laws.{whole-here, mark-here}
-use native.Mathlib.Omega.{arith}
-use borrow.Author.Needs.{needs}
 use Rattle.form.proofs.records.whole_instruction.Statement.{statement}
 use Rattle.form.proofs.records.whole_instruction.Tie as tie
 

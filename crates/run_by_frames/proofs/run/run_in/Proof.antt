@@ -47,7 +47,7 @@ returns c =
 open-main-requires : tie.Need-open-main-requires
 open-main-requires c κs =
     let pre = c .before .before .before .before .before .before .before .before .pre in
-    (pre .0, (main-variables (c .before .before), (omega arith, pre .1 .0)))
+    (pre .0, ((main-variables (c .before .before), omega arith), (omega arith, pre .1 .0)))
 
 -- where the run stands with main's frame open
 going : (c : tie.After-open-main)

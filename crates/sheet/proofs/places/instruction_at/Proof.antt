@@ -28,7 +28,7 @@ add-result-3 c = search needs
 
 returns : tie.Need-returns
 unfolding instructionAt variableAt variablesAt
-returns c = (rw (c .byte .ensures), omega arith)
+returns c = (omega (arith, c .byte .ensures), omega arith)
 
 pub instruction-at-spec : {M : Type 1} → statement M
 instruction-at-spec =

@@ -1,5 +1,5 @@
 -- The code is the definition.
-use mathlib.Core.Path.{refl}
+use native.Mathlib.Omega.{arith}
 use borrow.Author.Needs.{needs}
 use Rattle.sheet.specs.Layout.{variableAt}
 use Rattle.sheet.proofs.places.variable_at.Statement.{statement}
@@ -16,7 +16,7 @@ add-result-2 c = search needs
 
 returns : tie.Need-returns
 unfolding variableAt
-returns c = refl
+returns c = omega arith
 
 pub variable-at-spec : {M : Type 1} → statement M
 variable-at-spec = tie.close (tie.spec mul-result add-result add-result-2 returns)

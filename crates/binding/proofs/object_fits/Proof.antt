@@ -1,0 +1,58 @@
+-- By the tag of the head: an array's, a record's, or none.
+use mathlib.Core.Path.{sym, _∙_}
+use borrow.Author.Needs.{needs}
+use Rattle.binding.proofs.Laws.{fits-array, fits-record, fits-nothing}
+use Rattle.binding.proofs.object_fits.Statement.{statement}
+use Rattle.binding.proofs.object_fits.Tie as tie
+
+base-in-requires : tie.Need-base-in-requires
+base-in-requires c κs = search needs
+
+kind-in-requires : tie.Need-kind-in-requires
+kind-in-requires c κs = search needs
+
+tag-of-requires : tie.Need-tag-of-requires
+tag-of-requires c κs = search needs
+
+element-in-requires : tie.Need-element-in-requires
+element-in-requires c κs = search needs
+
+equal-requires : tie.Need-equal-requires
+equal-requires c κs = search needs
+
+returns : tie.Need-returns
+returns c =
+    let tag-of = c .before .before .before .tag-of in
+    let match = c .before .before .match in
+    let pre = c .before .before .before .before .before .before .pre in
+    let base-in = c .before .before .before .before .before .base-in in
+    let kind-in = c .before .before .before .before .kind-in in
+    let element-in = c .before .element-in in
+    let equal = c .equal in
+    fits-array _ _ _ (sym (tag-of .ensures) ∙ match .keys1) (pre) (base-in .ensures) (kind-in .ensures) (element-in .ensures) (equal .ensures)
+
+returns-2 : tie.Need-returns-2
+returns-2 c =
+    let tag-of = c .before .tag-of in
+    let match = c .match in
+    let pre = c .before .before .before .before .pre in
+    let base-in = c .before .before .before .base-in in
+    let kind-in = c .before .before .kind-in in
+    fits-record _ _ _ (sym (tag-of .ensures) ∙ match .keys2) (pre) (base-in .ensures) (kind-in .ensures)
+
+returns-3 : tie.Need-returns-3
+returns-3 c =
+    fits-nothing _ _ _ (λ t. c .match .rest .0 .1 (c .before .tag-of .ensures ∙ t)) (λ t. c .match .rest .1 (c .before .tag-of .ensures ∙ t))
+
+pub object-fits-spec : {M : Type 1} → statement M
+object-fits-spec =
+    tie.close
+    (tie.spec
+    base-in-requires
+    kind-in-requires
+    tag-of-requires
+    element-in-requires
+    equal-requires
+    returns
+    returns-2
+    returns-3)

@@ -1,0 +1,159 @@
+-- `at` stays at procedure i's place, which is small; the words of the procedures below i are filled, and none before them has changed.
+use Prim.Native.Nat.{ℕ, _+_, _*_, _-_, _^_, _<_, _≤_}
+use lib.Seq.{getD-set-other}
+use borrow.Author.Tests.{lt-ltb}
+use mathlib.Core.Path.{_≡_, refl, sym, ap, _∙_}
+use mathlib.Core.Logic.{⊎-elim}
+use lib.ListN.{length, getD, set, length-set}
+use Rattle.sheet.specs.Layout.{proceduresOf, procedureAt, qualsOf, instructionsAt, instructionAt}
+use Rattle.sheet.proofs.Laws.{both-below, one-passed, procedure-next}
+use Rattle.index.specs.Indexed.{ProcedureWord}
+use Rattle.index.specs.Procedures.{place-of, procedure-in}
+use Rattle.index.proofs.Filling.{filled-more, other-kept, small-place}
+use native.Mathlib.Omega.{arith}
+use borrow.Author.Needs.{needs}
+use Rattle.index.proofs.make.fill_procedures.Statement.{statement}
+use Rattle.index.proofs.make.fill_procedures.Tie as tie
+
+abbrev Inv-loop : tie.InvT-loop
+Inv-loop s index₀ p at₀ i₀ index at i =
+    (i ≤ p) × (i ≤ 64) × (length index ≡ 129) × (at ≡ procedureAt s i) × (at ≤ 5000 + i * 600000)
+    × ((k : ℕ) → k < i → ProcedureWord s (procedureAt s k) (getD index (64 + k) 0)) × ((k : ℕ) → k < 64 → getD index k 0 ≡ getD index₀ k 0)
+
+abbrev μ-loop : tie.MeasureT-loop
+μ-loop s index₀ p at₀ i₀ index at i = 64 - i
+
+byte-requires : tie.Need-byte-requires Inv-loop μ-loop
+byte-requires c κs = search needs
+
+cast-p : tie.Need-cast-p Inv-loop μ-loop
+cast-p c =
+    omega arith
+
+byte-requires-2 : tie.Need-byte-requires-2 Inv-loop μ-loop
+byte-requires-2 c κs = search needs
+
+qual-at-requires : tie.Need-qual-at-requires Inv-loop μ-loop
+qual-at-requires c κs = search needs
+
+cast-at : tie.Need-cast-at Inv-loop μ-loop
+cast-at c =
+    omega arith
+
+loop-holds : tie.Need-loop-holds Inv-loop μ-loop
+unfolding procedureAt qualsOf
+loop-holds c =
+    (omega arith, omega arith, c .before .before .before .before .pre, rw (c .qual-at .ensures .0, c .before .byte2 .ensures), omega arith, λ k l. absurd (omega arith), λ k l. refl)
+
+procedure-entry-requires : tie.Need-procedure-entry-requires Inv-loop μ-loop
+procedure-entry-requires c κs = search needs
+
+add-index : tie.Need-add-index Inv-loop μ-loop
+add-index c = search needs
+
+mul-index : tie.Need-mul-index Inv-loop μ-loop
+mul-index c = search needs
+
+element-write-index : tie.Need-element-write-index Inv-loop μ-loop
+element-write-index c = search needs
+
+cast-word : tie.Need-cast-word Inv-loop μ-loop
+cast-word c =
+    omega arith
+
+word-requires : tie.Need-word-requires Inv-loop μ-loop
+word-requires c κs = search needs
+
+instruction-at-requires : tie.Need-instruction-at-requires Inv-loop μ-loop
+instruction-at-requires c κs = search needs
+
+cast-at-2 : tie.Need-cast-at-2 Inv-loop μ-loop
+cast-at-2 c =
+    omega (arith, c .instruction-at .ensures .1)
+
+add-i : tie.Need-add-i Inv-loop μ-loop
+add-i c = search needs
+
+loop-less : tie.Need-loop-less Inv-loop μ-loop
+loop-less c =
+    let l = c .before .before .before .before in
+    let b = both-below (l .loop .i) (l .before .before .before .byte .result) 64 (c .before .before .before .loop-test .taken) in
+    omega arith
+
+loop-again : tie.Need-loop-again Inv-loop μ-loop
+unfolding instructionsAt
+loop-again c =
+    let l = c .before .before .before .before .loop in
+    let d = c .before .before .before .before .before .before .before in
+    let s = d .before .before .args .s .now in
+    let b = both-below (l .i) (d .byte .result) 64 (c .before .before .before .loop-test .taken) in
+    let here = l .inv .3 in
+    let w = c .before .before .procedure-entry .result in (
+      omega arith,
+      omega arith,
+      simp length-set (l .inv .2),
+      c .instruction-at .ensures .0 ∙ ap (instructionAt s (l .at)) (c .before .word .ensures) ∙ procedure-next s (l .i) (l .at) here,
+      omega (arith, c .instruction-at .ensures .1, l .inv .4),
+      filled-more (λ k. ProcedureWord s (procedureAt s k)) (λ n. 64 + n) (l .i) w (l .index) (omega (arith, l .inv .2)) (λ n m e. omega arith) (rw (sym here) (c .before .before .procedure-entry .ensures)) (l .inv .5),
+      λ k h. other-kept (l .index) (d .before .before .args .index .now) (64 + l .i) w k (λ e. omega arith) (l .inv .6 k h),
+    )
+
+cast-index : tie.Need-cast-index Inv-loop μ-loop
+cast-index c = search needs
+
+add-index-2 : tie.Need-add-index-2 Inv-loop μ-loop
+add-index-2 c = search needs
+
+mul-index-2 : tie.Need-mul-index-2 Inv-loop μ-loop
+mul-index-2 c = search needs
+
+element-write-index-2 : tie.Need-element-write-index-2 Inv-loop μ-loop
+element-write-index-2 c = search needs
+
+returns : tie.Need-returns Inv-loop μ-loop
+unfolding proceduresOf procedure-in
+returns c =
+    let l = c .before .loop in
+    let d = c .before .before .before .before in
+    let s = d .before .before .args .s .now in
+    let past = one-passed (l .i) (d .byte .result) 64 (c .loop-test .left) in
+    let small : l .at < 2 ^ 32 = omega (arith, l .inv .4) in
+    let placed = filled-more (λ k w. place-of w ≡ procedureAt s k) (λ n. 64 + n) (l .i) (l .at) (l .index) (omega (arith, l .inv .2)) (λ n m e. omega arith)
+    (small-place (l .at) small ∙ l .inv .3) (λ k h. l .inv .5 k h .place) in
+    record {
+      places = λ k h m. rw (lt-ltb k 65 (omega arith)) (placed k (⊎-elim (λ p. omega (arith, d .byte .ensures)) (λ p. omega arith) past));
+      procedures = λ k h m.
+          let b : k < l .i = ⊎-elim (λ p. omega (arith, d .byte .ensures)) (λ p. omega arith) past in
+          let n : 64 + k ≡ 64 + l .i → ⊥ = (λ e. omega arith) in
+          rw (lt-ltb k 65 (omega arith), getD-set-other (l .index) (64 + l .i) (64 + k) (l .at) 0 n) (l .inv .5 k b);
+      below = λ k h. other-kept (l .index) (d .before .before .args .index .now) (64 + l .i) (l .at) k (λ e. omega arith) (l .inv .6 k h);
+    }
+
+pub fill-procedures-spec : {M : Type 1} → statement M
+fill-procedures-spec =
+    tie.close
+    (tie.spec
+    Inv-loop
+    μ-loop
+    byte-requires
+    cast-p
+    byte-requires-2
+    qual-at-requires
+    cast-at
+    loop-holds
+    procedure-entry-requires
+    add-index
+    mul-index
+    element-write-index
+    cast-word
+    word-requires
+    instruction-at-requires
+    cast-at-2
+    add-i
+    loop-less
+    loop-again
+    cast-index
+    add-index-2
+    mul-index-2
+    element-write-index-2
+    returns)

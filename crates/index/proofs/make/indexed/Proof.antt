@@ -1,0 +1,26 @@
+-- The words of the procedures leave those of the types as they were filled, and what was not filled is 0.
+use mathlib.Core.Path.{_∙_}
+use Rattle.index.proofs.Filling.{zeros}
+use borrow.Author.Needs.{needs}
+use Rattle.index.proofs.make.indexed.Statement.{statement}
+use Rattle.index.proofs.make.indexed.Tie as tie
+
+fill-types-requires : tie.Need-fill-types-requires
+fill-types-requires c κs = search needs
+
+fill-procedures-requires : tie.Need-fill-procedures-requires
+fill-procedures-requires c κs = search needs
+
+returns : tie.Need-returns
+returns c =
+    let p = c .fill-procedures .ensures in
+    let q = c .before .before .fill-types .ensures in
+    record {
+      types = λ j h m. rw (p .below j m) (q .types j h m);
+      no-types = λ j h m. p .below j m ∙ q .others j h ∙ zeros 129 j;
+      places = p .places;
+      procedures = p .procedures;
+    }
+
+pub indexed-spec : {M : Type 1} → statement M
+indexed-spec = tie.close (tie.spec fill-types-requires fill-procedures-requires returns)

@@ -1,0 +1,16 @@
+-- The quotient is the definition's.
+use Rattle.index.specs.Procedures.{variables-of}
+use mathlib.Core.Path.{refl}
+use borrow.Author.Needs.{needs}
+use Rattle.index.proofs.procedures.variables_in.Statement.{statement}
+use Rattle.index.proofs.procedures.variables_in.Tie as tie
+
+cast-result : tie.Need-cast-result
+cast-result c = search needs
+
+returns : tie.Need-returns
+unfolding variables-of
+returns c = refl
+
+pub variables-in-spec : {M : Type 1} → statement M
+variables-in-spec = tie.close (tie.spec cast-result returns)
