@@ -17,6 +17,6 @@ place-in r = r .first + 8 * r .next
 pub record Fetchable (s : List ℕ) (r : Registers) : Type 0 where
   pub whole : place-in r + 8 ≤ length s
   pub first : r .first ≤ length s
-  pub next : r .next < 65536
+  pub next : r .next < 1000
   pub callee-there : callee (operationAt s (place-in r)) < proceduresOf s
   pub actuals : (a b k : ℕ) → operationAt s (place-in r) ≡ Call a b k → (j : ℕ) → j < formalsAt s (procedureAt s k) → b + j < r .variables

@@ -1,29 +1,28 @@
 // Frames: opened by a call below the running one, given back by a return.
-use sheet::bytes::byte;
+use words::back_kept;
+use words::back_next;
+use words::back_procedure;
+use words::back_word;
 use words::clear;
+use words::extent_variables;
+use words::extent_word;
 use words::low_of;
-use words::name_of;
-use words::place_word;
 use words::read;
 use words::write;
 use writers::Registers;
 use writers::Stepped;
 ghost use mathlib.Core.Path.{_≡_};
-ghost use mathlib.Core.Bool.{cond};
 ghost use mathlib.Core.List.{List};
-ghost use mathlib.Core.Option.{none};
-ghost use Prim.Native.Nat.{ℕ, pred, _+_, _-_, _*_, _^_, _≤_, _<_};
-ghost use lib.Dec.{eqb};
+ghost use Prim.Native.Nat.{ℕ, _+_, _-_, _*_, _^_, _≤_, _<_};
 ghost use lib.ListN.{length};
+ghost use Rattle.model.specs.Qualified.{Qual};
 ghost use Rattle.model.specs.Modes.{Mode, plain};
-ghost use Rattle.model.specs.Machine.{kept};
-ghost use Rattle.model.specs.Rules.{optional};
 ghost use Rattle.model.specs.declared.Operation.the-variants.{Call, Return};
-ghost use Rattle.sheet.specs.Layout.{proceduresOf, formalsAt, variablesAt, instructionAt};
-ghost use Rattle.sheet.specs.Decode.{operationAt};
+ghost use Rattle.sheet.specs.Layout.{formalsAt, variablesAt, instructionAt};
+ghost use Rattle.words.specs.Word.{back, extent, slot-in};
 ghost use Rattle.writers.specs.Memory.{Sane};
 ghost use Rattle.frames.specs.Performs.{Loaded, PerformsInside};
-ghost use Rattle.frames.specs.Frames.{Copies, Callable, Opened, Waits, Reached, Keeps};
+ghost use Rattle.frames.specs.Frames.{Copies, Callable, Opened, Waits, Reached, KeptIn, Keeps};
 
 // n filled words are copied to a place below; false where one is blank.
 fn copy_filled(memory: &mut [u64], from: usize, to: usize, n: usize) -> bool
@@ -43,20 +42,44 @@ fn copy_filled(memory: &mut [u64], from: usize, to: usize, n: usize) -> bool
     true
 }
 
+// The two words that tell of the running frame while it waits behind a call that keeps variable a.
+fn back_of(r: Registers, a: u8) -> u64
+    requires { ⌜ (r .procedure < 64) × (r .next < 1000) ⌝ }
+    ensures { λ w. ⌜ ((m : Mode) (q : ℕ → Qual) → slot-in m q w ≡ back (r .procedure) (r .next + 1) a) ⌝ }
+{
+    back_word(r.procedure as u8, (r.next + 1) as u32, a)
+}
+
+fn extent_of(r: Registers) -> u64
+    requires { ⌜ (r .variables < 256) × (r .first < 2 ^ 32) ⌝ }
+    ensures { λ w. ⌜ ((m : Mode) (q : ℕ → Qual) → slot-in m q w ≡ extent (r .variables) (r .first)) ⌝ }
+{
+    extent_word(r.variables as u8, r.first as u32)
+}
+
 // The frame of procedure k, whose instructions start at `first`, with v variables: the first f of them stand at its place already, the others are blank.
-pub fn open(memory: &mut [u64], r: Registers, k: usize, first: usize, v: usize, f: u8) -> Registers
+// The running frame waits behind a call that keeps variable a; 255 is none.
+pub fn open(
+    memory: &mut [u64],
+    r: Registers,
+    a: u8,
+    k: usize,
+    first: usize,
+    v: usize,
+    f: u8,
+) -> Registers
     requires { ⌜ Sane (length (now memory)) r ⌝ }
-    requires { ⌜ (r .next < 65536) × (r .first < 2 ^ 32) ⌝ }
-    requires { ⌜ v + 2 ≤ r .base - r .used ⌝ }
+    requires { ⌜ (r .next < 1000) × (r .first < 2 ^ 32) ⌝ }
+    requires { ⌜ (v < 256) × (v + 2 ≤ r .base - r .used) ⌝ }
     requires { ⌜ f ≤ v ⌝ }
-    ensures { λ q. ⌜ ((m : Mode) → Opened m (now (memory .entry)) (now (memory .exit)) r q k first v f) ⌝ }
+    ensures { λ q. ⌜ ((m : Mode) → Opened m (now (memory .entry)) (now (memory .exit)) r q a k first v f) ⌝ }
 {
     let at = r.base - (v + 2);
     let rest = at + (f as usize);
     let end = at + v;
     clear(&mut memory[rest..end]);
-    memory[end] = place_word(r.procedure as u32, (r.next + 1) as u32);
-    memory[end + 1] = place_word(r.variables as u32, r.first as u32);
+    memory[end] = back_of(r, a);
+    memory[end + 1] = extent_of(r);
     Registers {
         procedure: k,
         next: 0,
@@ -98,12 +121,20 @@ fn header_at(s: &[u8], pr: u32) -> Header
     }
 }
 
-// A call of procedure k with variables from b on: 17, then 13 for a blank actual.
-pub fn call(s: &[u8], table: &[u32; 65], memory: &mut [u64], r: Registers, b: u8, k: u16) -> Stepped
+// A call of procedure k with variables from b on, which keeps variable a: 17, then 13 for a blank actual.
+pub fn call(
+    s: &[u8],
+    table: &[u32; 65],
+    memory: &mut [u64],
+    r: Registers,
+    a: u8,
+    b: u8,
+    k: u16,
+) -> Stepped
     requires { ⌜ Loaded (now s) (now table) ⌝ }
     requires { ⌜ Sane (length (now memory)) r ⌝ }
-    requires { ⌜ Callable (now s) r b k ⌝ }
-    ensures { λ o. ⌜ ((a : ℕ) → PerformsInside plain (now (s .entry)) (now (memory .entry)) (now (memory .exit)) r o (Call a b k)) ⌝ }
+    requires { ⌜ Callable (now s) r a b k ⌝ }
+    ensures { λ o. ⌜ PerformsInside plain (now (s .entry)) (now (memory .entry)) (now (memory .exit)) r o (Call a b k) ⌝ }
 {
     let pr = header_at(s, table[k as usize]);
     let f = pr.formals;
@@ -114,7 +145,7 @@ pub fn call(s: &[u8], table: &[u32; 65], memory: &mut [u64], r: Registers, b: u8
     }
     let from = if f == 0 { 0 } else { b };
     if copy_filled(memory, base + (from as usize), base - (v + 2), f as usize) {
-        return Stepped::Enter(open(memory, r, k as usize, pr.first, v, f));
+        return Stepped::Enter(open(memory, r, a, k as usize, pr.first, v, f));
     }
     Stepped::Halt(13)
 }
@@ -122,17 +153,17 @@ pub fn call(s: &[u8], table: &[u32; 65], memory: &mut [u64], r: Registers, b: u8
 // The registers of the frame that waits, where there is one.
 pub fn waiting(memory: &[u64], r: Registers) -> Registers
     requires { ⌜ r .base + (r .variables + 2) < length (now memory) ⌝ }
-    ensures { λ b. ⌜ ((m : Mode) (s : List ℕ) → proceduresOf s ≤ 64 → Waits m s (now (memory .entry)) r b) ⌝ }
+    ensures { λ b. ⌜ ((m : Mode) → Waits m (now (memory .entry)) r b) ⌝ }
     ensures { λ b. ⌜ Reached (length (now (memory .entry))) b ⌝ }
 {
     let above = r.base + (r.variables + 2);
     let place = memory[above - 2];
-    let more = memory[above - 1];
+    let extent = memory[above - 1];
     Registers {
-        procedure: (name_of(place) % 64) as usize,
-        next: low_of(place) as usize,
-        first: low_of(more) as usize,
-        variables: name_of(more) as usize,
+        procedure: back_procedure(place) as usize,
+        next: back_next(place) as usize,
+        first: low_of(extent) as usize,
+        variables: extent_variables(extent) as usize,
         base: above,
         used: r.used,
         taken: r.taken,
@@ -141,24 +172,12 @@ pub fn waiting(memory: &[u64], r: Registers) -> Registers
     }
 }
 
-// The variable that an instruction names for its result; 255 where it is no call.
-fn kept_by(code: u8, a: u8) -> u8
-    ensures { λ r. ⌜ optional r ≡ cond (eqb code 16) (optional a) none ⌝ }
+// The variable that the call of the frame that waits keeps, where there is one; 255 is none.
+pub fn kept_in(memory: &[u64], r: Registers) -> u8
+    requires { ⌜ r .base + (r .variables + 2) < length (now memory) ⌝ }
+    ensures { λ a. ⌜ ((m : Mode) → KeptIn m (now (memory .entry)) r a) ⌝ }
 {
-    if code == 16 { a } else { 255 }
-}
-
-// The variable that the call before a frame's next instruction names for its result; 255 where it names none. Of an accepted sheet the record stands whole.
-pub fn kept_at(s: &[u8], b: Registers) -> u8
-    requires { ⌜ (b .first < 2 ^ 32) × (b .next < 2 ^ 32) ⌝ }
-    ensures { λ a. ⌜ optional a ≡ kept (operationAt (now (s .entry)) (b .first + 8 * pred (b .next))) ⌝ }
-{
-    let before = if b.next == 0 { 0 } else { b.next - 1 };
-    let at = b.first + 8 * before;
-    if at + 8 <= s.len() {
-        return kept_by(s[at + 2], s[at + 3]);
-    }
-    kept_by(byte(s, at, 2), byte(s, at, 3))
+    back_kept(memory[r.base + r.variables])
 }
 
 // Variable a of a frame becomes a word; one that it has not does not.
@@ -172,10 +191,9 @@ pub fn keep(memory: &mut [u64], b: Registers, a: u8, w: u64)
 }
 
 // A return of variable a; 255 is none. Where the frame that waits keeps what is not there the definition is stuck.
-pub fn give_back(s: &[u8], memory: &mut [u64], r: Registers, a: u8) -> Stepped
-    requires { ⌜ proceduresOf (now s) ≤ 64 ⌝ }
+pub fn give_back(memory: &mut [u64], r: Registers, a: u8) -> Stepped
     requires { ⌜ Sane (length (now memory)) r ⌝ }
-    ensures { λ o. ⌜ PerformsInside plain (now (s .entry)) (now (memory .entry)) (now (memory .exit)) r o (Return a) ⌝ }
+    ensures { λ o. ⌜ ((s : List ℕ) → PerformsInside plain s (now (memory .entry)) (now (memory .exit)) r o (Return a)) ⌝ }
 {
     let base = r.base;
     let end = base + r.variables;
@@ -187,7 +205,7 @@ pub fn give_back(s: &[u8], memory: &mut [u64], r: Registers, a: u8) -> Stepped
         return Stepped::Done;
     }
     let back = waiting(memory, r);
-    let kept = kept_at(s, back);
+    let kept = kept_in(memory, r);
     if kept == 255 {
         return Stepped::Enter(back);
     }

@@ -87,7 +87,7 @@ fn set_in(memory: &[u64], r: Registers, a: u8, b: u8, k: u16) -> Stored
 
 pub fn set(memory: &mut [u64], r: Registers, a: u8, k: u16) -> Stepped
     requires { ⌜ Sane (length (now memory)) r ⌝ }
-    requires { ⌜ r .next < 65536 ⌝ }
+    requires { ⌜ r .next < 1000 ⌝ }
     ensures { λ o. ⌜ ((s : List ℕ) → PerformsInside plain s (now (memory .entry)) (now (memory .exit)) r o (Op.Set a k)) ⌝ }
 {
     give_number(memory, r, a, Number::Is(k as u32))
@@ -95,7 +95,7 @@ pub fn set(memory: &mut [u64], r: Registers, a: u8, k: u16) -> Stepped
 
 pub fn add(memory: &mut [u64], r: Registers, a: u8, b: u8, c: u8) -> Stepped
     requires { ⌜ Sane (length (now memory)) r ⌝ }
-    requires { ⌜ r .next < 65536 ⌝ }
+    requires { ⌜ r .next < 1000 ⌝ }
     ensures { λ o. ⌜ ((s : List ℕ) → PerformsInside plain s (now (memory .entry)) (now (memory .exit)) r o (Op.Add a b c)) ⌝ }
 {
     let base = r.base;
@@ -106,7 +106,7 @@ pub fn add(memory: &mut [u64], r: Registers, a: u8, b: u8, c: u8) -> Stepped
 
 pub fn subtract(memory: &mut [u64], r: Registers, a: u8, b: u8, c: u8) -> Stepped
     requires { ⌜ Sane (length (now memory)) r ⌝ }
-    requires { ⌜ r .next < 65536 ⌝ }
+    requires { ⌜ r .next < 1000 ⌝ }
     ensures { λ o. ⌜ ((s : List ℕ) → PerformsInside plain s (now (memory .entry)) (now (memory .exit)) r o (Op.Subtract a b c)) ⌝ }
 {
     let base = r.base;
@@ -117,7 +117,7 @@ pub fn subtract(memory: &mut [u64], r: Registers, a: u8, b: u8, c: u8) -> Steppe
 
 pub fn less(memory: &mut [u64], r: Registers, a: u8, b: u8, c: u8) -> Stepped
     requires { ⌜ Sane (length (now memory)) r ⌝ }
-    requires { ⌜ r .next < 65536 ⌝ }
+    requires { ⌜ r .next < 1000 ⌝ }
     ensures { λ o. ⌜ ((s : List ℕ) → PerformsInside plain s (now (memory .entry)) (now (memory .exit)) r o (Op.Less a b c)) ⌝ }
 {
     let base = r.base;
@@ -128,7 +128,7 @@ pub fn less(memory: &mut [u64], r: Registers, a: u8, b: u8, c: u8) -> Stepped
 
 pub fn bind(memory: &mut [u64], r: Registers, a: u8, b: u8) -> Stepped
     requires { ⌜ Sane (length (now memory)) r ⌝ }
-    requires { ⌜ r .next < 65536 ⌝ }
+    requires { ⌜ r .next < 1000 ⌝ }
     ensures { λ o. ⌜ ((s : List ℕ) → PerformsInside plain s (now (memory .entry)) (now (memory .exit)) r o (Op.Bind a b)) ⌝ }
 {
     let base = r.base;
@@ -139,7 +139,7 @@ pub fn bind(memory: &mut [u64], r: Registers, a: u8, b: u8) -> Stepped
 
 pub fn fetch(memory: &mut [u64], r: Registers, a: u8, b: u8, c: u8) -> Stepped
     requires { ⌜ Sane (length (now memory)) r ⌝ }
-    requires { ⌜ r .next < 65536 ⌝ }
+    requires { ⌜ r .next < 1000 ⌝ }
     ensures { λ o. ⌜ ((s : List ℕ) → PerformsInside plain s (now (memory .entry)) (now (memory .exit)) r o (Op.Fetch a b c)) ⌝ }
 {
     let m = fetch_in(memory, r, b, c);
@@ -148,7 +148,7 @@ pub fn fetch(memory: &mut [u64], r: Registers, a: u8, b: u8, c: u8) -> Stepped
 
 pub fn size(memory: &mut [u64], r: Registers, a: u8, b: u8) -> Stepped
     requires { ⌜ Sane (length (now memory)) r ⌝ }
-    requires { ⌜ r .next < 65536 ⌝ }
+    requires { ⌜ r .next < 1000 ⌝ }
     ensures { λ o. ⌜ ((s : List ℕ) → PerformsInside plain s (now (memory .entry)) (now (memory .exit)) r o (Op.Size a b)) ⌝ }
 {
     let n = size_in(memory, r, b);
@@ -157,7 +157,7 @@ pub fn size(memory: &mut [u64], r: Registers, a: u8, b: u8) -> Stepped
 
 pub fn get_slot(memory: &mut [u64], r: Registers, a: u8, b: u8, k: u16) -> Stepped
     requires { ⌜ Sane (length (now memory)) r ⌝ }
-    requires { ⌜ r .next < 65536 ⌝ }
+    requires { ⌜ r .next < 1000 ⌝ }
     ensures { λ o. ⌜ ((s : List ℕ) → PerformsInside plain s (now (memory .entry)) (now (memory .exit)) r o (Op.GetSlot a b k)) ⌝ }
 {
     let m = get_in(memory, r, b, k);
@@ -166,7 +166,7 @@ pub fn get_slot(memory: &mut [u64], r: Registers, a: u8, b: u8, k: u16) -> Stepp
 
 pub fn store(memory: &mut [u64], r: Registers, a: u8, b: u8, c: u8) -> Stepped
     requires { ⌜ Sane (length (now memory)) r ⌝ }
-    requires { ⌜ r .next < 65536 ⌝ }
+    requires { ⌜ r .next < 1000 ⌝ }
     ensures { λ o. ⌜ ((s : List ℕ) → PerformsInside plain s (now (memory .entry)) (now (memory .exit)) r o (Op.Store a b c)) ⌝ }
 {
     let m = store_in(memory, r, a, b, c);
@@ -175,7 +175,7 @@ pub fn store(memory: &mut [u64], r: Registers, a: u8, b: u8, c: u8) -> Stepped
 
 pub fn set_slot(memory: &mut [u64], r: Registers, a: u8, b: u8, k: u16) -> Stepped
     requires { ⌜ Sane (length (now memory)) r ⌝ }
-    requires { ⌜ r .next < 65536 ⌝ }
+    requires { ⌜ r .next < 1000 ⌝ }
     ensures { λ o. ⌜ ((s : List ℕ) → PerformsInside plain s (now (memory .entry)) (now (memory .exit)) r o (Op.SetSlot a b k)) ⌝ }
 {
     let m = set_in(memory, r, a, b, k);
@@ -184,7 +184,7 @@ pub fn set_slot(memory: &mut [u64], r: Registers, a: u8, b: u8, k: u16) -> Stepp
 
 pub fn new_array(memory: &mut [u64], r: Registers, a: u8, b: u8) -> Stepped
     requires { ⌜ Sane (length (now memory)) r ⌝ }
-    requires { ⌜ r .next < 65536 ⌝ }
+    requires { ⌜ r .next < 1000 ⌝ }
     ensures { λ o. ⌜ ((s : List ℕ) → PerformsInside plain s (now (memory .entry)) (now (memory .exit)) r o (Op.NewArray a b)) ⌝ }
 {
     let base = r.base;
@@ -195,7 +195,7 @@ pub fn new_array(memory: &mut [u64], r: Registers, a: u8, b: u8) -> Stepped
 
 pub fn jump_zero(memory: &[u64], r: Registers, a: u8, k: u16) -> Stepped
     requires { ⌜ Sane (length (now memory)) r ⌝ }
-    requires { ⌜ r .next < 65536 ⌝ }
+    requires { ⌜ r .next < 1000 ⌝ }
     ensures { λ o. ⌜ ((s : List ℕ) → PerformsInside plain s (now (memory .entry)) (now (memory .entry)) r o (Op.JumpZero a k)) ⌝ }
 {
     let base = r.base;
@@ -205,7 +205,7 @@ pub fn jump_zero(memory: &[u64], r: Registers, a: u8, k: u16) -> Stepped
 
 pub fn put(memory: &[u64], output: &mut [u32], r: Registers, a: u8) -> Stepped
     requires { ⌜ Sane (length (now memory)) r ⌝ }
-    requires { ⌜ r .next < 65536 ⌝ }
+    requires { ⌜ r .next < 1000 ⌝ }
     ensures { λ o. ⌜ ((s input : List ℕ) → Performs plain s input (now (memory .entry)) (now (memory .entry)) (now (output .entry)) (now (output .exit)) r o (Op.Put a)) ⌝ }
 {
     let base = r.base;
@@ -216,7 +216,7 @@ pub fn put(memory: &[u64], output: &mut [u32], r: Registers, a: u8) -> Stepped
 
 pub fn take(input: &[u32], memory: &mut [u64], r: Registers, a: u8) -> Stepped
     requires { ⌜ Sane (length (now memory)) r ⌝ }
-    requires { ⌜ r .next < 65536 ⌝ }
+    requires { ⌜ r .next < 1000 ⌝ }
     ensures { λ o. ⌜ ((s out : List ℕ) → Performs plain s (now (input .entry)) (now (memory .entry)) (now (memory .exit)) out out r o (Op.Take a)) ⌝ }
 {
     take_input(input, memory, r, a)
@@ -233,7 +233,7 @@ fn slots_at(s: &[u8], pr: u32) -> u8
 pub fn new_record(s: &[u8], table: &[u32; 65], memory: &mut [u64], r: Registers, a: u8) -> Stepped
     requires { ⌜ Loaded (now s) (now table) ⌝ }
     requires { ⌜ Sane (length (now memory)) r ⌝ }
-    requires { ⌜ r .next < 65536 ⌝ }
+    requires { ⌜ r .next < 1000 ⌝ }
     ensures { λ o. ⌜ PerformsInside plain (now (s .entry)) (now (memory .entry)) (now (memory .exit)) r o (Op.NewRecord a) ⌝ }
 {
     let p = r.procedure;

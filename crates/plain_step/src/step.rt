@@ -58,7 +58,7 @@ pub fn step(
         Operation::NewRecord(a) => new_record(s, table, memory, r, a),
         Operation::GetSlot(a, b, k) => get_slot(memory, r, a, b, k),
         Operation::SetSlot(a, b, k) => set_slot(memory, r, a, b, k),
-        Operation::Call(_, b, k) => call(s, table, memory, r, b, k),
-        Operation::Return(a) => give_back(s, memory, r, a),
+        Operation::Call(a, b, k) => call(s, table, memory, r, a, b, k),
+        Operation::Return(a) => give_back(memory, r, a),
     }
 }

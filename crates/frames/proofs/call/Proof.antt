@@ -5,7 +5,6 @@ use mathlib.Core.Logic.{inl, inr, ⊎-elim}
 use denote.Ref.{now}
 use Rattle.model.specs.Modes.{plain}
 use Rattle.sheet.specs.Layout.{formalsAt, variablesAt, instructionAt}
-use Rattle.form.proofs.WellFormed.{form-short}
 use Rattle.frames.specs.Frames.{Copies}
 use Rattle.frames.proofs.Table.{few-procedures, table-at, record-there, formals-within}
 use Rattle.frames.proofs.Calling.{Picked, picked-fits, call-without-room, call-of-blank, call-goes}
@@ -45,7 +44,7 @@ returns c =
     let header-at = c .before .before .before .header-at in
     let s = args .s .now in
     let at = table-at s (args .table .now) (pre .0) (args .k) (pre .1 .1 .procedure) in
-    call-without-room s (now (args .memory)) (args .r) (args .b) (args .k) _ _
+    call-without-room s (now (args .memory)) (args .r) (args .a) (args .b) (args .k) _ _
     (header-at .ensures .1 ∙ ap (variablesAt s) at) (header-at .ensures .0 ∙ ap (formalsAt s) at) (c .if1 .taken)
 
 add-copy-filled : tie.Need-add-copy-filled
@@ -89,9 +88,7 @@ open-requires c κs =
     let few : header-at .result .formals ≤ header-at .result .variables =
     rw (header-at .ensures .0, header-at .ensures .1) (formals-within s (args .table .now) (pre .0) (args .k) (pre .1 .1 .procedure)) in
     let C = pre .1 .1 in
-    let short = form-short s (pre .0 .formed) in
-    let first = C .first in
-    (rw (copy-filled .kept .0) (pre .1 .0), ((C .next, omega arith), (if1 .left, few)))
+    (rw (copy-filled .kept .0) (pre .1 .0), ((C .next, C .first), ((omega arith, if1 .left), few)))
 
 same-length : tie.Need-same-length
 same-length c = search needs
@@ -114,11 +111,11 @@ returns-2 c =
     rw (header-at .ensures .0, header-at .ensures .1) (formals-within s (args .table .now) (pre .0) (args .k) (C .procedure)) in
     let picked : Picked (args .b) (header-at .result .formals) (if2 .from) =
     ⊎-elim (λ w. inl (w .0 .taken, w .1)) (λ w. inr (w .0 .left, w .1)) (if2 .came) in
-    call-goes s (now (args .memory)) (args .r) (args .b) (args .k) _ _
+    call-goes s (now (args .memory)) (args .r) (args .a) (args .b) (args .k) _ _
     (header-at .ensures .1 ∙ ap (variablesAt s) at) formals (if1 .left) few (if2 .from) picked
     (picked-fits (args .b) _ (if2 .from) (args .r .variables) picked (λ j h. C .actuals j (subst (λ n. j < n) formals h))) _
     (subst (Copies _ _ _ _ _) (if3 .taken) (copy-filled .ensures)) _ _ _ (opened-by .ensures plain)
-    (C .procedure) (few-procedures s (args .table .now) (pre .0) (args .k) (C .procedure)) (header-at .ensures .2 ∙ ap (λ x. instructionAt s x 0) at)
+    (C .here) (C .procedure) (few-procedures s (args .table .now) (pre .0) (args .k) (C .procedure)) (header-at .ensures .2 ∙ ap (λ x. instructionAt s x 0) at)
 
 same-length-2 : tie.Need-same-length-2
 same-length-2 c = search needs
@@ -140,7 +137,7 @@ returns-3 c =
     rw (header-at .ensures .0, header-at .ensures .1) (formals-within s (args .table .now) (pre .0) (args .k) (C .procedure)) in
     let picked : Picked (args .b) (header-at .result .formals) (if2 .from) =
     ⊎-elim (λ w. inl (w .0 .taken, w .1)) (λ w. inr (w .0 .left, w .1)) (if2 .came) in
-    call-of-blank s (now (args .memory)) (args .r) (args .b) (args .k) _ _
+    call-of-blank s (now (args .memory)) (args .r) (args .a) (args .b) (args .k) _ _
     (header-at .ensures .1 ∙ ap (variablesAt s) at) formals (if1 .left) few (if2 .from) picked
     (picked-fits (args .b) _ (if2 .from) (args .r .variables) picked (λ j h. C .actuals j (subst (λ n. j < n) formals h))) _
     (subst (Copies _ _ _ _ _) (if3 .left) (copy-filled .ensures))

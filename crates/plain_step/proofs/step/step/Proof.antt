@@ -1,9 +1,10 @@
 -- The operation at the place is the one matched, and its arm performs it. The callee is one of the sheet's procedures.
 use mathlib.Core.Path.{sym, _∙_}
+use native.Mathlib.Omega.{arith}
 use borrow.Author.Needs.{needs}
 use denote.Ref.{now}
 use Rattle.model.specs.Rules.{callee}
-use Rattle.form.proofs.WellFormed.{form-small}
+use Rattle.form.proofs.WellFormed.{form-short}
 use Rattle.frames.specs.Frames.{Callable}
 use Rattle.plain_step.proofs.step.step.Statement.{statement}
 use Rattle.plain_step.proofs.step.step.Tie as tie
@@ -117,10 +118,13 @@ call-requires c κs =
     let operation-whole = c .before .before .before .before .operation-whole in
     let operation16 = c .before .before .operation16 in
     let e = sym (operation-whole .ensures) ∙ operation16 .given .1 in
-    let callable : Callable _ _ _ _ =
+    let short = form-short _ (pre .0 .formed) in
+    let first = pre .1 .1 .first in
+    let callable : Callable _ _ _ _ _ =
     record {
+      here = e;
       next = pre .1 .1 .next;
-      first = pre .1 .1 .first;
+      first = omega arith;
       procedure = rw e at (pre .1 .1 .callee-there);
       actuals = pre .1 .1 .actuals _ _ _ e;
     } in
@@ -130,9 +134,7 @@ enum-known-operation-17 : tie.Need-enum-known-operation-17
 enum-known-operation-17 c = search needs
 
 give-back-requires : tie.Need-give-back-requires
-give-back-requires c κs =
-    let pre = c .before .before .before .before .before .before .before .before .before .before .before .pre in
-    (form-small _ (pre .0 .formed) .3, pre .1 .0)
+give-back-requires c κs = search needs
 
 same-length : tie.Need-same-length
 same-length c = search needs
@@ -311,7 +313,7 @@ returns-16 c =
     let operation-whole = c .before .before .before .before .before .before .before .operation-whole in
     let operation16 = c .before .before .before .before .before .operation16 in
     let call = c .before .before .call in
-    rw (sym (operation-whole .ensures) ∙ operation16 .given .1) (call .ensures _ (now (args .input)) (now (args .output)))
+    rw (sym (operation-whole .ensures) ∙ operation16 .given .1) (call .ensures (now (args .input)) (now (args .output)))
 
 same-length-18 : tie.Need-same-length-18
 same-length-18 c = search needs
@@ -322,7 +324,7 @@ returns-17 c =
     let operation-whole = c .before .before .before .before .before .before .before .operation-whole in
     let operation17 = c .before .before .before .before .before .operation17 in
     let give-back = c .before .before .give-back in
-    rw (sym (operation-whole .ensures) ∙ operation17 .given .1) (give-back .ensures (now (args .input)) (now (args .output)))
+    rw (sym (operation-whole .ensures) ∙ operation17 .given .1) (give-back .ensures (now (args .s)) (now (args .input)) (now (args .output)))
 
 pub step-spec : {M : Type 1} → statement M
 step-spec =
