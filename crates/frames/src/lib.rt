@@ -1,4 +1,9 @@
 // Frames: opened by a call below the running one, given back by a return.
+use index::Index;
+use index::procedures::formals_in;
+use index::procedures::place_in;
+use index::procedures::procedure_word;
+use index::procedures::variables_in;
 use words::back_kept;
 use words::back_next;
 use words::back_procedure;
@@ -14,15 +19,26 @@ use writers::Stepped;
 ghost use mathlib.Core.Path.{_≡_};
 ghost use mathlib.Core.List.{List};
 ghost use Prim.Native.Nat.{ℕ, _+_, _-_, _*_, _^_, _≤_, _<_};
-ghost use lib.ListN.{length};
+ghost use lib.ListN.{length, drop};
 ghost use Rattle.model.specs.Qualified.{Qual};
 ghost use Rattle.model.specs.Modes.{Mode, plain};
 ghost use Rattle.model.specs.declared.Operation.the-variants.{Call, Return};
-ghost use Rattle.sheet.specs.Layout.{formalsAt, variablesAt, instructionAt};
+ghost use Rattle.index.specs.Procedures.{place-of, variables-of};
 ghost use Rattle.words.specs.Word.{back, extent, slot-in};
 ghost use Rattle.writers.specs.Memory.{Sane};
 ghost use Rattle.frames.specs.Performs.{Loaded, PerformsInside};
 ghost use Rattle.frames.specs.Frames.{Copies, Callable, Opened, Waits, Reached, KeptIn, Keeps};
+
+// The sheet from a procedure's first instruction on; nothing past its end.
+pub fn instructions_of(s: &[u8], first: usize) -> &[u8]
+    ensures { λ r. ⌜ now r ≡ drop first (now (s .entry)) ⌝ }
+{
+    let len = s.len();
+    if len <= first {
+        return &s[len..len];
+    }
+    &s[first..len]
+}
 
 // n filled words are copied to a place below; false where one is blank.
 fn copy_filled(memory: &mut [u64], from: usize, to: usize, n: usize) -> bool
@@ -93,59 +109,39 @@ pub fn open(
     }
 }
 
-// What a call reads of a procedure: its counts of formals and of variables, and where its instructions start.
-struct Header {
-    formals: u8,
-    variables: u8,
-    first: usize,
-}
-
-// Where the instructions of the procedure at pr start, after its v variables.
-fn first_of(pr: u32, v: u8) -> usize
-    ensures { λ at. ⌜ at ≡ pr + (8 + 4 * v) ⌝ }
+// Where the instructions of a procedure start, by its word of the index: after its variables.
+pub fn first_in(w: u64) -> usize
+    ensures { λ at. ⌜ at ≡ place-of w + (8 + 4 * variables-of w) ⌝ }
 {
-    (pr as usize) + (8 + 4 * (v as usize))
+    (place_in(w) as usize) + (8 + 4 * (variables_in(w) as usize))
 }
 
-// That of the procedure at pr, whose record stands whole.
-fn header_at(s: &[u8], pr: u32) -> Header
-    requires { ⌜ pr + 8 ≤ length (now s) ⌝ }
-    ensures { λ h. ⌜ (h .formals ≡ formalsAt (now (s .entry)) pr) × (h .variables ≡ variablesAt (now (s .entry)) pr) × (h .first ≡ instructionAt (now (s .entry)) pr 0) ⌝ }
-{
-    let at = pr as usize;
-    let v = s[at + 4];
-    Header {
-        formals: s[at + 3],
-        variables: v,
-        first: first_of(pr, v),
-    }
-}
-
-// A call of procedure k with variables from b on, which keeps variable a: 17, then 13 for a blank actual.
+// A call of procedure k with variables from b on, which keeps variable a: 17, then 13 for a blank actual. It reads the index alone; the sheet is there for
+// the contract.
 pub fn call(
     s: &[u8],
-    table: &[u32; 65],
+    index: &Index,
     memory: &mut [u64],
     r: Registers,
     a: u8,
     b: u8,
     k: u16,
 ) -> Stepped
-    requires { ⌜ Loaded (now s) (now table) ⌝ }
+    requires { ⌜ Loaded (now s) (now index) ⌝ }
     requires { ⌜ Sane (length (now memory)) r ⌝ }
     requires { ⌜ Callable (now s) r a b k ⌝ }
     ensures { λ o. ⌜ PerformsInside plain (now (s .entry)) (now (memory .entry)) (now (memory .exit)) r o (Call a b k) ⌝ }
 {
-    let pr = header_at(s, table[k as usize]);
-    let f = pr.formals;
-    let v = pr.variables as usize;
+    let w = procedure_word(index, k as usize);
+    let f = formals_in(w);
+    let v = variables_in(w) as usize;
     let base = r.base;
     if base - r.used < v + 2 {
         return Stepped::Halt(17);
     }
     let from = if f == 0 { 0 } else { b };
     if copy_filled(memory, base + (from as usize), base - (v + 2), f as usize) {
-        return Stepped::Enter(open(memory, r, a, k as usize, pr.first, v, f));
+        return Stepped::Enter(open(memory, r, a, k as usize, first_in(w), v, f));
     }
     Stepped::Halt(13)
 }

@@ -1,4 +1,7 @@
 // Each operation: what it asks for (crate plain_plan), done (crate writers).
+use index::Index;
+use index::procedures::owner_in;
+use index::procedures::procedure_word;
 use plain_plan::add_of;
 use plain_plan::array_size_of;
 use plain_plan::fetch_of;
@@ -30,7 +33,8 @@ ghost use Prim.Native.Nat.{ℕ, _<_};
 ghost use lib.ListN.{length};
 ghost use Rattle.model.specs.Modes.{plain};
 ghost use Rattle.model.specs.declared.Operation.the-variants as Op;
-ghost use Rattle.sheet.specs.Layout.{ownerAt, slotsOf};
+ghost use Rattle.sheet.specs.Layout.{slotsOf};
+ghost use Rattle.index.specs.Procedures.{owner-of};
 ghost use Rattle.writers.specs.Memory.{Sane};
 ghost use Rattle.frames.specs.Performs.{Loaded, Performs, PerformsInside};
 ghost use Rattle.plain_step.specs.Plans.{PlansNumber, PlansMoved, PlansStored};
@@ -222,20 +226,19 @@ pub fn take(input: &[u32], memory: &mut [u64], r: Registers, a: u8) -> Stepped
     take_input(input, memory, r, a)
 }
 
-// How many slots the owner of the procedure at pr has.
-fn slots_at(s: &[u8], pr: u32) -> u8
-    ensures { λ n. ⌜ n ≡ slotsOf (now (s .entry)) (ownerAt (now (s .entry)) pr) ⌝ }
+// How many slots the owner of a procedure has, by the procedure's word of the index.
+fn slots_by(s: &[u8], w: u64) -> u8
+    ensures { λ n. ⌜ n ≡ slotsOf (now (s .entry)) (owner-of w) ⌝ }
 {
-    let owner = byte(s, pr as usize, 2);
-    byte(s, type_at(owner), 3)
+    byte(s, type_at(owner_in(w)), 3)
 }
 
-pub fn new_record(s: &[u8], table: &[u32; 65], memory: &mut [u64], r: Registers, a: u8) -> Stepped
-    requires { ⌜ Loaded (now s) (now table) ⌝ }
+pub fn new_record(s: &[u8], index: &Index, memory: &mut [u64], r: Registers, a: u8) -> Stepped
+    requires { ⌜ Loaded (now s) (now index) ⌝ }
     requires { ⌜ Sane (length (now memory)) r ⌝ }
     requires { ⌜ r .next < 1000 ⌝ }
     ensures { λ o. ⌜ PerformsInside plain (now (s .entry)) (now (memory .entry)) (now (memory .exit)) r o (Op.NewRecord a) ⌝ }
 {
-    let p = r.procedure;
-    give_record(memory, r, a, slots_at(s, table[p]))
+    let n = slots_by(s, procedure_word(index, r.procedure));
+    give_record(memory, r, a, n)
 }
