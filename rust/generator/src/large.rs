@@ -6,6 +6,17 @@ use crate::sheet::{Procedure, Sheet, SheetBuilder};
 
 const MAX_INSTRUCTIONS: usize = 1000;
 
+/// A sheet of so many bytes, or a few less.
+type Make = fn(usize) -> Sheet;
+
+/// All of them, with their names.
+pub const SHEETS: [(&str, Make); 4] = [
+    ("mostly instructions", mostly_instructions),
+    ("one array 62 deep", one_deep_array),
+    ("two arrays 31 deep", two_deep_arrays),
+    ("64 procedures", many_procedures),
+];
+
 /// As near below the byte count as instructions of integers can fill it.
 pub fn mostly_instructions(bytes: usize) -> Sheet {
     let pattern = |step: usize| match step % 7 {

@@ -3,7 +3,7 @@
 use generator::accepted::accepted;
 use generator::breach::Flaw;
 use generator::damage::damaged;
-use generator::large::{many_procedures, mostly_instructions, one_deep_array, two_deep_arrays};
+use generator::large::SHEETS;
 use generator::runs::families::{MISDECLARED, RUNNABLE, TRIALS};
 use generator::showcase::showcase;
 use generator::wellformed::wellformed;
@@ -113,12 +113,7 @@ fn a_seed_gives_one_sheet() {
 
 #[test]
 fn large_sheets_fill_the_bytes_given() {
-    for make in [
-        mostly_instructions,
-        one_deep_array,
-        two_deep_arrays,
-        many_procedures,
-    ] {
+    for (_, make) in SHEETS {
         let sheet = make(32_768).encode();
         assert!((32_000..=32_768).contains(&sheet.len()), "{}", sheet.len());
         assert_eq!(check(&sheet), Verdict::Accepted);
