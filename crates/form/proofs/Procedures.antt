@@ -36,19 +36,11 @@ module _ (s : List ℕ) (h : verdict (each (proceduresOf s) (procedure-tests s))
     pub instructions-accepted : verdict (each (instructionsAt s (procedureAt s p)) (instruction-tests s (procedureAt s p))) ≡ Accepted
     instructions-accepted = right-accepted (each (variablesAt s (procedureAt s p)) (variable-tests s (procedureAt s p))) _ after-head
 
-    head-formed :
-        (procedureAt s p + 8 ≤ length s)
-        × (procedure-scale (typesOf s) (qualsOf s) p (ownerAt s (procedureAt s p)) (formalsAt s (procedureAt s p)) (variablesAt s (procedureAt s p)) (resultAt s (procedureAt s p)) (instructionsAt s (procedureAt s p)) ≡ true)
-    unfolding procedure-tests-at head-tests
-    head-formed =
-        let pr = procedureAt s p in
-        record-formed s pr 8 pr-mark _ (left-accepted (head-tests s p pr) _ formed)
-
-    pub head-whole : procedureAt s p + 8 ≤ length s
-    head-whole = head-formed .0
-
     pub head-true : procedure-scale (typesOf s) (qualsOf s) p (ownerAt s (procedureAt s p)) (formalsAt s (procedureAt s p)) (variablesAt s (procedureAt s p)) (resultAt s (procedureAt s p)) (instructionsAt s (procedureAt s p)) ≡ true
-    head-true = head-formed .1
+    unfolding procedure-tests-at head-tests
+    head-true =
+        let pr = procedureAt s p in
+        record-formed s pr 8 pr-mark _ (left-accepted (head-tests s p pr) _ formed) .1
 
     pub some-instruction : 1 ≤ instructionsAt s (procedureAt s p)
     unfolding procedure-scale

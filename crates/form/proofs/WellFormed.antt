@@ -25,7 +25,7 @@ use Rattle.limits.specs.declared.Limits.{Limits}
 use Rattle.limits.specs.Scale.{all-below, below-or-none, type-scale, rights-scale, qual-scale, procedure-scale, variable-scale, line-limits, line-scale, instruction-scale, actuals-scale}
 use Rattle.form.specs.WellFormed.{length-tests, header-tests, type-tests, qual-tests, variable-tests, limitsAt, instruction-tests-at, instruction-tests, procedure-tests, leftover-tests, layout-tests, call-tests-at, call-tests, procedure-calls, calls-tests, form-tests}
 use Rattle.form.proofs.Laws.{all-below-true, due-below, record-formed, header-small}
-use Rattle.form.proofs.Procedures.{variables-accepted, instructions-accepted, head-whole, head-true, some-instruction}
+use Rattle.form.proofs.Procedures.{variables-accepted, instructions-accepted, head-true, some-instruction}
 
 -- the fields of instruction i of procedure p
 abbrev pub fields-in : List ℕ → ℕ → ℕ → Fields
@@ -159,10 +159,6 @@ module _ (s : List ℕ) (wf : verdict (form-tests s) ≡ Accepted) where
   module _ (p : ℕ) (l : p < proceduresOf s) where
     head-held : procedure-scale (typesOf s) (qualsOf s) p (ownerAt s (procedureAt s p)) (formalsAt s (procedureAt s p)) (variablesAt s (procedureAt s p)) (resultAt s (procedureAt s p)) (instructionsAt s (procedureAt s p)) ≡ true
     head-held = head-true s procedures-accepted p l
-
-    -- the eight bytes of its PR stand within the sheet
-    pub procedure-whole : procedureAt s p + 8 ≤ length s
-    procedure-whole = head-whole s procedures-accepted p l
 
     pub owner-kind : (ownerAt s (procedureAt s p) ≡ 0) ⊎ ((2 ≤ ownerAt s (procedureAt s p)) × (ownerAt s (procedureAt s p) < typesOf s + 2))
     unfolding procedure-scale

@@ -16,6 +16,7 @@ use Rattle.model.specs.Machine as M
 use Rattle.model.specs.Machine.{Value, Cell, empty, filled, Object, Frame, frame, State, state, Effect, View, view, apply, held, moved, actual, actuals, plan, plan-call}
 use Rattle.model.specs.declared.Operation.the-variants.{Call}
 use Rattle.sheet.specs.Layout.{proceduresOf, formalsAt, variablesAt, instructionAt, procedureAt}
+use Rattle.sheet.specs.Decode.{operationAt}
 use Rattle.sheet.specs.Meaning.{programOf, qualOf}
 use Rattle.words.specs.Word.{low, payload, cell, slot-in}
 use Rattle.words.proofs.Laws.{blank-word, filled-word}
@@ -26,7 +27,9 @@ use Rattle.writers.specs.Steps.{After}
 use Rattle.writers.proofs.Effects.{stopped-after, gap-kept}
 use Rattle.writers.proofs.View.{room-is, variable-is}
 use Rattle.frames.specs.Performs.{performed, Performs}
+use Rattle.frames.specs.Fetch.{place-in}
 use Rattle.frames.specs.Frames.{copied, Copies, Opened}
+use Rattle.frames.proofs.Kept.{kept-here}
 use Rattle.frames.proofs.Copied.{length-copied, copied-before, copied-after, copied-there}
 use Rattle.frames.proofs.Opening.{actual-slots}
 
@@ -115,10 +118,10 @@ picked-fits b f from n (inr w) h =
     let m = h (f - 1) (omega arith) in
     omega arith
 
-module _ (s words : List ℕ) (r : Registers) (b k v f : ℕ) (many : v ≡ variablesAt s (procedureAt s k)) (formals : f ≡ formalsAt s (procedureAt s k)) where
+module _ (s words : List ℕ) (r : Registers) (a b k v f : ℕ) (many : v ≡ variablesAt s (procedureAt s k)) (formals : f ≡ formalsAt s (procedureAt s k)) where
   pub call-without-room : r .base - r .used < v + 2
-      → (a : ℕ) (input out : List ℕ) → Performs plain s input words words out out r (Halt 17) (Call a b k)
-  call-without-room h a input out c t same from S =
+      → (input out : List ℕ) → Performs plain s input words words out out r (Halt 17) (Call a b k)
+  call-without-room h input out c t same from S =
       stopped c words out s r t S memory-full _ (call-full (programOf s) (view (length words) (length out) t) k b a (omega (arith, room-is plain c words out r t S)))
 
   module _ (room : v + 2 ≤ r .base - r .used) (few : f ≤ v) (from : ℕ) (picked : Picked b f from) (fits : from + f ≤ r .variables) where
@@ -165,8 +168,8 @@ module _ (s words : List ℕ) (r : Registers) (b k v f : ℕ) (many : v ≡ vari
         }
 
     pub call-of-blank : (words′ : List ℕ) → Copies words words′ (r .base + from) (r .base - (v + 2)) f false
-        → (a : ℕ) (input out : List ℕ) → Performs plain s input words words′ out out r (Halt 13) (Call a b k)
-    call-of-blank words′ C a input out c (state (frame p i vs) fs os left put) same from′ S =
+        → (input out : List ℕ) → Performs plain s input words words′ out out r (Halt 13) (Call a b k)
+    call-of-blank words′ C input out c (state (frame p i vs) fs os left put) same from′ S =
         let t = state (frame p i vs) fs os left put in
         let j = C .0 in
         stopped c words′ out s r t (gap-kept S words′ (copied-gap S words′ j (omega (arith, C .1)) (C .2))) blank _
@@ -180,11 +183,11 @@ module _ (s words : List ℕ) (r : Registers) (b k v f : ℕ) (many : v ≡ vari
           let w = getD words (r .base + from + j) 0 in
           ⊎-elim (λ e. (M.word (low w), e)) (λ e. (M.object (payload w), e)) (filled-word plain (qualOf (c .sheet)) w (looked-at S j h) (C .1 j h))
 
-      pub call-goes : (words″ : List ℕ) (q : Registers) (first : ℕ) → Opened plain words′ words″ r q k first v f
+      pub call-goes : (words″ : List ℕ) (q : Registers) (first : ℕ) → Opened plain words′ words″ r q a k first v f → operationAt s (place-in r) ≡ Call a b k
           → k < proceduresOf s → k < 64 → first ≡ instructionAt s (procedureAt s k) 0
-          → (a : ℕ) (input out : List ℕ) → Performs plain s input words words″ out out r (Enter q) (Call a b k)
+          → (input out : List ℕ) → Performs plain s input words words″ out out r (Enter q) (Call a b k)
       unfolding _>>=_ apply
-      call-goes words″ q first P known small starts a input out c (state (frame p i vs) fs os left put) same from′ S =
+      call-goes words″ q first P here known small starts input out c (state (frame p i vs) fs os left put) same from′ S =
           let t = state (frame p i vs) fs os left put in
           let at = r .base - (v + 2) in
           let src = r .base + from in
@@ -203,4 +206,4 @@ module _ (s words : List ℕ) (r : Registers) (b k v f : ℕ) (many : v ≡ vari
             ← many,
             picked-cells vs (S .variables),
           )
-          (P c p i vs (take f (drop from vs)) fs os left put out (gap-kept S words′ (copied-gap S words′ f (omega arith) copy)) (rw same known) small (rw same starts) (rw same many) there)
+          (P c p i vs (take f (drop from vs)) fs os left put out (gap-kept S words′ (copied-gap S words′ f (omega arith) copy)) (kept-here S a b k (rw same here)) (rw same known) small (rw same starts) (rw same many) there)

@@ -1,49 +1,22 @@
--- The variable that a call names for its result, by the bytes of its record.
+-- The variable that a call keeps, as a byte, and the call that the registers name.
 use Prim.Native.Nat.{ℕ}
-use mathlib.Core.Path.{_≡_, sym, ap, _∙_}
-use mathlib.Core.Bool.{cond}
+use mathlib.Core.Path.{_≡_, refl, sym, ap, _∙_}
+use mathlib.Core.Bool.{Bool, true, false, cond}
 use mathlib.Core.List.{List}
 use mathlib.Core.Option.{none, some}
-use native.Mathlib.Omega.{arith}
-use borrow.Author.Tests.{eq-eqb, ne-eqb}
+use borrow.Author.Tests.{eqb-true, eq-eqb, ne-eqb}
 use lib.Dec.{eqb}
 use Rattle.model.specs.Rules.{optional}
-use Rattle.model.specs.Machine.{kept}
-use Rattle.sheet.specs.Bytes.{byteAt}
-use Rattle.sheet.specs.Layout.{codeAt}
-use Rattle.sheet.specs.Instructions.{table, line-in, line-of}
-use Rattle.sheet.specs.Decode.{unlisted, operation-by, decode, fieldsAt, operationAt}
-use Rattle.sheet.specs.declared.decode.Fields.{Fields}
-use Rattle.sheet.proofs.Instructions.{by-line}
-
-kept-decode : (f : Fields) → kept (decode f) ≡ cond (eqb (f .code) 16) (optional (f .a)) none
-unfolding decode operation-by unlisted table line-in
-kept-decode f =
-    by-line (f .code) (λ x. kept (operation-by f x) ≡ cond (eqb (f .code) 16) (optional (f .a)) none)
-    (λ e. rw e)
-    (λ e. rw e)
-    (λ e. rw e)
-    (λ e. rw e)
-    (λ e. rw e)
-    (λ e. rw e)
-    (λ e. rw e)
-    (λ e. rw e)
-    (λ e. rw e)
-    (λ e. rw e)
-    (λ e. rw e)
-    (λ e. rw e)
-    (λ e. rw e)
-    (λ e. rw e)
-    (λ e. rw e)
-    (λ e. rw e)
-    (λ e. rw e)
-    (λ n. rw (ne-eqb (f .code) 16 (λ e. absurd (let m = sym (ap line-of e) ∙ n in let z : _≡_ {A = ℕ} 0 1 = cc in omega arith))))
-
--- the variable is that of the operation at a place
-pub kept-of : (s : List ℕ) (at code a r : ℕ) → code ≡ byteAt s at 2 → a ≡ byteAt s at 3 → optional r ≡ cond (eqb code 16) (optional a) none
-    → optional r ≡ kept (operationAt s at)
-unfolding operationAt codeAt
-kept-of s at code a r e d is = is ∙ sym (kept-decode (fieldsAt s at) ∙ rw (← e, ← d))
+use Rattle.model.specs.Modes.{Mode}
+use Rattle.model.specs.Machine.{Cell, Object, Frame, kept}
+use Rattle.model.specs.declared.Operation.{Operation}
+use Rattle.model.specs.declared.Operation.the-variants.{Set, Add, Subtract, Less, JumpZero, Bind, Take, Put, NewArray, Fetch, Store, Size, NewRecord, GetSlot, SetSlot, Call, Return}
+use Rattle.sheet.specs.Layout.{instructionAt, procedureAt}
+use Rattle.sheet.specs.Decode.{operationAt}
+use Rattle.form.proofs.Laws.{instruction-from}
+use Rattle.writers.specs.declared.Registers.{Registers}
+use Rattle.writers.specs.Memory.{Given, byte-of, kept-byte, Stands}
+use Rattle.frames.specs.Fetch.{place-in}
 
 -- 255 is none
 pub optional-none : (a : ℕ) → a ≡ 255 → optional a ≡ none
@@ -53,3 +26,42 @@ optional-none a e = rw (eq-eqb a 255 e)
 pub optional-some : (a : ℕ) → (a ≡ 255 → ⊥) → optional a ≡ some a
 unfolding optional
 optional-some a n = rw (ne-eqb a 255 n)
+
+byte-optional : (a : ℕ) → byte-of (optional a) ≡ a
+unfolding optional
+byte-optional a = go (eqb a 255) refl
+  where
+    go : (t : Bool) → eqb a 255 ≡ t → byte-of (cond t none (some a)) ≡ a
+    go true e = sym (eqb-true a 255 e)
+    go false e = refl
+
+pub optional-kept : (op : Operation) → optional (kept-byte op) ≡ kept op
+unfolding optional
+optional-kept (Set a k) = refl
+optional-kept (Add a b c) = refl
+optional-kept (Subtract a b c) = refl
+optional-kept (Less a b c) = refl
+optional-kept (JumpZero a k) = refl
+optional-kept (Bind a b) = refl
+optional-kept (Take a) = refl
+optional-kept (Put a) = refl
+optional-kept (NewArray a b) = refl
+optional-kept (Fetch a b c) = refl
+optional-kept (Store a b c) = refl
+optional-kept (Size a b) = refl
+optional-kept (NewRecord a) = refl
+optional-kept (GetSlot a b k) = refl
+optional-kept (SetSlot a b k) = refl
+optional-kept (Call a b k) = ap optional (byte-optional a)
+optional-kept (Return a) = refl
+
+module _ {m : Mode} {c : Given} {words out : List ℕ} {r : Registers} {p i : ℕ} {vs : List (Cell m)} {fs : List (Frame m)} {os : List (Object m)}
+    {input put : List ℕ} (S : Stands m c words out r p i vs fs os input put) where
+  -- the registers name the state's next instruction
+  pub place-is : place-in r ≡ instructionAt (c .sheet) (procedureAt (c .sheet) p) i
+  place-is = rw (S .next) (instruction-from (c .sheet) (procedureAt (c .sheet) p) (r .first) i (S .first))
+
+  -- the variable that it keeps, where it is a call
+  pub kept-here : (a b k : ℕ) → operationAt (c .sheet) (place-in r) ≡ Call a b k
+      → a ≡ kept-byte (operationAt (c .sheet) (instructionAt (c .sheet) (procedureAt (c .sheet) p) i))
+  kept-here a b k e = sym (byte-optional a) ∙ ap kept-byte (sym e ∙ ap (operationAt (c .sheet)) place-is)

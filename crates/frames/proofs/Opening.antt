@@ -11,11 +11,12 @@ use Rattle.model.specs.Modes.{Mode}
 use Rattle.model.specs.Qualified.{Qual}
 use Rattle.model.specs.Machine.{Cell, empty, Object, Frame, frame}
 use Rattle.sheet.specs.Layout.{proceduresOf, variablesAt, instructionAt, procedureAt}
+use Rattle.sheet.specs.Decode.{operationAt}
 use Rattle.sheet.specs.Meaning.{qualOf}
-use Rattle.words.specs.Word.{cell, place, slot-in}
+use Rattle.words.specs.Word.{cell, back, extent, slot-in}
 use Rattle.words.proofs.Laws.{slot-zero}
 use Rattle.writers.specs.declared.Registers.{Registers}
-use Rattle.writers.specs.Memory.{Given, slots, Sane, object-part, Stands, AllSound, flat-frames}
+use Rattle.writers.specs.Memory.{Given, slots, Sane, object-part, Stands, AllSound, kept-byte, back-to, flat-frames}
 use Rattle.writers.proofs.Change.{map-take, map-drop, map-replicate}
 use Rattle.frames.specs.Frames.{Opened}
 
@@ -108,13 +109,14 @@ module _ (words zeros : List ℕ) (at base v f w x : ℕ) (size : at + (v + 2) �
 -- ---- and what they stand for
 
 module _ {m : Mode} {c : Given} {words out : List ℕ} {r : Registers} {p i : ℕ} {vs : List (Cell m)} {fs : List (Frame m)} {os : List (Object m)}
-    {input put : List ℕ} (S : Stands m c words out r p i vs fs os input put) (words′ : List ℕ) (k first at v f w x : ℕ) (cs : List (Cell m))
-    (size : at + (v + 2) ≡ r .base) (room : r .used ≤ at) (few : f ≤ v)
-    (place-is : slot-in m (qualOf (c .sheet)) w ≡ place (r .procedure) (r .next + 1))
-    (more-is : slot-in m (qualOf (c .sheet)) x ≡ place (r .variables) (r .first))
+    {input put : List ℕ} (S : Stands m c words out r p i vs fs os input put) (words′ : List ℕ) (a k first at v f w x : ℕ) (cs : List (Cell m))
+    (size : at + (v + 2) ≡ r .base) (room : r .used ≤ at) (few : f ≤ v) (wide : v < 256)
+    (place-is : slot-in m (qualOf (c .sheet)) w ≡ back (r .procedure) (r .next + 1) a)
+    (extent-is : slot-in m (qualOf (c .sheet)) x ≡ extent (r .variables) (r .first))
     (long : length words′ ≡ length words) (before : object-part r words′ ≡ object-part r words)
     (after : drop at words′ ≡ take f (drop at words) ++ (replicate (v - f) 0 ++ (w ∷ (x ∷ drop (r .base) words))))
     (there : slots m c (take f (drop at words)) ≡ map cell cs)
+    (keeps : a ≡ kept-byte (operationAt (c .sheet) (instructionAt (c .sheet) (procedureAt (c .sheet) p) i)))
     (known : k < proceduresOf (c .sheet)) (small : k < 64) (starts : first ≡ instructionAt (c .sheet) (procedureAt (c .sheet) k) 0)
     (many : v ≡ variablesAt (c .sheet) (procedureAt (c .sheet) k)) where
   waiting-slots : slots m c (drop (r .base) words) ≡ map cell vs ++ flat-frames (c .sheet) fs
@@ -130,9 +132,9 @@ module _ {m : Mode} {c : Given} {words out : List ℕ} {r : Registers} {p i : �
   new-slots : drop at (slots m c words′) ≡ map cell (cs ++ replicate (v - f) empty) ++ flat-frames (c .sheet) (frame p (suc i) vs ∷ fs)
   unfolding flat-frames
   new-slots =
-      let here : slot-in m (qualOf (c .sheet)) w ≡ place p (suc i) = place-is ∙ rw (add-one, S .procedure, S .next) in
-      let more : slot-in m (qualOf (c .sheet)) x ≡ place (length vs) (instructionAt (c .sheet) (procedureAt (c .sheet) p) 0) =
-      more-is ∙ rw (S .variables, S .first) in
+      let here : slot-in m (qualOf (c .sheet)) w ≡ back-to (c .sheet) p (suc i) = place-is ∙ rw (keeps, add-one, S .procedure, S .next) in
+      let more : slot-in m (qualOf (c .sheet)) x ≡ extent (length vs) (instructionAt (c .sheet) (procedureAt (c .sheet) p) 0) =
+      extent-is ∙ rw (S .variables, S .first) in
       sym (map-drop (slot-in m (qualOf (c .sheet))) at words′)
       ∙ ap (slots m c) after
       ∙ rw (map-append, map-append, map-append, map-replicate, map-replicate, slot-zero, there, waiting-slots, here, more, append-assoc)
@@ -150,7 +152,7 @@ module _ {m : Mode} {c : Given} {words out : List ℕ} {r : Registers} {p i : �
         next = refl;
         first = starts;
         variables = sym new-long;
-        sane = record { room = room; frame = rw long (omega arith); small = rw long (S .sane .small); procedure = small };
+        sane = record { room = room; frame = rw long (omega arith); small = rw long (S .sane .small); procedure = small; variables = wide };
         running = record { procedure = known; variables = new-long ∙ many };
         waiting = (S .running, S .waiting);
         objects = sym (map-take slot (r .used) words′) ∙ ap (map slot) before ∙ map-take slot (r .used) words ∙ S .objects;
@@ -161,18 +163,18 @@ module _ {m : Mode} {c : Given} {words out : List ℕ} {r : Registers} {p i : �
         put-fits = S .put-fits;
       }
 
-pub opens : (m : Mode) (words zeros : List ℕ) (r : Registers) (k first v f w x : ℕ) → Sane (length words) r → v + 2 ≤ r .base - r .used → f ≤ v
+pub opens : (m : Mode) (words zeros : List ℕ) (r : Registers) (a k first v f w x : ℕ) → Sane (length words) r → v < 256 → v + 2 ≤ r .base - r .used → f ≤ v
     → zeros ≡ replicate (length (midOf (r .base - (v + 2) + f) (r .base - (v + 2) + v - (r .base - (v + 2) + f)) words)) 0
-    → ((q : ℕ → Qual) → slot-in m q w ≡ place (r .procedure) (r .next + 1)) → ((q : ℕ → Qual) → slot-in m q x ≡ place (r .variables) (r .first))
+    → ((q : ℕ → Qual) → slot-in m q w ≡ back (r .procedure) (r .next + 1) a) → ((q : ℕ → Qual) → slot-in m q x ≡ extent (r .variables) (r .first))
     → Opened m words (opened words zeros (r .base - (v + 2)) v f w x) r
     (record { procedure = k; next = 0; first = first; variables = v; base = r .base - (v + 2); used = r .used; taken = r .taken; put = r .put; steps = r .steps })
-    k first v f
-opens m words zeros r k first v f w x sane room few cleared place-is more-is c p i vs cs fs os input put out S known small starts many there =
+    a k first v f
+opens m words zeros r a k first v f w x sane wide room few cleared place-is extent-is c p i vs cs fs os input put out S keeps known small starts many there =
     let at = r .base - (v + 2) in
     let frame-fits = sane .frame in
     let size : at + (v + 2) ≡ r .base = omega arith in
     let inside : r .base ≤ length words = omega arith in
-    stands-opened S (opened words zeros at v f w x) k first at v f w x cs size (omega arith) few (place-is (qualOf (c .sheet))) (more-is (qualOf (c .sheet)))
+    stands-opened S (opened words zeros at v f w x) a k first at v f w x cs size (omega arith) few wide (place-is (qualOf (c .sheet))) (extent-is (qualOf (c .sheet)))
     (length-opened words zeros at (r .base) v f w x size few inside cleared)
     (opened-before words zeros at (r .base) v f w x size few inside cleared (r .used) (omega arith))
-    (opened-at words zeros at (r .base) v f w x size few inside cleared) there known small starts many
+    (opened-at words zeros at (r .base) v f w x size few inside cleared) there keeps known small starts many

@@ -16,7 +16,8 @@ use Rattle.model.specs.declared.Operation.{Operation}
 use Rattle.model.specs.declared.Operation.the-variants as Op
 use Rattle.sheet.specs.Layout.{proceduresOf, procedureAt}
 use Rattle.sheet.specs.Meaning.{programOf, qualOf}
-use Rattle.sheet.specs.Inner.Places.{Places}
+use Rattle.index.specs.Procedures.{procedure-in}
+use Rattle.index.specs.Indexed.{ProcedureWord}
 use Rattle.words.specs.Sees.{Sees}
 use Rattle.words.specs.Answers.{Unless-stuck, number-as}
 use Rattle.words.specs.declared.Number.{Number}
@@ -81,14 +82,10 @@ pub record Running {m : Mode} (s : List ℕ) (r : Registers) (v : View m) : Type
   pub procedure : v .procedure ≡ r .procedure
   pub known : v .procedure < proceduresOf s
 
--- its place is in the table
-pub running-at : {m : Mode} (s table : List ℕ) (r : Registers) (v : View m) → Loaded s table → r .procedure < 64 → Running s r v
-    → getD table (r .procedure) 0 ≡ procedureAt s (v .procedure)
-unfolding Places
-running-at s table r v L h R =
-    let e = R .procedure in
-    let k = R .known in
-    ap (λ (p : ℕ). getD table p 0) (sym e) ∙ L .places (v .procedure) (omega arith) (omega arith)
+-- its word is in the index
+pub running-word : {m : Mode} (s index : List ℕ) (r : Registers) (v : View m) → Loaded s index → Running s r v
+    → ProcedureWord s (procedureAt s (v .procedure)) (procedure-in index (r .procedure))
+running-word s index r v L R = rw (← R .procedure) (L .ready .procedures (v .procedure) (R .known))
 
 pub runs : (m : Mode) (c : Given) (s words before : List ℕ) (r : Registers) (t : State m) → c .sheet ≡ s → StandsFor m c words before r t
     → Running s r (view (length words) (length before) t)

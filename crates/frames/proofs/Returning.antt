@@ -1,5 +1,5 @@
 -- A frame that is given back: the one that waits runs on, in either machine; and what the plain machine hands over to it.
-use Prim.Native.Nat.{ℕ, pred, _+_, _-_, _*_, _%_, _≤_, _<_}
+use Prim.Native.Nat.{ℕ, pred, _+_, _-_, _≤_, _<_}
 use native.Mathlib.Omega.{arith}
 use mathlib.Core.Path.{_≡_, refl, sym, ap, _∙_}
 use mathlib.Core.Bool.{Bool, true, false, not, _&&_}
@@ -17,28 +17,27 @@ use Rattle.model.specs.Modes.{Mode, plain, amiss, bind, bind-result, demand}
 use Rattle.model.specs.Machine as M
 use Rattle.model.specs.Machine.{Value, Cell, empty, filled, Object, Frame, frame, State, state, Effect, View, view, apply, kept, held, moved, plan, plan-return, handed, to-caller, into-caller, frame-units}
 use Rattle.model.specs.declared.Operation.the-variants.{Return}
-use Rattle.sheet.specs.Layout.{proceduresOf, instructionAt, procedureAt}
-use Rattle.sheet.specs.Meaning.{programOf, qualOf}
+use Rattle.sheet.specs.Layout.{instructionAt, procedureAt}
 use Rattle.sheet.specs.Decode.{operationAt}
-use Rattle.form.proofs.Laws.{instruction-from}
-use Rattle.words.specs.Word.{low, payload, cell, slot-in}
-use Rattle.words.proofs.Laws.{blank-word, filled-word, place-word}
+use Rattle.sheet.specs.Meaning.{programOf, qualOf}
+use Rattle.words.specs.Word.{low, back-kept, back-procedure, back-next, extent-variables, cell, slot-in}
+use Rattle.words.proofs.Laws.{blank-word, filled-word, back-word, extent-word}
 use Rattle.writers.specs.declared.Registers.{Registers}
 use Rattle.writers.specs.declared.Stepped.{Stepped}
 use Rattle.writers.specs.declared.Stepped.the-variants.{Enter, Halt, Done}
 use Rattle.writers.specs.Memory.{Given, Sound, AllSound, Stands, StandsFor, flat-frames}
 use Rattle.writers.specs.Steps.{After, put-word}
 use Rattle.writers.proofs.Effects.{stopped-after, goes-on}
-use Rattle.writers.proofs.View.{frames-are, view-sees, alone, waiting-place, waiting-more, waiting-frame}
+use Rattle.writers.proofs.View.{frames-are, view-sees, alone, waiting-back, waiting-extent, waiting-frame}
 use Rattle.writers.proofs.Change.{length-put-word, put-word-before, put-word-frame, set-variable}
 use Rattle.frames.specs.Performs.{performed, Performs, Returns}
-use Rattle.frames.specs.Frames.{Waits, Keeps}
-use Rattle.frames.proofs.Kept.{optional-none, optional-some}
+use Rattle.frames.specs.Frames.{Waits, KeptIn, Keeps}
+use Rattle.frames.proofs.Kept.{optional-none, optional-some, optional-kept}
 
 -- ---- the registers of the frame that waits
 
-abbrev pub back : Registers → (procedure next first variables : ℕ) → Registers
-back r p i first v =
+abbrev waiting-registers : Registers → (procedure next first variables : ℕ) → Registers
+waiting-registers r p i first v =
     record {
       procedure = p;
       next = i;
@@ -65,10 +64,10 @@ module _ {m : Mode} {c : Given} {words out : List ℕ} {r : Registers} {p i q k 
   unfolding AllSound
   back-sound = S .waiting
 
-  stands-back : (procedure next first v : ℕ) → procedure ≡ q → next ≡ k → q < 64
-      → first ≡ instructionAt (c .sheet) (procedureAt (c .sheet) q) 0 → v ≡ length us
-      → Stands m c words out (back r procedure next first v) q k us gs os input put
-  stands-back procedure next first v at-q at-k small starts many =
+  stands-back : (procedure next first v : ℕ) → procedure ≡ q → next ≡ k → procedure < 64
+      → first ≡ instructionAt (c .sheet) (procedureAt (c .sheet) q) 0 → v ≡ length us → v < 256
+      → Stands m c words out (waiting-registers r procedure next first v) q k us gs os input put
+  stands-back procedure next first v at-q at-k small starts many few =
       let room = S .sane .room in
       let fits = back-fits in
       record {
@@ -76,7 +75,7 @@ module _ {m : Mode} {c : Given} {words out : List ℕ} {r : Registers} {p i q k 
         next = at-k;
         first = starts;
         variables = many;
-        sane = record { room = omega arith; frame = omega arith; small = S .sane .small; procedure = rw at-q small };
+        sane = record { room = omega arith; frame = omega arith; small = S .sane .small; procedure = small; variables = few };
         running = back-sound .0;
         waiting = back-sound .1;
         objects = S .objects;
@@ -88,17 +87,20 @@ module _ {m : Mode} {c : Given} {words out : List ℕ} {r : Registers} {p i q k 
       }
 
 -- what the code reads of it
-pub waits : (words : List ℕ) (r : Registers) (place more procedure next first v : ℕ)
-    → place ≡ getD words (r .base + r .variables) 0 → more ≡ getD words (r .base + (r .variables + 1)) 0
-    → procedure ≡ payload place % 64 → next ≡ low place → first ≡ low more → v ≡ payload more
-    → (m : Mode) (s : List ℕ) → proceduresOf s ≤ 64 → Waits m s words r (back r procedure next first v)
-waits words r place more procedure next first v place-is more-is procedure-is next-is starts many m s few c p i q k vs us fs os input put out same S =
+pub waits : (words : List ℕ) (r : Registers) (place extent procedure next first v : ℕ)
+    → place ≡ getD words (r .base + r .variables) 0 → extent ≡ getD words (r .base + (r .variables + 1)) 0
+    → procedure ≡ back-procedure place → next ≡ back-next place → first ≡ low extent → v ≡ extent-variables extent
+    → (m : Mode) → Waits m words r (waiting-registers r procedure next first v)
+waits words r place extent procedure next first v place-is extent-is procedure-is next-is starts many m c p i q k vs us fs os input put out S =
     let slot = slot-in m (qualOf (c .sheet)) in
-    let at = place-word m (qualOf (c .sheet)) place (ap slot place-is ∙ waiting-place S) in
-    let of = place-word m (qualOf (c .sheet)) more (ap slot more-is ∙ waiting-more S) in
-    let known : q < proceduresOf s = rw same at (back-sound S .0 .procedure) in
-    let e = at .0 in
-    stands-back S procedure next first v (omega arith) (next-is ∙ sym (at .1)) (omega arith) (starts ∙ sym (of .1)) (many ∙ sym (of .0))
+    let at = back-word m (qualOf (c .sheet)) place (ap slot place-is ∙ waiting-back S) in
+    let of = extent-word m (qualOf (c .sheet)) extent (ap slot extent-is ∙ waiting-extent S) in
+    stands-back S procedure next first v (procedure-is ∙ sym (at .0)) (next-is ∙ sym (at .1)) (omega arith) (starts ∙ sym (of .1)) (many ∙ sym (of .0)) (omega arith)
+
+pub keeps-in : (words : List ℕ) (r : Registers) (place a : ℕ) → place ≡ getD words (r .base + r .variables) 0 → a ≡ back-kept place
+    → (m : Mode) → KeptIn m words r a
+keeps-in words r place a place-is kept-is m c p i q k vs us fs os input put out S =
+    kept-is ∙ sym (back-word m (qualOf (c .sheet)) place (ap (slot-in m (qualOf (c .sheet))) place-is ∙ waiting-back S) .2)
 
 -- a variable of it that is written
 kept-put : (m : Mode) (words : List ℕ) (b : Registers) (a w : ℕ) → Keeps m words (put-word words (b .base) (b .variables) a w) b a w
@@ -113,14 +115,12 @@ pub keeps : (m : Mode) (words words′ : List ℕ) (b : Registers) (a w : ℕ) �
 keeps m words words′ b a w e = rw e (kept-put m words b a w)
 
 -- the variable that its call keeps
-pub kept-is : {m : Mode} {c : Given} {words out : List ℕ} {b : Registers} {q k : ℕ} {us : List (Cell m)} {gs : List (Frame m)} {os : List (Object m)}
-    {input put : List ℕ} (s : List ℕ) (a : ℕ) → c .sheet ≡ s → optional a ≡ kept (operationAt s (b .first + 8 * pred (b .next)))
-    → Stands m c words out b q k us gs os input put → kept (programOf s .operation q (pred k)) ≡ optional a
-kept-is {b = b} {q} {k} s a same names B =
-    let first : b .first ≡ instructionAt s (procedureAt s q) 0 = rw same at (B .first) in
-    let at : b .first + 8 * pred (b .next) ≡ instructionAt s (procedureAt s q) (pred k) =
-    ap (λ (n : ℕ). b .first + 8 * pred n) (B .next) ∙ instruction-from s (procedureAt s q) (b .first) (pred k) first in
-    sym (names ∙ ap (λ (n : ℕ). kept (operationAt s n)) at)
+kept-is : {m : Mode} {c : Given} {words out : List ℕ} {r : Registers} {p i q k : ℕ} {vs us : List (Cell m)} {gs : List (Frame m)} {os : List (Object m)}
+    {input put : List ℕ} (s : List ℕ) (a : ℕ) → c .sheet ≡ s → KeptIn m words r a
+    → Stands m c words out r p i vs (frame q k us ∷ gs) os input put → kept (programOf s .operation q (pred k)) ≡ optional a
+kept-is {c = c} {out = out} {p = p} {i} {q} {k} {vs} {us} {gs} {os} {input} {put} s a same K S =
+    let op = operationAt (c .sheet) (instructionAt (c .sheet) (procedureAt (c .sheet) q) (pred k)) in
+    rw same at (sym (ap optional (K c p i q k vs us gs os input put out S) ∙ optional-kept op))
 
 -- ---- the return itself, in either machine
 
@@ -138,54 +138,53 @@ returns-over m s words r value h out c (state (frame p i vs) (frame q k us ∷ g
     let fits = back-fits S in
     absurd (omega arith)
 
-module _ (m : Mode) (s words : List ℕ) (r b : Registers) (a : ℕ) (above : r .base + (r .variables + 2) < length words)
-    (W : Waits m s words r b) (names : optional a ≡ kept (operationAt s (b .first + 8 * pred (b .next)))) where
+module _ (m : Mode) (s words : List ℕ) (r : Registers) (a : ℕ) (above : r .base + (r .variables + 2) < length words) (K : KeptIn m words r a) where
   no-main : {c : Given} {out : List ℕ} {p i : ℕ} {vs : List (Cell m)} {os : List (Object m)} {input put : List ℕ}
       → Stands m c words out r p i vs [] os input put → ⊥
   no-main S = let l = alone S in omega arith
 
-  -- the call that waits keeps nothing
-  pub returns-dropped : a ≡ 255 → (value : Option (Cell m)) (out : List ℕ) → Returns m s words words out r (Enter b) value
-  unfolding to-caller into-caller _>>=_ apply
-  returns-dropped e value out c (state (frame p i vs) [] os input put) same S = absurd (no-main S)
-  returns-dropped e value out c (state (frame p i vs) (frame q k us ∷ gs) os input put) same S =
-      let t = state (frame p i vs) (frame q k us ∷ gs) os input put in
-      let seen = view (length words) (length out) t in
-      let B = W c p i q k vs us gs os input put out same S in
-      planned-as c words out s r t (Enter b) (to-caller m (programOf s) seen (some (q, k)) value) (ok (M.resume none))
-      (ap (λ (x : Option ℕ). into-caller m (programOf s) seen q x value) (kept-is s a same names B ∙ optional-none a e)) B
+  -- the call that waits keeps a value that is not there
+  pub caller-lacks : (a ≡ 255 → ⊥) → (out : List ℕ) (c : Given) (t : State m) → c .sheet ≡ s → StandsFor m c words out r t
+      → to-caller m (programOf s) (view (length words) (length out) t) (view (length words) (length out) t .caller) none ≡ amiss m
+  unfolding to-caller into-caller
+  caller-lacks n out c (state (frame p i vs) [] os input put) same S = absurd (no-main S)
+  caller-lacks n out c (state (frame p i vs) (frame q k us ∷ gs) os input put) same S =
+      let seen = view (length words) (length out) (state (frame p i vs) (frame q k us ∷ gs) os input put) in
+      ap (λ (x : Option ℕ). into-caller m (programOf s) seen q x none) (kept-is s a same K S ∙ optional-some a n)
 
-  module _ (n : a ≡ 255 → ⊥) where
-    -- it keeps a value: that is bound to its variable a, and kept there
-    pub caller-binds : (value : Cell m) (out : List ℕ) (c : Given) (t : State m) → c .sheet ≡ s → StandsFor m c words out r t
-        → to-caller m (programOf s) (view (length words) (length out) t) (view (length words) (length out) t .caller) (some value)
-        ≡ (moved m (programOf s) (view (length words) (length out) t) (programOf s .inner (b .procedure) a) value >>= λ d. ok (M.resume (some (a, d))))
-    unfolding to-caller into-caller
-    caller-binds value out c (state (frame p i vs) [] os input put) same S = absurd (no-main S)
-    caller-binds value out c (state (frame p i vs) (frame q k us ∷ gs) os input put) same S =
+  module _ (b : Registers) (W : Waits m words r b) where
+    -- it keeps nothing
+    pub returns-dropped : a ≡ 255 → (value : Option (Cell m)) (out : List ℕ) → Returns m s words words out r (Enter b) value
+    unfolding to-caller into-caller _>>=_ apply
+    returns-dropped e value out c (state (frame p i vs) [] os input put) same S = absurd (no-main S)
+    returns-dropped e value out c (state (frame p i vs) (frame q k us ∷ gs) os input put) same S =
         let t = state (frame p i vs) (frame q k us ∷ gs) os input put in
         let seen = view (length words) (length out) t in
-        let B = W c p i q k vs us gs os input put out same S in
-        ap (λ (x : Option ℕ). into-caller m (programOf s) seen q x (some value)) (kept-is s a same names B ∙ optional-some a n)
-        ∙ ap (λ (j : ℕ). moved m (programOf s) seen (programOf s .inner j a) value >>= λ d. ok (M.resume (some (a, d)))) (sym (B .procedure))
+        let B = W c p i q k vs us gs os input put out S in
+        planned-as c words out s r t (Enter b) (to-caller m (programOf s) seen (some (q, k)) value) (ok (M.resume none))
+        (ap (λ (x : Option ℕ). into-caller m (programOf s) seen q x value) (kept-is s a same K S ∙ optional-none a e)) B
 
-    -- it keeps one that is not there
-    pub caller-lacks : (out : List ℕ) (c : Given) (t : State m) → c .sheet ≡ s → StandsFor m c words out r t
-        → to-caller m (programOf s) (view (length words) (length out) t) (view (length words) (length out) t .caller) none ≡ amiss m
-    unfolding to-caller into-caller
-    caller-lacks out c (state (frame p i vs) [] os input put) same S = absurd (no-main S)
-    caller-lacks out c (state (frame p i vs) (frame q k us ∷ gs) os input put) same S =
-        let seen = view (length words) (length out) (state (frame p i vs) (frame q k us ∷ gs) os input put) in
-        let B = W c p i q k vs us gs os input put out same S in
-        ap (λ (x : Option ℕ). into-caller m (programOf s) seen q x none) (kept-is s a same names B ∙ optional-some a n)
+    module _ (n : a ≡ 255 → ⊥) where
+      -- it keeps a value: that is bound to its variable a, and kept there
+      pub caller-binds : (value : Cell m) (out : List ℕ) (c : Given) (t : State m) → c .sheet ≡ s → StandsFor m c words out r t
+          → to-caller m (programOf s) (view (length words) (length out) t) (view (length words) (length out) t .caller) (some value)
+          ≡ (moved m (programOf s) (view (length words) (length out) t) (programOf s .inner (b .procedure) a) value >>= λ d. ok (M.resume (some (a, d))))
+      unfolding to-caller into-caller
+      caller-binds value out c (state (frame p i vs) [] os input put) same S = absurd (no-main S)
+      caller-binds value out c (state (frame p i vs) (frame q k us ∷ gs) os input put) same S =
+          let t = state (frame p i vs) (frame q k us ∷ gs) os input put in
+          let seen = view (length words) (length out) t in
+          let B = W c p i q k vs us gs os input put out S in
+          ap (λ (x : Option ℕ). into-caller m (programOf s) seen q x (some value)) (kept-is s a same K S ∙ optional-some a n)
+          ∙ ap (λ (j : ℕ). moved m (programOf s) seen (programOf s .inner j a) value >>= λ d. ok (M.resume (some (a, d)))) (sym (B .procedure))
 
-    pub resumed : (w : ℕ) (words′ : List ℕ) → Keeps m words words′ b a w
-        → (d : Cell m) (out : List ℕ) (c : Given) (t : State m) → c .sheet ≡ s → StandsFor m c words out r t → slot-in m (qualOf (c .sheet)) w ≡ cell d
-        → After m c words′ out out r t (Enter b) (performed s t (ok (M.resume (some (a, d)))))
-    unfolding _>>=_ apply
-    resumed w words′ K d out c (state (frame p i vs) [] os input put) same S is = absurd (no-main S)
-    resumed w words′ K d out c (state (frame p i vs) (frame q k us ∷ gs) os input put) same S is =
-        K c q k us gs os input put out d is (W c p i q k vs us gs os input put out same S)
+      pub resumed : (w : ℕ) (words′ : List ℕ) → Keeps m words words′ b a w
+          → (d : Cell m) (out : List ℕ) (c : Given) (t : State m) → c .sheet ≡ s → StandsFor m c words out r t → slot-in m (qualOf (c .sheet)) w ≡ cell d
+          → After m c words′ out out r t (Enter b) (performed s t (ok (M.resume (some (a, d)))))
+      unfolding _>>=_ apply
+      resumed w words′ kept d out c (state (frame p i vs) [] os input put) same S is = absurd (no-main S)
+      resumed w words′ kept d out c (state (frame p i vs) (frame q k us ∷ gs) os input put) same S is =
+          kept c q k us gs os input put out d is (W c p i q k vs us gs os input put out S)
 
 -- ---- what a return hands over in the plain machine
 
@@ -196,19 +195,19 @@ Value-of qual w (some d) = (x : Value) × ((d ≡ filled x tt) × (slot-in plain
 
 -- the plain machine binds no rights; where it keeps what is not there it is stuck
 returns-kept : (s words : List ℕ) (r b : Registers) (a : ℕ) → r .base + (r .variables + 2) < length words
-    → Waits plain s words r b → optional a ≡ kept (operationAt s (b .first + 8 * pred (b .next))) → (a ≡ 255 → ⊥)
+    → Waits plain words r b → KeptIn plain words r a → (a ≡ 255 → ⊥)
     → (w : ℕ) (words′ : List ℕ) → Keeps plain words words′ b a w
     → (value : Option (Cell plain)) (out : List ℕ) (c : Given) (t : State plain) → c .sheet ≡ s → StandsFor plain c words out r t
     → Value-of (qualOf (c .sheet)) w value
     → After plain c words′ out out r t (Enter b)
     (performed s t (to-caller plain (programOf s) (view (length words) (length out) t) (view (length words) (length out) t .caller) value))
 unfolding moved held bind amiss _>>=_
-returns-kept s words r b a above W names n w words′ K none out c t same S is =
-    planned-as c words′ out s r t (Enter b) _ stuck (caller-lacks plain s words r b a above W names n out c t same S) tt
-returns-kept s words r b a above W names n w words′ K (some d) out c t same S is =
+returns-kept s words r b a above W K n w words′ kept none out c t same S is =
+    planned-as c words′ out s r t (Enter b) _ stuck (caller-lacks plain s words r a above K n out c t same S) tt
+returns-kept s words r b a above W K n w words′ kept (some d) out c t same S is =
     planned-as c words′ out s r t (Enter b) _ (ok (M.resume (some (a, d))))
-    (caller-binds plain s words r b a above W names n d out c t same S ∙ rw (is .1 .0))
-    (resumed plain s words r b a above W names n w words′ K d out c t same S (is .1 .1))
+    (caller-binds plain s words r a above K b W n d out c t same S ∙ rw (is .1 .0))
+    (resumed plain s words r a above K b W n w words′ kept d out c t same S (is .1 .1))
 
 module _ (g : Program) (v : View plain) (a : ℕ) where
   return-none : a ≡ 255 → plan plain g v (Return a) ≡ to-caller plain g v (v .caller) none
@@ -287,15 +286,15 @@ module _ (s words : List ℕ) (r : Registers) (a w : ℕ) (word-is : w ≡ getD 
         let y = handed-over c out t S in
         planned-as c words out s r t Done _ _ (y .1 .0) (returns-over plain s words r (y .0) h out c t same S)
 
-    module _ (b : Registers) (k : ℕ) (above : r .base + (r .variables + 2) < length words) (W : Waits plain s words r b)
-        (names : optional k ≡ kept (operationAt s (b .first + 8 * pred (b .next)))) where
+    module _ (b : Registers) (k : ℕ) (above : r .base + (r .variables + 2) < length words) (W : Waits plain words r b)
+        (K : KeptIn plain words r k) where
       pub gives-dropped : k ≡ 255 → (input out : List ℕ) → Performs plain s input words words out out r (Enter b) (Return a)
       gives-dropped e input out c t same from S =
           let y = handed-over c out t S in
-          planned-as c words out s r t (Enter b) _ _ (y .1 .0) (returns-dropped plain s words r b k above W names e (y .0) out c t same S)
+          planned-as c words out s r t (Enter b) _ _ (y .1 .0) (returns-dropped plain s words r k above K b W e (y .0) out c t same S)
 
       pub gives-kept : (k ≡ 255 → ⊥) → (words′ : List ℕ) → Keeps plain words words′ b k w
           → (input out : List ℕ) → Performs plain s input words words′ out out r (Enter b) (Return a)
-      gives-kept n words′ K input out c t same from S =
+      gives-kept n words′ kept input out c t same from S =
           let y = handed-over c out t S in
-          planned-as c words′ out s r t (Enter b) _ _ (y .1 .0) (returns-kept s words r b k above W names n w words′ K (y .0) out c t same S (y .1 .1))
+          planned-as c words′ out s r t (Enter b) _ _ (y .1 .0) (returns-kept s words r b k above W K n w words′ kept (y .0) out c t same S (y .1 .1))

@@ -1,8 +1,8 @@
--- Where the instruction that the registers name stands, and what is known of it in a well-formed sheet.
+-- Where the instruction that the registers name stands, what is known of it in a well-formed sheet, and the part of the sheet that it is read from.
 use Prim.Native.Nat.{ℕ, _+_, _*_, _≤_, _<_}
 use mathlib.Core.Path.{_≡_}
 use mathlib.Core.List.{List}
-use lib.ListN.{length}
+use lib.ListN.{length, drop}
 use Rattle.model.specs.Rules.{callee}
 use Rattle.model.specs.declared.Operation.the-variants.{Call}
 use Rattle.sheet.specs.Layout.{proceduresOf, formalsAt, procedureAt}
@@ -17,6 +17,10 @@ place-in r = r .first + 8 * r .next
 pub record Fetchable (s : List ℕ) (r : Registers) : Type 0 where
   pub whole : place-in r + 8 ≤ length s
   pub first : r .first ≤ length s
-  pub next : r .next < 65536
+  pub next : r .next < 1000
   pub callee-there : callee (operationAt s (place-in r)) < proceduresOf s
   pub actuals : (a b k : ℕ) → operationAt s (place-in r) ≡ Call a b k → (j : ℕ) → j < formalsAt s (procedureAt s k) → b + j < r .variables
+
+-- the instructions of the running procedure, and whatever follows them in the sheet
+abbrev pub CodeOf : (s : List ℕ) → Registers → (code : List ℕ) → Type 0
+CodeOf s r code = code ≡ drop (r .first) s

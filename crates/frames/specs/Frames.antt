@@ -1,17 +1,20 @@
 -- What it is to copy words, to open a frame, to find the one that waits and to keep a word in it; the last three in either machine: in each the words
 -- stand for the state with it.
-use Prim.Native.Nat.{ℕ, suc, _+_, _-_, _^_, _≤_, _<_}
+use Prim.Native.Nat.{ℕ, suc, pred, _+_, _-_, _^_, _≤_, _<_}
 use mathlib.Core.Path.{_≡_}
 use mathlib.Core.Bool.{Bool, true, false}
 use mathlib.Core.List.{List, _∷_, _++_, map}
 use lib.ListN.{length, getD, take, drop, set, replicate}
 use Rattle.model.specs.Modes.{Mode}
 use Rattle.model.specs.Machine.{Cell, empty, Object, Frame, frame}
+use Rattle.model.specs.declared.Operation.the-variants.{Call}
 use Rattle.sheet.specs.Layout.{proceduresOf, formalsAt, variablesAt, instructionAt, procedureAt}
+use Rattle.sheet.specs.Decode.{operationAt}
 use Rattle.sheet.specs.Meaning.{qualOf}
 use Rattle.words.specs.Word.{cell, slot-in}
 use Rattle.writers.specs.declared.Registers.{Registers}
-use Rattle.writers.specs.Memory.{Given, slots, Stands}
+use Rattle.writers.specs.Memory.{Given, kept-byte, slots, Stands}
+use Rattle.frames.specs.Fetch.{place-in}
 
 -- the words with n of them copied to another place
 abbrev pub copied : (words : List ℕ) → (from to n : ℕ) → List ℕ
@@ -22,35 +25,44 @@ abbrev pub Copies : (words words′ : List ℕ) → (from to n : ℕ) → Bool �
 Copies words words′ from to n true = (words′ ≡ copied words from to n) × ((j : ℕ) → j < n → getD words (from + j) 0 ≡ 0 → ⊥)
 Copies words words′ from to n false = (j : ℕ) × (j < n) × (words′ ≡ copied words from to j) × (getD words (from + j) 0 ≡ 0)
 
--- what a call of procedure k with variables from b on leans on: an instruction of the sheet, a procedure of it, and variables that the running frame has
-pub record Callable (s : List ℕ) (r : Registers) (b k : ℕ) : Type 0 where
-  pub next : r .next < 65536
-  pub first : r .first ≤ length s
+-- what a call of procedure k with variables from b on, which keeps variable a, leans on: the instruction of the sheet that the registers name, a
+-- procedure of it, and variables that the running frame has
+pub record Callable (s : List ℕ) (r : Registers) (a b k : ℕ) : Type 0 where
+  pub here : operationAt s (place-in r) ≡ Call a b k
+  pub next : r .next < 1000
+  pub first : r .first < 2 ^ 32
   pub procedure : k < proceduresOf s
   pub actuals : (j : ℕ) → j < formalsAt s (procedureAt s k) → b + j < r .variables
 
--- a frame of procedure k was opened below the running one: it has the f cells whose words stood at its place, and then blank ones
-abbrev pub Opened : (m : Mode) → (words words′ : List ℕ) → (r q : Registers) → (k first v f : ℕ) → Type 0
-Opened m words words′ r q k first v f =
+-- a frame of procedure k was opened below the running one, whose call keeps variable a: it has the f cells whose words stood at its place, and then
+-- blank ones
+abbrev pub Opened : (m : Mode) → (words words′ : List ℕ) → (r q : Registers) → (a k first v f : ℕ) → Type 0
+Opened m words words′ r q a k first v f =
     (c : Given) (p i : ℕ) (vs cs : List (Cell m)) (fs : List (Frame m)) (os : List (Object m)) (input put out : List ℕ) →
     Stands m c words out r p i vs fs os input put →
+    a ≡ kept-byte (operationAt (c .sheet) (instructionAt (c .sheet) (procedureAt (c .sheet) p) i)) →
     k < proceduresOf (c .sheet) → k < 64 →
     first ≡ instructionAt (c .sheet) (procedureAt (c .sheet) k) 0 → v ≡ variablesAt (c .sheet) (procedureAt (c .sheet) k) →
     slots m c (take f (drop (r .base - (v + 2)) words)) ≡ map cell cs →
     Stands m c words′ out q k 0 (cs ++ replicate (v - f) empty) (frame p (suc i) vs ∷ fs) os input put
 
--- b is what the registers r become when the frame that waits runs on, over a sheet
-abbrev pub Waits : (m : Mode) → (s words : List ℕ) → (r b : Registers) → Type 0
-Waits m s words r b =
+-- b is what the registers r become when the frame that waits runs on
+abbrev pub Waits : (m : Mode) → (words : List ℕ) → (r b : Registers) → Type 0
+Waits m words r b =
     (c : Given) (p i q k : ℕ) (vs us : List (Cell m)) (fs : List (Frame m)) (os : List (Object m)) (input put out : List ℕ) →
-    c .sheet ≡ s → Stands m c words out r p i vs (frame q k us ∷ fs) os input put → Stands m c words out b q k us fs os input put
+    Stands m c words out r p i vs (frame q k us ∷ fs) os input put → Stands m c words out b q k us fs os input put
+
+-- a is the variable that its call keeps; 255 is none
+abbrev pub KeptIn : (m : Mode) → (words : List ℕ) → Registers → ℕ → Type 0
+KeptIn m words r a =
+    (c : Given) (p i q k : ℕ) (vs us : List (Cell m)) (fs : List (Frame m)) (os : List (Object m)) (input put out : List ℕ) →
+    Stands m c words out r p i vs (frame q k us ∷ fs) os input put →
+    a ≡ kept-byte (operationAt (c .sheet) (instructionAt (c .sheet) (procedureAt (c .sheet) q) (pred k)))
 
 -- its bounds, in a memory of n words
 pub record Reached (n : ℕ) (b : Registers) : Type 0 where
   pub procedure : b .procedure < 64
   pub base : b .base < n
-  pub first : b .first < 2 ^ 32
-  pub next : b .next < 2 ^ 32
 
 -- variable a of the running frame became the cell of a word; its next instruction is the same
 abbrev pub Keeps : (m : Mode) → (words words′ : List ℕ) → Registers → (a w : ℕ) → Type 0

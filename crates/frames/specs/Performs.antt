@@ -11,17 +11,17 @@ use Rattle.model.specs.Refusal.{verdict}
 use Rattle.model.specs.declared.Verdict.the-variants.{Accepted}
 use Rattle.model.specs.declared.Operation.{Operation}
 use Rattle.sheet.specs.Meaning.{programOf}
-use Rattle.sheet.specs.Inner.Places.{Places}
+use Rattle.index.specs.Indexed.{Ready}
 use Rattle.form.specs.WellFormed.{form-tests}
 use Rattle.writers.specs.declared.Registers.{Registers}
 use Rattle.writers.specs.declared.Stepped.{Stepped}
 use Rattle.writers.specs.Memory.{Given, StandsFor}
 use Rattle.writers.specs.Steps.{After}
 
--- a well-formed sheet, with the table of its procedures' places
-pub record Loaded (s table : List ℕ) : Type 0 where
+-- a well-formed sheet, with its index
+pub record Loaded (s index : List ℕ) : Type 0 where
   pub formed : verdict (form-tests s) ≡ Accepted
-  pub places : Places s table
+  pub ready : Ready s index
 
 -- the effect that is planned in a state, applied to it
 abbrev pub performed : {m : Mode} → (s : List ℕ) → State m → Res (Effect m) → Res (Next m)

@@ -1,29 +1,44 @@
 // Frames: opened by a call below the running one, given back by a return.
-use sheet::bytes::byte;
+use index::Index;
+use index::procedures::formals_in;
+use index::procedures::place_in;
+use index::procedures::procedure_word;
+use index::procedures::variables_in;
+use words::back_kept;
+use words::back_next;
+use words::back_procedure;
+use words::back_word;
 use words::clear;
+use words::extent_variables;
+use words::extent_word;
 use words::low_of;
-use words::name_of;
-use words::place_word;
 use words::read;
 use words::write;
 use writers::Registers;
 use writers::Stepped;
 ghost use mathlib.Core.Path.{_≡_};
-ghost use mathlib.Core.Bool.{cond};
 ghost use mathlib.Core.List.{List};
-ghost use mathlib.Core.Option.{none};
-ghost use Prim.Native.Nat.{ℕ, pred, _+_, _-_, _*_, _^_, _≤_, _<_};
-ghost use lib.Dec.{eqb};
-ghost use lib.ListN.{length};
+ghost use Prim.Native.Nat.{ℕ, _+_, _-_, _*_, _^_, _≤_, _<_};
+ghost use lib.ListN.{length, drop};
+ghost use Rattle.model.specs.Qualified.{Qual};
 ghost use Rattle.model.specs.Modes.{Mode, plain};
-ghost use Rattle.model.specs.Machine.{kept};
-ghost use Rattle.model.specs.Rules.{optional};
 ghost use Rattle.model.specs.declared.Operation.the-variants.{Call, Return};
-ghost use Rattle.sheet.specs.Layout.{proceduresOf, formalsAt, variablesAt, instructionAt};
-ghost use Rattle.sheet.specs.Decode.{operationAt};
+ghost use Rattle.index.specs.Procedures.{place-of, variables-of};
+ghost use Rattle.words.specs.Word.{back, extent, slot-in};
 ghost use Rattle.writers.specs.Memory.{Sane};
 ghost use Rattle.frames.specs.Performs.{Loaded, PerformsInside};
-ghost use Rattle.frames.specs.Frames.{Copies, Callable, Opened, Waits, Reached, Keeps};
+ghost use Rattle.frames.specs.Frames.{Copies, Callable, Opened, Waits, Reached, KeptIn, Keeps};
+
+// The sheet from a procedure's first instruction on; nothing past its end.
+pub fn instructions_of(s: &[u8], first: usize) -> &[u8]
+    ensures { λ r. ⌜ now r ≡ drop first (now (s .entry)) ⌝ }
+{
+    let len = s.len();
+    if len <= first {
+        return &s[len..len];
+    }
+    &s[first..len]
+}
 
 // n filled words are copied to a place below; false where one is blank.
 fn copy_filled(memory: &mut [u64], from: usize, to: usize, n: usize) -> bool
@@ -43,20 +58,44 @@ fn copy_filled(memory: &mut [u64], from: usize, to: usize, n: usize) -> bool
     true
 }
 
+// The two words that tell of the running frame while it waits behind a call that keeps variable a.
+fn back_of(r: Registers, a: u8) -> u64
+    requires { ⌜ (r .procedure < 64) × (r .next < 1000) ⌝ }
+    ensures { λ w. ⌜ ((m : Mode) (q : ℕ → Qual) → slot-in m q w ≡ back (r .procedure) (r .next + 1) a) ⌝ }
+{
+    back_word(r.procedure as u8, (r.next + 1) as u32, a)
+}
+
+fn extent_of(r: Registers) -> u64
+    requires { ⌜ (r .variables < 256) × (r .first < 2 ^ 32) ⌝ }
+    ensures { λ w. ⌜ ((m : Mode) (q : ℕ → Qual) → slot-in m q w ≡ extent (r .variables) (r .first)) ⌝ }
+{
+    extent_word(r.variables as u8, r.first as u32)
+}
+
 // The frame of procedure k, whose instructions start at `first`, with v variables: the first f of them stand at its place already, the others are blank.
-pub fn open(memory: &mut [u64], r: Registers, k: usize, first: usize, v: usize, f: u8) -> Registers
+// The running frame waits behind a call that keeps variable a; 255 is none.
+pub fn open(
+    memory: &mut [u64],
+    r: Registers,
+    a: u8,
+    k: usize,
+    first: usize,
+    v: usize,
+    f: u8,
+) -> Registers
     requires { ⌜ Sane (length (now memory)) r ⌝ }
-    requires { ⌜ (r .next < 65536) × (r .first < 2 ^ 32) ⌝ }
-    requires { ⌜ v + 2 ≤ r .base - r .used ⌝ }
+    requires { ⌜ (r .next < 1000) × (r .first < 2 ^ 32) ⌝ }
+    requires { ⌜ (v < 256) × (v + 2 ≤ r .base - r .used) ⌝ }
     requires { ⌜ f ≤ v ⌝ }
-    ensures { λ q. ⌜ ((m : Mode) → Opened m (now (memory .entry)) (now (memory .exit)) r q k first v f) ⌝ }
+    ensures { λ q. ⌜ ((m : Mode) → Opened m (now (memory .entry)) (now (memory .exit)) r q a k first v f) ⌝ }
 {
     let at = r.base - (v + 2);
     let rest = at + (f as usize);
     let end = at + v;
     clear(&mut memory[rest..end]);
-    memory[end] = place_word(r.procedure as u32, (r.next + 1) as u32);
-    memory[end + 1] = place_word(r.variables as u32, r.first as u32);
+    memory[end] = back_of(r, a);
+    memory[end + 1] = extent_of(r);
     Registers {
         procedure: k,
         next: 0,
@@ -70,51 +109,39 @@ pub fn open(memory: &mut [u64], r: Registers, k: usize, first: usize, v: usize, 
     }
 }
 
-// What a call reads of a procedure: its counts of formals and of variables, and where its instructions start.
-struct Header {
-    formals: u8,
-    variables: u8,
-    first: usize,
-}
-
-// Where the instructions of the procedure at pr start, after its v variables.
-fn first_of(pr: u32, v: u8) -> usize
-    ensures { λ at. ⌜ at ≡ pr + (8 + 4 * v) ⌝ }
+// Where the instructions of a procedure start, by its word of the index: after its variables.
+pub fn first_in(w: u64) -> usize
+    ensures { λ at. ⌜ at ≡ place-of w + (8 + 4 * variables-of w) ⌝ }
 {
-    (pr as usize) + (8 + 4 * (v as usize))
+    (place_in(w) as usize) + (8 + 4 * (variables_in(w) as usize))
 }
 
-// That of the procedure at pr, whose record stands whole.
-fn header_at(s: &[u8], pr: u32) -> Header
-    requires { ⌜ pr + 8 ≤ length (now s) ⌝ }
-    ensures { λ h. ⌜ (h .formals ≡ formalsAt (now (s .entry)) pr) × (h .variables ≡ variablesAt (now (s .entry)) pr) × (h .first ≡ instructionAt (now (s .entry)) pr 0) ⌝ }
-{
-    let at = pr as usize;
-    let v = s[at + 4];
-    Header {
-        formals: s[at + 3],
-        variables: v,
-        first: first_of(pr, v),
-    }
-}
-
-// A call of procedure k with variables from b on: 17, then 13 for a blank actual.
-pub fn call(s: &[u8], table: &[u32; 65], memory: &mut [u64], r: Registers, b: u8, k: u16) -> Stepped
-    requires { ⌜ Loaded (now s) (now table) ⌝ }
+// A call of procedure k with variables from b on, which keeps variable a: 17, then 13 for a blank actual. It reads the index alone; the sheet is there for
+// the contract.
+pub fn call(
+    s: &[u8],
+    index: &Index,
+    memory: &mut [u64],
+    r: Registers,
+    a: u8,
+    b: u8,
+    k: u16,
+) -> Stepped
+    requires { ⌜ Loaded (now s) (now index) ⌝ }
     requires { ⌜ Sane (length (now memory)) r ⌝ }
-    requires { ⌜ Callable (now s) r b k ⌝ }
-    ensures { λ o. ⌜ ((a : ℕ) → PerformsInside plain (now (s .entry)) (now (memory .entry)) (now (memory .exit)) r o (Call a b k)) ⌝ }
+    requires { ⌜ Callable (now s) r a b k ⌝ }
+    ensures { λ o. ⌜ PerformsInside plain (now (s .entry)) (now (memory .entry)) (now (memory .exit)) r o (Call a b k) ⌝ }
 {
-    let pr = header_at(s, table[k as usize]);
-    let f = pr.formals;
-    let v = pr.variables as usize;
+    let w = procedure_word(index, k as usize);
+    let f = formals_in(w);
+    let v = variables_in(w) as usize;
     let base = r.base;
     if base - r.used < v + 2 {
         return Stepped::Halt(17);
     }
     let from = if f == 0 { 0 } else { b };
     if copy_filled(memory, base + (from as usize), base - (v + 2), f as usize) {
-        return Stepped::Enter(open(memory, r, k as usize, pr.first, v, f));
+        return Stepped::Enter(open(memory, r, a, k as usize, first_in(w), v, f));
     }
     Stepped::Halt(13)
 }
@@ -122,17 +149,17 @@ pub fn call(s: &[u8], table: &[u32; 65], memory: &mut [u64], r: Registers, b: u8
 // The registers of the frame that waits, where there is one.
 pub fn waiting(memory: &[u64], r: Registers) -> Registers
     requires { ⌜ r .base + (r .variables + 2) < length (now memory) ⌝ }
-    ensures { λ b. ⌜ ((m : Mode) (s : List ℕ) → proceduresOf s ≤ 64 → Waits m s (now (memory .entry)) r b) ⌝ }
+    ensures { λ b. ⌜ ((m : Mode) → Waits m (now (memory .entry)) r b) ⌝ }
     ensures { λ b. ⌜ Reached (length (now (memory .entry))) b ⌝ }
 {
     let above = r.base + (r.variables + 2);
     let place = memory[above - 2];
-    let more = memory[above - 1];
+    let extent = memory[above - 1];
     Registers {
-        procedure: (name_of(place) % 64) as usize,
-        next: low_of(place) as usize,
-        first: low_of(more) as usize,
-        variables: name_of(more) as usize,
+        procedure: back_procedure(place) as usize,
+        next: back_next(place) as usize,
+        first: low_of(extent) as usize,
+        variables: extent_variables(extent) as usize,
         base: above,
         used: r.used,
         taken: r.taken,
@@ -141,24 +168,12 @@ pub fn waiting(memory: &[u64], r: Registers) -> Registers
     }
 }
 
-// The variable that an instruction names for its result; 255 where it is no call.
-fn kept_by(code: u8, a: u8) -> u8
-    ensures { λ r. ⌜ optional r ≡ cond (eqb code 16) (optional a) none ⌝ }
+// The variable that the call of the frame that waits keeps, where there is one; 255 is none.
+pub fn kept_in(memory: &[u64], r: Registers) -> u8
+    requires { ⌜ r .base + (r .variables + 2) < length (now memory) ⌝ }
+    ensures { λ a. ⌜ ((m : Mode) → KeptIn m (now (memory .entry)) r a) ⌝ }
 {
-    if code == 16 { a } else { 255 }
-}
-
-// The variable that the call before a frame's next instruction names for its result; 255 where it names none. Of an accepted sheet the record stands whole.
-pub fn kept_at(s: &[u8], b: Registers) -> u8
-    requires { ⌜ (b .first < 2 ^ 32) × (b .next < 2 ^ 32) ⌝ }
-    ensures { λ a. ⌜ optional a ≡ kept (operationAt (now (s .entry)) (b .first + 8 * pred (b .next))) ⌝ }
-{
-    let before = if b.next == 0 { 0 } else { b.next - 1 };
-    let at = b.first + 8 * before;
-    if at + 8 <= s.len() {
-        return kept_by(s[at + 2], s[at + 3]);
-    }
-    kept_by(byte(s, at, 2), byte(s, at, 3))
+    back_kept(memory[r.base + r.variables])
 }
 
 // Variable a of a frame becomes a word; one that it has not does not.
@@ -172,10 +187,9 @@ pub fn keep(memory: &mut [u64], b: Registers, a: u8, w: u64)
 }
 
 // A return of variable a; 255 is none. Where the frame that waits keeps what is not there the definition is stuck.
-pub fn give_back(s: &[u8], memory: &mut [u64], r: Registers, a: u8) -> Stepped
-    requires { ⌜ proceduresOf (now s) ≤ 64 ⌝ }
+pub fn give_back(memory: &mut [u64], r: Registers, a: u8) -> Stepped
     requires { ⌜ Sane (length (now memory)) r ⌝ }
-    ensures { λ o. ⌜ PerformsInside plain (now (s .entry)) (now (memory .entry)) (now (memory .exit)) r o (Return a) ⌝ }
+    ensures { λ o. ⌜ ((s : List ℕ) → PerformsInside plain s (now (memory .entry)) (now (memory .exit)) r o (Return a)) ⌝ }
 {
     let base = r.base;
     let end = base + r.variables;
@@ -187,7 +201,7 @@ pub fn give_back(s: &[u8], memory: &mut [u64], r: Registers, a: u8) -> Stepped
         return Stepped::Done;
     }
     let back = waiting(memory, r);
-    let kept = kept_at(s, back);
+    let kept = kept_in(memory, r);
     if kept == 255 {
         return Stepped::Enter(back);
     }

@@ -1,18 +1,19 @@
 -- What the plain machine's writers take, as the definition plans it.
-use Prim.Native.Nat.{ℕ, suc, _-_, _<_}
+use Prim.Native.Nat.{ℕ, suc, _-_}
 use mathlib.Core.Path.{_≡_, refl, ap, _∙_}
 use mathlib.Core.List.{List}
 use mathlib.Core.Option.{Option}
 use lib.Dec.{leb}
-use lib.ListN.{length, getD}
+use lib.ListN.{length}
 use Rattle.model.specs.Outcome.{memory-full, Res, ok, ensure, _>>=_, _>>_}
 use Rattle.model.specs.Qualified.{Qual, integer}
 use Rattle.model.specs.Modes.{plain, bind, demand}
 use Rattle.model.specs.Program.{Program}
 use Rattle.model.specs.Machine.{View, new-array, plan, one-integer, held, moved, give, gives, plan-array, plan-record, view}
 use Rattle.model.specs.declared.Operation.the-variants as Op
-use Rattle.sheet.specs.Layout.{ownerAt, slotsOf}
+use Rattle.sheet.specs.Layout.{slotsOf}
 use Rattle.sheet.specs.Meaning.{programOf, qualOf}
+use Rattle.index.specs.Procedures.{procedure-in, owner-of}
 use Rattle.words.specs.Answers.{Unless-stuck, number-as, given}
 use Rattle.words.specs.declared.Number.{Number}
 use Rattle.words.specs.declared.Number.the-variants.{Is}
@@ -22,7 +23,7 @@ use Rattle.writers.specs.Memory.{Given}
 use Rattle.writers.specs.Steps.{Does, take-effect, array-effect, record-effect}
 use Rattle.writers.proofs.View.{room-is}
 use Rattle.frames.specs.Performs.{Loaded, Performs}
-use Rattle.frames.proofs.Performs.{always, unless-then, Reads, sees-cut, sees, runs, running-at, performs}
+use Rattle.frames.proofs.Performs.{always, unless-then, Reads, sees-cut, sees, runs, running-word, performs}
 
 -- what is planned, known whether or not the definition is stuck
 pub exactly : {A : Type 0} {e p : Res A} → e ≡ p → Unless-stuck p (e ≡ p)
@@ -62,14 +63,13 @@ module _ (s input words words′ before out : List ℕ) (r : Registers) (o : Ste
       arrays (programOf s) v a b integer n (r .base - r .used) (room-is plain c words before r t S)
       (reads v (sees-cut plain (qualOf s) v words r (sees plain c s words before r t q S))))
 
-  -- its slots are those of the owner of the procedure whose place the table has
-  pub performs-record : (table : List ℕ) (n : ℕ) → Loaded s table → r .procedure < 64
-      → n ≡ slotsOf s (ownerAt s (getD table (r .procedure) 0))
+  -- its slots are those of the owner in the procedure's word
+  pub performs-record : (index : List ℕ) (w n : ℕ) → Loaded s index → w ≡ procedure-in index (r .procedure) → n ≡ slotsOf s (owner-of w)
       → ((c : Given) (q : Qual) (t named : ℕ) → Does plain c words words′ before out r o (record-effect plain (r .base - r .used) a q t named n))
       → Performs plain s input words words′ before out r o (Op.NewRecord a)
-  performs-record table n L h e does =
+  performs-record index w n L is e does =
       performs plain s input words words′ before out r o (Op.NewRecord a) (λ q. record-effect plain (r .base - r .used) a integer 0 0 n) (λ c. does c integer 0 0)
       (λ c t q i S.
       let v = view (length words) (length before) t in
       exactly (records (programOf s) v a (r .base - r .used) integer 0 0 n (room-is plain c words before r t S)
-      (e ∙ ap (λ (pr : ℕ). slotsOf s (ownerAt s pr)) (running-at s table r v L h (runs plain c s words before r t q S)))))
+      (e ∙ ap (slotsOf s) (ap owner-of is ∙ running-word s index r v L (runs plain c s words before r t q S) .owner))))

@@ -1,4 +1,7 @@
 // Each operation: what it asks for (crate plain_plan), done (crate writers).
+use index::Index;
+use index::procedures::owner_in;
+use index::procedures::procedure_word;
 use plain_plan::add_of;
 use plain_plan::array_size_of;
 use plain_plan::fetch_of;
@@ -30,7 +33,8 @@ ghost use Prim.Native.Nat.{ℕ, _<_};
 ghost use lib.ListN.{length};
 ghost use Rattle.model.specs.Modes.{plain};
 ghost use Rattle.model.specs.declared.Operation.the-variants as Op;
-ghost use Rattle.sheet.specs.Layout.{ownerAt, slotsOf};
+ghost use Rattle.sheet.specs.Layout.{slotsOf};
+ghost use Rattle.index.specs.Procedures.{owner-of};
 ghost use Rattle.writers.specs.Memory.{Sane};
 ghost use Rattle.frames.specs.Performs.{Loaded, Performs, PerformsInside};
 ghost use Rattle.plain_step.specs.Plans.{PlansNumber, PlansMoved, PlansStored};
@@ -87,7 +91,7 @@ fn set_in(memory: &[u64], r: Registers, a: u8, b: u8, k: u16) -> Stored
 
 pub fn set(memory: &mut [u64], r: Registers, a: u8, k: u16) -> Stepped
     requires { ⌜ Sane (length (now memory)) r ⌝ }
-    requires { ⌜ r .next < 65536 ⌝ }
+    requires { ⌜ r .next < 1000 ⌝ }
     ensures { λ o. ⌜ ((s : List ℕ) → PerformsInside plain s (now (memory .entry)) (now (memory .exit)) r o (Op.Set a k)) ⌝ }
 {
     give_number(memory, r, a, Number::Is(k as u32))
@@ -95,7 +99,7 @@ pub fn set(memory: &mut [u64], r: Registers, a: u8, k: u16) -> Stepped
 
 pub fn add(memory: &mut [u64], r: Registers, a: u8, b: u8, c: u8) -> Stepped
     requires { ⌜ Sane (length (now memory)) r ⌝ }
-    requires { ⌜ r .next < 65536 ⌝ }
+    requires { ⌜ r .next < 1000 ⌝ }
     ensures { λ o. ⌜ ((s : List ℕ) → PerformsInside plain s (now (memory .entry)) (now (memory .exit)) r o (Op.Add a b c)) ⌝ }
 {
     let base = r.base;
@@ -106,7 +110,7 @@ pub fn add(memory: &mut [u64], r: Registers, a: u8, b: u8, c: u8) -> Stepped
 
 pub fn subtract(memory: &mut [u64], r: Registers, a: u8, b: u8, c: u8) -> Stepped
     requires { ⌜ Sane (length (now memory)) r ⌝ }
-    requires { ⌜ r .next < 65536 ⌝ }
+    requires { ⌜ r .next < 1000 ⌝ }
     ensures { λ o. ⌜ ((s : List ℕ) → PerformsInside plain s (now (memory .entry)) (now (memory .exit)) r o (Op.Subtract a b c)) ⌝ }
 {
     let base = r.base;
@@ -117,7 +121,7 @@ pub fn subtract(memory: &mut [u64], r: Registers, a: u8, b: u8, c: u8) -> Steppe
 
 pub fn less(memory: &mut [u64], r: Registers, a: u8, b: u8, c: u8) -> Stepped
     requires { ⌜ Sane (length (now memory)) r ⌝ }
-    requires { ⌜ r .next < 65536 ⌝ }
+    requires { ⌜ r .next < 1000 ⌝ }
     ensures { λ o. ⌜ ((s : List ℕ) → PerformsInside plain s (now (memory .entry)) (now (memory .exit)) r o (Op.Less a b c)) ⌝ }
 {
     let base = r.base;
@@ -128,7 +132,7 @@ pub fn less(memory: &mut [u64], r: Registers, a: u8, b: u8, c: u8) -> Stepped
 
 pub fn bind(memory: &mut [u64], r: Registers, a: u8, b: u8) -> Stepped
     requires { ⌜ Sane (length (now memory)) r ⌝ }
-    requires { ⌜ r .next < 65536 ⌝ }
+    requires { ⌜ r .next < 1000 ⌝ }
     ensures { λ o. ⌜ ((s : List ℕ) → PerformsInside plain s (now (memory .entry)) (now (memory .exit)) r o (Op.Bind a b)) ⌝ }
 {
     let base = r.base;
@@ -139,7 +143,7 @@ pub fn bind(memory: &mut [u64], r: Registers, a: u8, b: u8) -> Stepped
 
 pub fn fetch(memory: &mut [u64], r: Registers, a: u8, b: u8, c: u8) -> Stepped
     requires { ⌜ Sane (length (now memory)) r ⌝ }
-    requires { ⌜ r .next < 65536 ⌝ }
+    requires { ⌜ r .next < 1000 ⌝ }
     ensures { λ o. ⌜ ((s : List ℕ) → PerformsInside plain s (now (memory .entry)) (now (memory .exit)) r o (Op.Fetch a b c)) ⌝ }
 {
     let m = fetch_in(memory, r, b, c);
@@ -148,7 +152,7 @@ pub fn fetch(memory: &mut [u64], r: Registers, a: u8, b: u8, c: u8) -> Stepped
 
 pub fn size(memory: &mut [u64], r: Registers, a: u8, b: u8) -> Stepped
     requires { ⌜ Sane (length (now memory)) r ⌝ }
-    requires { ⌜ r .next < 65536 ⌝ }
+    requires { ⌜ r .next < 1000 ⌝ }
     ensures { λ o. ⌜ ((s : List ℕ) → PerformsInside plain s (now (memory .entry)) (now (memory .exit)) r o (Op.Size a b)) ⌝ }
 {
     let n = size_in(memory, r, b);
@@ -157,7 +161,7 @@ pub fn size(memory: &mut [u64], r: Registers, a: u8, b: u8) -> Stepped
 
 pub fn get_slot(memory: &mut [u64], r: Registers, a: u8, b: u8, k: u16) -> Stepped
     requires { ⌜ Sane (length (now memory)) r ⌝ }
-    requires { ⌜ r .next < 65536 ⌝ }
+    requires { ⌜ r .next < 1000 ⌝ }
     ensures { λ o. ⌜ ((s : List ℕ) → PerformsInside plain s (now (memory .entry)) (now (memory .exit)) r o (Op.GetSlot a b k)) ⌝ }
 {
     let m = get_in(memory, r, b, k);
@@ -166,7 +170,7 @@ pub fn get_slot(memory: &mut [u64], r: Registers, a: u8, b: u8, k: u16) -> Stepp
 
 pub fn store(memory: &mut [u64], r: Registers, a: u8, b: u8, c: u8) -> Stepped
     requires { ⌜ Sane (length (now memory)) r ⌝ }
-    requires { ⌜ r .next < 65536 ⌝ }
+    requires { ⌜ r .next < 1000 ⌝ }
     ensures { λ o. ⌜ ((s : List ℕ) → PerformsInside plain s (now (memory .entry)) (now (memory .exit)) r o (Op.Store a b c)) ⌝ }
 {
     let m = store_in(memory, r, a, b, c);
@@ -175,7 +179,7 @@ pub fn store(memory: &mut [u64], r: Registers, a: u8, b: u8, c: u8) -> Stepped
 
 pub fn set_slot(memory: &mut [u64], r: Registers, a: u8, b: u8, k: u16) -> Stepped
     requires { ⌜ Sane (length (now memory)) r ⌝ }
-    requires { ⌜ r .next < 65536 ⌝ }
+    requires { ⌜ r .next < 1000 ⌝ }
     ensures { λ o. ⌜ ((s : List ℕ) → PerformsInside plain s (now (memory .entry)) (now (memory .exit)) r o (Op.SetSlot a b k)) ⌝ }
 {
     let m = set_in(memory, r, a, b, k);
@@ -184,7 +188,7 @@ pub fn set_slot(memory: &mut [u64], r: Registers, a: u8, b: u8, k: u16) -> Stepp
 
 pub fn new_array(memory: &mut [u64], r: Registers, a: u8, b: u8) -> Stepped
     requires { ⌜ Sane (length (now memory)) r ⌝ }
-    requires { ⌜ r .next < 65536 ⌝ }
+    requires { ⌜ r .next < 1000 ⌝ }
     ensures { λ o. ⌜ ((s : List ℕ) → PerformsInside plain s (now (memory .entry)) (now (memory .exit)) r o (Op.NewArray a b)) ⌝ }
 {
     let base = r.base;
@@ -195,7 +199,7 @@ pub fn new_array(memory: &mut [u64], r: Registers, a: u8, b: u8) -> Stepped
 
 pub fn jump_zero(memory: &[u64], r: Registers, a: u8, k: u16) -> Stepped
     requires { ⌜ Sane (length (now memory)) r ⌝ }
-    requires { ⌜ r .next < 65536 ⌝ }
+    requires { ⌜ r .next < 1000 ⌝ }
     ensures { λ o. ⌜ ((s : List ℕ) → PerformsInside plain s (now (memory .entry)) (now (memory .entry)) r o (Op.JumpZero a k)) ⌝ }
 {
     let base = r.base;
@@ -205,7 +209,7 @@ pub fn jump_zero(memory: &[u64], r: Registers, a: u8, k: u16) -> Stepped
 
 pub fn put(memory: &[u64], output: &mut [u32], r: Registers, a: u8) -> Stepped
     requires { ⌜ Sane (length (now memory)) r ⌝ }
-    requires { ⌜ r .next < 65536 ⌝ }
+    requires { ⌜ r .next < 1000 ⌝ }
     ensures { λ o. ⌜ ((s input : List ℕ) → Performs plain s input (now (memory .entry)) (now (memory .entry)) (now (output .entry)) (now (output .exit)) r o (Op.Put a)) ⌝ }
 {
     let base = r.base;
@@ -216,26 +220,25 @@ pub fn put(memory: &[u64], output: &mut [u32], r: Registers, a: u8) -> Stepped
 
 pub fn take(input: &[u32], memory: &mut [u64], r: Registers, a: u8) -> Stepped
     requires { ⌜ Sane (length (now memory)) r ⌝ }
-    requires { ⌜ r .next < 65536 ⌝ }
+    requires { ⌜ r .next < 1000 ⌝ }
     ensures { λ o. ⌜ ((s out : List ℕ) → Performs plain s (now (input .entry)) (now (memory .entry)) (now (memory .exit)) out out r o (Op.Take a)) ⌝ }
 {
     take_input(input, memory, r, a)
 }
 
-// How many slots the owner of the procedure at pr has.
-fn slots_at(s: &[u8], pr: u32) -> u8
-    ensures { λ n. ⌜ n ≡ slotsOf (now (s .entry)) (ownerAt (now (s .entry)) pr) ⌝ }
+// How many slots the owner of a procedure has, by the procedure's word of the index.
+fn slots_by(s: &[u8], w: u64) -> u8
+    ensures { λ n. ⌜ n ≡ slotsOf (now (s .entry)) (owner-of w) ⌝ }
 {
-    let owner = byte(s, pr as usize, 2);
-    byte(s, type_at(owner), 3)
+    byte(s, type_at(owner_in(w)), 3)
 }
 
-pub fn new_record(s: &[u8], table: &[u32; 65], memory: &mut [u64], r: Registers, a: u8) -> Stepped
-    requires { ⌜ Loaded (now s) (now table) ⌝ }
+pub fn new_record(s: &[u8], index: &Index, memory: &mut [u64], r: Registers, a: u8) -> Stepped
+    requires { ⌜ Loaded (now s) (now index) ⌝ }
     requires { ⌜ Sane (length (now memory)) r ⌝ }
-    requires { ⌜ r .next < 65536 ⌝ }
+    requires { ⌜ r .next < 1000 ⌝ }
     ensures { λ o. ⌜ PerformsInside plain (now (s .entry)) (now (memory .entry)) (now (memory .exit)) r o (Op.NewRecord a) ⌝ }
 {
-    let p = r.procedure;
-    give_record(memory, r, a, slots_at(s, table[p]))
+    let n = slots_by(s, procedure_word(index, r.procedure));
+    give_record(memory, r, a, n)
 }

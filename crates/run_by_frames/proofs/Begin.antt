@@ -4,8 +4,8 @@ use native.Mathlib.Omega.{arith}
 use mathlib.Core.Path.{_≡_, refl, sym, ap, _∙_}
 use mathlib.Core.List.{List, [], _∷_, _++_, map, append-nil}
 use borrow.Rule.Slice.PartMut.{midOf, putMid, postOf, mid-len, post-is, same-len-mid}
-use lib.ListN.{length, set, take, drop, replicate, length-set, length-replicate}
-use lib.Seq.{drop-set-add, drop-at, drop-length, length-take-le}
+use lib.ListN.{length, take, drop, replicate, length-replicate}
+use lib.Seq.{drop-at, drop-length, length-take-le}
 use Rattle.model.specs.Refusal.{verdict}
 use Rattle.model.specs.Modes.{Mode}
 use Rattle.model.specs.Qualified.{Qual}
@@ -16,43 +16,29 @@ use Rattle.sheet.specs.Layout.{variablesAt, instructionAt, procedureAt}
 use Rattle.sheet.specs.Meaning.{programOf, qualOf}
 use Rattle.form.specs.WellFormed.{form-tests}
 use Rattle.form.proofs.WellFormed.{form-small}
-use Rattle.words.specs.Word.{cell, place, slot-in}
-use Rattle.words.proofs.Laws.{slot-zero, map-set}
+use Rattle.words.specs.Word.{cell, slot-in}
+use Rattle.words.proofs.Laws.{slot-zero}
 use Rattle.writers.specs.Memory.{AllSound, StandsFor, flat-objects, flat-frames}
 use Rattle.writers.proofs.Change.{map-drop, map-replicate}
 
-set-after : {A : Type 0} (n : ℕ) (x y : A) → set (set (replicate (suc (suc n)) x) n y) (suc n) y ≡ replicate n x ++ (y ∷ (y ∷ []))
-set-after zero x y = refl
-set-after {A} (suc n) x y = ap (λ (l : List A). x ∷ l) (set-after n x y)
+blank-after : {A : Type 0} (n : ℕ) (x : A) → replicate (suc (suc n)) x ≡ replicate n x ++ (x ∷ (x ∷ []))
+blank-after zero x = refl
+blank-after {A} (suc n) x = ap (λ (l : List A). x ∷ l) (blank-after n x)
 
--- the words with a frame of v blank variables at their end, w twice after them, as the code writes them
-abbrev pub framed : (words zeros : List ℕ) (v w : ℕ) → List ℕ
-framed words zeros v w =
-    set
-    (set (putMid (length words - (v + 2)) (length words - (length words - (v + 2))) words zeros) (length words - (v + 2) + v) w)
-    (length words - (v + 2) + v + 1) w
+-- the words with a blank frame of v variables at their end, as the code clears them
+abbrev pub framed : (words zeros : List ℕ) (v : ℕ) → List ℕ
+framed words zeros v = putMid (length words - (v + 2)) (length words - (length words - (v + 2))) words zeros
 
-module _ (words zeros : List ℕ) (v w : ℕ) (room : v + 2 ≤ length words)
+module _ (words zeros : List ℕ) (v : ℕ) (room : v + 2 ≤ length words)
     (cleared : zeros ≡ replicate (length (midOf (length words - (v + 2)) (length words - (length words - (v + 2))) words)) 0) where
-  length-first : length (set (putMid (length words - (v + 2)) (length words - (length words - (v + 2))) words zeros) (length words - (v + 2) + v) w) ≡ length words
-  length-first =
-      let at : ℕ = length words - (v + 2) in
-      length-set (putMid at (length words - at) words zeros) (at + v) w
-      ∙ same-len-mid at (length words - at) words zeros (ap length cleared ∙ length-replicate _ 0)
-
-  -- the second of the two words is there
-  pub second-there : length words - (v + 2) + v + 1
-      < length (set (putMid (length words - (v + 2)) (length words - (length words - (v + 2))) words zeros) (length words - (v + 2) + v) w)
-  second-there = rw length-first (omega arith)
-
-  pub length-framed : length (framed words zeros v w) ≡ length words
+  length-framed : length (framed words zeros v) ≡ length words
   length-framed =
-      length-set (set (putMid (length words - (v + 2)) (length words - (length words - (v + 2))) words zeros) (length words - (v + 2) + v) w) (length words - (v + 2) + v + 1) w
-      ∙ length-first
+      let at : ℕ = length words - (v + 2) in
+      same-len-mid at (length words - at) words zeros (ap length cleared ∙ length-replicate _ 0)
 
-  frame-of : (mode : Mode) (q : ℕ → Qual) → slot-in mode q w ≡ place 0 0
-      → drop (length words - (v + 2)) (map (slot-in mode q) (framed words zeros v w)) ≡ map cell (replicate v empty) ++ (place 0 0 ∷ (place 0 0 ∷ []))
-  frame-of mode q is =
+  frame-of : (mode : Mode) (q : ℕ → Qual)
+      → drop (length words - (v + 2)) (map (slot-in mode q) (framed words zeros v)) ≡ map cell (replicate v empty) ++ (cell empty ∷ (cell empty ∷ []))
+  frame-of mode q =
       let at : ℕ = length words - (v + 2) in
       let m : length (midOf at (length words - at) words) ≡ length words - at = mid-len at (length words) words (omega arith) in
       let k : length (midOf at (length words - at) words) ≡ suc (suc v) = omega arith in
@@ -60,29 +46,28 @@ module _ (words zeros : List ℕ) (v w : ℕ) (room : v + 2 ≤ length words)
       let p : postOf at (length words - at) words ≡ [] = post-is at (length words) words (omega arith) ∙ drop-length words in
       let d : drop at (putMid at (length words - at) words zeros) ≡ replicate (suc (suc v)) 0 =
       drop-at (take at words) (zeros ++ postOf at (length words - at) words) at (length-take-le at words (omega arith)) ∙ ap (λ (l : List ℕ). zeros ++ l) p ∙ append-nil zeros ∙ z in
-      let second : at + v + 1 ≡ at + suc v = omega arith in
-      rw (second, map-set, map-set, drop-set-add, drop-set-add, ← map-drop, d, map-replicate, slot-zero, is, map-replicate) (set-after v (cell empty) (place 0 0))
+      rw (← map-drop, d, map-replicate, slot-zero, map-replicate) (blank-after v (cell empty))
 
 -- the registers of that frame
-pub begins : (m : Mode) (s words zeros input out : List ℕ) (v first w : ℕ) → verdict (form-tests s) ≡ Accepted → v ≡ variablesAt s (procedureAt s 0)
+pub begins : (m : Mode) (s words zeros input out : List ℕ) (v first : ℕ) → verdict (form-tests s) ≡ Accepted → v ≡ variablesAt s (procedureAt s 0) → v < 256
     → v + 2 ≤ length words → length words ≤ 65536 → first ≡ instructionAt s (procedureAt s 0) 0
-    → zeros ≡ replicate (length (midOf (length words - (v + 2)) (length words - (length words - (v + 2))) words)) 0 → slot-in m (qualOf s) w ≡ place 0 0
-    → StandsFor m (record { sheet = s; input = input; output = out }) (framed words zeros v w) out
+    → zeros ≡ replicate (length (midOf (length words - (v + 2)) (length words - (length words - (v + 2))) words)) 0
+    → StandsFor m (record { sheet = s; input = input; output = out }) (framed words zeros v) out
     (record { procedure = 0; next = 0; first = first; variables = v; base = length words - (v + 2); used = 0; taken = 0; put = 0; steps = 0 })
     (opened m (programOf s) (length words) (length out) input)
 unfolding opened AllSound flat-objects flat-frames
-begins m s words zeros input out v first w wf e room small f cleared is =
-    let l = length-framed words zeros v w room cleared in
+begins m s words zeros input out v first wf e few room small f cleared =
+    let l = length-framed words zeros v room cleared in
     record {
       procedure = refl;
       next = refl;
       first = f;
       variables = e ∙ sym (length-replicate _ empty);
-      sane = record { room = zero-le; frame = rw l (omega arith); small = rw l small; procedure = omega arith };
+      sane = record { room = zero-le; frame = rw l (omega arith); small = rw l small; procedure = omega arith; variables = few };
       running = record { procedure = form-small s wf .2; variables = length-replicate _ empty };
       waiting = tt;
       objects = refl;
-      frames = rw (← e) (frame-of words zeros v w room cleared m (qualOf s) is);
+      frames = rw (← e) (frame-of words zeros v room cleared m (qualOf s));
       input-left = refl;
       put-words = refl;
       output-is = refl;

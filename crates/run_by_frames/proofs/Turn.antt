@@ -1,5 +1,5 @@
 -- One turn of a run, from registers that stand for a state inside the program.
-use Prim.Native.Nat.{ℕ, suc, _+_, _-_, _≤_, _<_}
+use Prim.Native.Nat.{ℕ, suc, _+_, _≤_, _<_, _^_}
 use native.Mathlib.Omega.{arith}
 use native.Mathlib.Numerals.{add-one}
 use mathlib.Core.Path.{_≡_, refl, sym, ap, subst, _∙_}
@@ -20,7 +20,6 @@ use Rattle.sheet.specs.Layout.{variablesAt, instructionAt, procedureAt}
 use Rattle.sheet.specs.Decode.{operationAt}
 use Rattle.sheet.specs.Meaning.{programOf}
 use Rattle.form.specs.WellFormed.{form-tests}
-use Rattle.form.proofs.Laws.{instruction-from}
 use Rattle.theorem.proofs.Formed.{formed}
 use Rattle.form.proofs.WellFormed.{instructions-few, instruction-whole, actuals-there, callee-below}
 use Rattle.writers.specs.declared.Registers.{Registers}
@@ -28,15 +27,20 @@ use Rattle.writers.specs.declared.Stepped.{Stepped}
 use Rattle.writers.specs.declared.Stepped.the-variants as S
 use Rattle.writers.specs.Memory.{Given, Sane, StandsFor}
 use Rattle.writers.specs.Steps.{After, onward}
-use Rattle.frames.specs.Performs.{performed, Performs}
+use Rattle.frames.specs.Performs.{Loaded, performed}
 use Rattle.frames.specs.Fetch.{place-in, Fetchable}
+use Rattle.frames.proofs.Kept.{place-is}
+use Rattle.lent_step.specs.Counts.{Ready, TurnIs, counted}
+use Rattle.lent_step.proofs.Laws.{same-step, counted-stands, turned-go, turned-enter, turned-halt, turned-done}
 use Rattle.run_by_frames.specs.declared.Ended.{Ended}
 use Rattle.run_by_frames.specs.Reply.{EndedIs, ended}
 use Rattle.run_by_frames.specs.declared.Paused.{Paused}
 use Rattle.run_by_frames.specs.declared.Paused.the-variants as P
-use Rattle.run_by_frames.specs.Turn.{Never-stuck, whole-run, Going, Begun, PausedIs}
+use Rattle.run_by_frames.specs.declared.Halted.{Halted}
+use Rattle.run_by_frames.specs.declared.Halted.the-variants as H
+use Rattle.run_by_frames.specs.Turn.{Never-stuck, whole-run, Going, RunOf, Begun, PausedIs, HaltedIs, FrameRuns, RunsUntil}
 
--- what is told at a stop
+-- what is told at a stop after so many steps
 abbrev pub told : Registers → (number steps : ℕ) → Ended
 told r k n = record { number = k; steps = n; put = r .put; procedure = r .procedure; instruction = r .next }
 
@@ -44,15 +48,12 @@ module _ (m : Mode) (c : Given) (words out : List ℕ) (r : Registers) where
   sane : (t : State m) → StandsFor m c words out r t → Sane (length words) r
   sane (state (frame p i vs) fs os input put) S = S .sane
 
-  here : (p i : ℕ) → r .next ≡ i → r .first ≡ instructionAt (c .sheet) (procedureAt (c .sheet) p) 0 → place-in r ≡ instructionAt (c .sheet) (procedureAt (c .sheet) p) i
-  here p i n e = rw n (instruction-from (c .sheet) (procedureAt (c .sheet) p) (r .first) i e)
-
   fetchable : verdict (form-tests (c .sheet)) ≡ Accepted → (t : State m) → StandsFor m c words out r t → Inside (programOf (c .sheet)) t → Fetchable (c .sheet) r
   fetchable wf (state (frame p i vs) fs os input put) S I =
       let s = c .sheet in
       let l = I .0 .procedure in
       let n = I .0 .instruction in
-      let e : place-in r ≡ instructionAt s (procedureAt s p) i = here p i (S .next) (S .first) in
+      let e : place-in r ≡ instructionAt s (procedureAt s p) i = place-is S in
       record {
         whole = rw e (instruction-whole s wf p l i n);
         first = let w : place-in r + 8 ≤ length s = rw e (instruction-whole s wf p l i n) in omega arith;
@@ -60,15 +61,6 @@ module _ (m : Mode) (c : Given) (words out : List ℕ) (r : Registers) where
         callee-there = rw e (callee-below s wf p l i n);
         actuals = rw (e, S .variables, S .running .variables) (actuals-there s wf p l i n);
       }
-
-  -- the operation that is fetched is the one that the definition does
-  pub same-step : (t : State m) → StandsFor m c words out r t
-      → performed (c .sheet) t (plan m (programOf (c .sheet)) (view (length words) (length out) t) (operationAt (c .sheet) (place-in r)))
-      ≡ step (programOf (c .sheet)) (length words) (length out) t
-  unfolding step
-  same-step (state (frame p i vs) fs os input put) S =
-      let e : place-in r ≡ instructionAt (c .sheet) (procedureAt (c .sheet) p) i = here p i (S .next) (S .first) in
-      rw e
 
   -- the run from a state that stops there
   ends : (t : State m) → StandsFor m c words out r t → (x : Stop) (k n : ℕ) (out′ : List ℕ) → k ≡ stop-number x → out′ ≡ out
@@ -139,40 +131,37 @@ no-room m c memory fuel h =
     (rw (lt-leb _ _ h)) tt (omega arith)
 
 pub starts : (m : Mode) (c : Given) (memory : ℕ) (words : List ℕ) (r : Registers) (fuel : ℕ) → verdict (form-tests (c .sheet)) ≡ Accepted
-    → variablesAt (c .sheet) (procedureAt (c .sheet) 0) + 2 ≤ memory → length words ≡ memory
+    → variablesAt (c .sheet) (procedureAt (c .sheet) 0) + 2 ≤ memory → length words ≡ memory → r .steps ≡ 0
     → StandsFor m c words (c .output) r (opened m (programOf (c .sheet)) memory (length (c .output)) (c .input))
     → Never-stuck (run m (programOf (c .sheet)) memory (length (c .output)) (c .input) fuel)
-    → Going m c memory fuel 0 words (c .output) r
+    → Going m c memory fuel words (c .output) r
 unfolding trace start
-starts m c memory words r fuel wf room long S free =
+starts m c memory words r fuel wf room long none S free =
     record {
       now = opened m (programOf (c .sheet)) memory (length (c .output)) (c .input);
       stands = S;
       inside = opened-inside m (programOf (c .sheet)) (formed (c .sheet) wf) memory (length (c .output)) (c .input);
       long = long;
       put-long = refl;
-      reached = rw (le-leb _ _ room);
+      reached = rw (none, le-leb _ _ room);
       paid = omega arith;
       free = free;
     }
 
-pub spent : (m : Mode) (c : Given) (memory fuel n : ℕ) (words out : List ℕ) (r : Registers) → Going m c memory fuel n words out r → fuel ≤ n
-    → EndedIs (told r 12 n) (c .output) out (whole-run m c memory fuel)
+spent : (m : Mode) (c : Given) (memory fuel : ℕ) (words out : List ℕ) (r : Registers) → Going m c memory fuel words out r → r .steps ≡ fuel
+    → EndedIs (told r 12 (r .steps)) (c .output) out (whole-run m c memory fuel)
 unfolding run
-spent m c memory fuel n words out r G h =
-    let l = G .paid in
-    let e : fuel ≡ n = omega arith in
-    rw (e, G .reached) (ends m c words out r (G .now) (G .stands) fuel-spent 12 n out refl refl)
+spent m c memory fuel words out r G e = rw (← e, G .reached) (ends m c words out r (G .now) (G .stands) fuel-spent 12 (r .steps) out refl refl)
 
--- every run of this sheet and input that stood there after `made` steps stands here after n
-abbrev pub Kept : (m : Mode) → (s input : List ℕ) → (memory fuel made : ℕ) → (words out : List ℕ) → Registers → (n : ℕ) → (words′ out′ : List ℕ) → Registers → Type 0
-Kept m s input memory fuel made words out start n words′ out′ r =
-    (c : Given) → c .sheet ≡ s → c .input ≡ input → Going m c memory fuel made words out start → Going m c memory fuel n words′ out′ r
+-- every run that stood there stands here
+abbrev pub Kept : (m : Mode) → (s input : List ℕ) → (until memory : ℕ) → (words out : List ℕ) → Registers → (words′ out′ : List ℕ) → Registers → Type 0
+Kept m s input until memory words out start words′ out′ r =
+    (d : RunOf s input until) → Going m (d .given) memory (d .fuel) words out start → Going m (d .given) memory (d .fuel) words′ out′ r
 
-pub begun-kept : {m : Mode} {s input : List ℕ} {memory fuel made n : ℕ} {words out words′ out′ : List ℕ} {start r : Registers}
-    → Kept m s input memory fuel made words out start n words′ out′ r → (B : Begun m s input memory fuel made words out start)
-    → Going m (B .given) memory fuel n words′ out′ r
-begun-kept K B = K (B .given) (B .same-sheet) (B .same-input) (B .going)
+pub begun-kept : {m : Mode} {s input : List ℕ} {until : ℕ} {words out words′ out′ : List ℕ} {start r : Registers}
+    → Kept m s input until (length words) words out start words′ out′ r → (B : Begun m s input until words out start)
+    → Going m (B .some-run .given) (length words) (B .some-run .fuel) words′ out′ r
+begun-kept K B = K (B .some-run) (B .going)
 
 -- the registers as the loop keeps them: what tells the frame is `start`'s, the rest the step's
 abbrev pub kept-with : (start q : Registers) → Registers
@@ -189,107 +178,145 @@ kept-with start q =
       steps = q .steps;
     }
 
--- the registers of one frame, step after step
-pub same-frame : (start r q : Registers) → r ≡ onward start (r .next) (r .used) (r .taken) (r .put) → q ≡ onward r (q .next) (q .used) (q .taken) (q .put)
-    → q ≡ onward start (q .next) (q .used) (q .taken) (q .put)
-same-frame start r q e f = f ∙ ap (λ (x : Registers). onward x (q .next) (q .used) (q .taken) (q .put)) e
+same-frame : (start r p : Registers) → r ≡ kept-with start r → p ≡ onward r (p .next) (p .used) (p .taken) (p .put) → counted r p ≡ kept-with start (counted r p)
+same-frame start r p e f = ap (counted r) f ∙ ap (λ (x : Registers). counted r (onward x (p .next) (p .used) (p .taken) (p .put))) e
 
-module _ (m : Mode) (s input : List ℕ) (wf : verdict (form-tests s) ≡ Accepted) (c : Given) (same : c .sheet ≡ s) (from : c .input ≡ input)
-    (memory fuel n : ℕ) (words out : List ℕ) (r : Registers) (G : Going m c memory fuel n words out r) where
+module _ (m : Mode) (s table input : List ℕ) (loaded : Loaded s table) (until : ℕ) (d : RunOf s input until)
+    (memory : ℕ) (words out : List ℕ) (r : Registers) (G : Going m (d .given) memory (d .fuel) words out r) (h : r .steps < until) where
+  abbrev c : Given
+  c = d .given
+
   well : verdict (form-tests (c .sheet)) ≡ Accepted
-  well = rw same wf
+  well = rw (d .same-sheet) (loaded .formed)
 
-  pub ready : Sane (length words) r × Fetchable s r
-  ready = (
-    sane m c words out r (G .now) (G .stands),
-    subst (λ (z : List ℕ). Fetchable z r) same (fetchable m c words out r well (G .now) (G .stands) (G .inside)),
-  )
+  paid-for : r .steps < d .fuel
+  paid-for = omega (arith, d .enough)
 
-  module _ (words′ out′ : List ℕ) (o : Stepped) (h : n < fuel) (performs : Performs m s input words words′ out out′ r o (operationAt s (place-in r))) where
-    taken : After m c words′ out out′ r (G .now) o (step (programOf (c .sheet)) memory (length (c .output)) (G .now))
+  pub ready : until < 2 ^ 64 → Ready s table words r
+  ready f =
+      record {
+        loaded = loaded;
+        sane = sane m c words out r (G .now) (G .stands);
+        fetchable = subst (λ (z : List ℕ). Fetchable z r) (d .same-sheet) (fetchable m c words out r well (G .now) (G .stands) (G .inside));
+        countable = omega (arith, h, f);
+      }
+
+  module _ (words′ out′ : List ℕ) (o : Stepped) (did : TurnIs m s input words words′ out out′ r o) where
+    taken : After m c words′ out out′ r (G .now) (did .stepped) (step (programOf (c .sheet)) memory (length (c .output)) (G .now))
     taken =
         rw (← G .long, ← G .put-long, ← same-step m c words out r (G .now) (G .stands))
         (subst
-        (λ (z : List ℕ). After m c words′ out out′ r (G .now) o (performed z (G .now) (plan m (programOf z) (view (length words) (length out) (G .now)) (operationAt z (place-in r)))))
-        (sym same) (performs c (G .now) same from (G .stands)))
+        (λ (z : List ℕ). After m c words′ out out′ r (G .now) (did .stepped) (performed z (G .now) (plan m (programOf z) (view (length words) (length out) (G .now)) (operationAt z (place-in r)))))
+        (sym (d .same-sheet)) (did .performs c (G .now) (d .same-sheet) (d .same-input) (G .stands)))
 
     never : step (programOf (c .sheet)) memory (length (c .output)) (G .now) ≡ stuck → ⊥
     never e =
-        not-stuck-in m n (G .now) (whole-run m c memory fuel) (G .free)
-        (one-stuck m (programOf (c .sheet)) memory (length (c .output)) (c .input) fuel n (G .now) (G .reached) h e)
+        not-stuck-in m (r .steps) (G .now) (whole-run m c memory (d .fuel)) (G .free)
+        (one-stuck m (programOf (c .sheet)) memory (length (c .output)) (c .input) (d .fuel) (r .steps) (G .now) (G .reached) paid-for e)
 
     ended-as : (e : Ended)
-        → IsOver (settle n (G .now) (step (programOf (c .sheet)) memory (length (c .output)) (G .now)))
-        × EndedIs e (c .output) out′ (end-of (settle n (G .now) (step (programOf (c .sheet)) memory (length (c .output)) (G .now))))
-        → EndedIs e (c .output) out′ (whole-run m c memory fuel)
-    ended-as e a = rw (ends-there m (programOf (c .sheet)) memory (length (c .output)) (c .input) fuel n (G .now) (G .reached) h (a .0)) (a .1)
+        → IsOver (settle (r .steps) (G .now) (step (programOf (c .sheet)) memory (length (c .output)) (G .now)))
+        × EndedIs e (c .output) out′ (end-of (settle (r .steps) (G .now) (step (programOf (c .sheet)) memory (length (c .output)) (G .now))))
+        → EndedIs e (c .output) out′ (whole-run m c memory (d .fuel))
+    ended-as e a =
+        rw (ends-there m (programOf (c .sheet)) memory (length (c .output)) (c .input) (d .fuel) (r .steps) (G .now) (G .reached) paid-for (a .0)) (a .1)
 
-    pub halts : (k : ℕ) → o ≡ S.Halt k → EndedIs (told r k n) (c .output) out′ (whole-run m c memory fuel)
-    halts k e = ended-as _ (halted m c words out r words′ out′ n (G .now) (G .stands) k _ never (rw e at taken))
+    pub halts : (k : ℕ) → o ≡ S.Halt k → EndedIs (told r k (r .steps)) (c .output) out′ (whole-run m c memory (d .fuel))
+    halts k e =
+        let is = turned-halt r (did .stepped) k (sym (did .counts) ∙ e) in
+        ended-as _ (halted m c words out r words′ out′ (r .steps) (G .now) (G .stands) k _ never (rw is at taken))
 
-    pub completes : o ≡ S.Done → EndedIs (told r 11 (n + 1)) (c .output) out′ (whole-run m c memory fuel)
-    completes e = ended-as _ (finishes m c words out r words′ out′ n (G .now) (G .stands) _ never (rw e at taken))
+    pub completes : o ≡ S.Done → EndedIs (told r 11 (r .steps + 1)) (c .output) out′ (whole-run m c memory (d .fuel))
+    completes e =
+        let is = turned-done r (did .stepped) (sym (did .counts) ∙ e) in
+        ended-as _ (finishes m c words out r words′ out′ (r .steps) (G .now) (G .stands) _ never (rw is at taken))
 
     module _ (lw : length words′ ≡ length words) (lo : length out′ ≡ length out) where
       reaches : (q : Registers) → (t : State m) × ((step (programOf (c .sheet)) memory (length (c .output)) (G .now) ≡ ok (go t)) × StandsFor m c words′ out′ q t)
-          → Going m c memory fuel (n + 1) words′ out′ q
+          → Going m c memory (d .fuel) words′ out′ (counted r q)
       reaches q a =
           record {
             now = a .0;
-            stands = a .1 .1;
+            stands = counted-stands m c words′ out′ r q (a .0) (a .1 .1);
             inside = yielded (rw (a .1 .0) at (step-inside m (programOf (c .sheet)) (formed (c .sheet) well) memory (length (c .output)) (G .now) (G .inside)));
             long = lw ∙ G .long;
             put-long = lo ∙ G .put-long;
-            reached = one-more m (programOf (c .sheet)) memory (length (c .output)) (c .input) fuel n (G .now) (G .reached) h (a .0) (a .1 .0);
-            paid = omega arith;
+            reached = one-more m (programOf (c .sheet)) memory (length (c .output)) (c .input) (d .fuel) (r .steps) (G .now) (G .reached) paid-for (a .0) (a .1 .0);
+            paid = omega (arith, paid-for);
             free = G .free;
           }
 
-      stays : (q : Registers) → o ≡ S.Go q → (q ≡ onward r (q .next) (q .used) (q .taken) (q .put)) × Going m c memory fuel (n + 1) words′ out′ q
-      stays q is =
-          let a = went m c words out r words′ out′ (G .now) q (step (programOf (c .sheet)) memory (length (c .output)) (G .now)) never (rw is at taken) in
-          (a .0, reaches q (a .1))
-
-      pub goes : (q : Registers) → o ≡ S.Go q → Going m c memory fuel (n + 1) words′ out′ q
-      goes q is = stays q is .1
-
       -- in the frame that was entered with the registers `start`
-      goes-on : (start q : Registers) → r ≡ onward start (r .next) (r .used) (r .taken) (r .put) → o ≡ S.Go q
-          → (kept-with start q ≡ onward start (q .next) (q .used) (q .taken) (q .put)) × Going m c memory fuel (n + 1) words′ out′ (kept-with start q)
+      goes-on : (start q : Registers) → r ≡ kept-with start r → o ≡ S.Go q → (q .steps ≡ r .steps + 1) × Going m c memory (d .fuel) words′ out′ (kept-with start q)
       goes-on start q e is =
-          let a = stays q is in
-          let same = same-frame start r q e (a .0) in
-          let steps = ap (λ (x : Registers). kept-with start x) same in
-          (steps, subst (λ (x : Registers). Going m c memory fuel (n + 1) words′ out′ x) (same ∙ sym steps) (a .1))
+          let b = turned-go r (did .stepped) q (sym (did .counts) ∙ is) in
+          let a = went m c words out r words′ out′ (G .now) (b .0) (step (programOf (c .sheet)) memory (length (c .output)) (G .now)) never (rw (b .1 .0) at taken) in
+          subst (λ (x : Registers). (x .steps ≡ r .steps + 1) × Going m c memory (d .fuel) words′ out′ (kept-with start x)) (b .1 .1)
+          (refl, subst (λ (x : Registers). Going m c memory (d .fuel) words′ out′ x) (same-frame start r (b .0) e (a .0)) (reaches (b .0) (a .1)))
 
-      pub enters : (q : Registers) → o ≡ S.Enter q → Going m c memory fuel (n + 1) words′ out′ q
-      enters q is = reaches q (entered m c words out r words′ out′ (G .now) q _ never (rw is at taken))
+      pub enters : (q : Registers) → o ≡ S.Enter q → (q .steps ≡ r .steps + 1) × Going m c memory (d .fuel) words′ out′ q
+      enters q is =
+          let b = turned-enter r (did .stepped) q (sym (did .counts) ∙ is) in
+          subst (λ (x : Registers). (x .steps ≡ r .steps + 1) × Going m c memory (d .fuel) words′ out′ x) (b .1 .1)
+          (refl, reaches (b .0) (entered m c words out r words′ out′ (G .now) (b .0) _ never (rw (b .1 .0) at taken)))
 
 -- the same of every run that came to the frame's start
-pub keeps-on : (m : Mode) (s input : List ℕ) → verdict (form-tests s) ≡ Accepted → (memory fuel made n : ℕ) (words₀ out₀ words out : List ℕ) (start r : Registers)
-    → Kept m s input memory fuel made words₀ out₀ start n words out r → Begun m s input memory fuel made words₀ out₀ start
-    → (words′ out′ : List ℕ) (o : Stepped) → n < fuel → Performs m s input words words′ out out′ r o (operationAt s (place-in r))
-    → length words′ ≡ length words → length out′ ≡ length out
-    → (q : Registers) → r ≡ onward start (r .next) (r .used) (r .taken) (r .put) → o ≡ S.Go q
-    → (kept-with start q ≡ onward start (q .next) (q .used) (q .taken) (q .put))
-    × Kept m s input memory fuel made words₀ out₀ start (n + 1) words′ out′ (kept-with start q)
-keeps-on m s input wf memory fuel made n words₀ out₀ words out start r K B words′ out′ o h did lw lo q e is = (
-  goes-on m s input wf (B .given) (B .same-sheet) (B .same-input) memory fuel n words out r (begun-kept K B) words′ out′ o h did lw lo start q e is .0,
-  λ c same from G. goes-on m s input wf c same from memory fuel n words out r (K c same from G) words′ out′ o h did lw lo start q e is .1,
-)
+module _ {m : Mode} {s table input : List ℕ} (loaded : Loaded s table) {until : ℕ} {words₀ out₀ words out : List ℕ} {start r : Registers}
+    (K : Kept m s input until (length words₀) words₀ out₀ start words out r) (B : Begun m s input until words₀ out₀ start) (h : r .steps < until)
+    {words′ out′ : List ℕ} {o : Stepped} (did : TurnIs m s input words words′ out out′ r o) (lw : length words′ ≡ length words) (lo : length out′ ≡ length out) where
+  pub keeps-on : (q : Registers) → r ≡ kept-with start r → o ≡ S.Go q
+      → (q .steps ≡ r .steps + 1) × Kept m s input until (length words₀) words₀ out₀ start words′ out′ (kept-with start q)
+  keeps-on q e is = (
+    goes-on m s table input loaded until (B .some-run) (length words₀) words out r (begun-kept K B) h words′ out′ o did lw lo start q e is .0,
+    λ d G. goes-on m s table input loaded until d (length words₀) words out r (K d G) h words′ out′ o did lw lo start q e is .1,
+  )
 
 -- ---- one frame
 
-pub begins-frame : {m : Mode} {c : Given} {memory fuel n : ℕ} {words out : List ℕ} {r : Registers} → Going m c memory fuel n words out r
-    → Going m c (length words) fuel n words out r
-begins-frame {m = m} {c = c} {fuel = fuel} {n = n} {words = words} {out = out} {r = r} G =
-    subst (λ (k : ℕ). Going m c k fuel n words out r) (sym (G .long)) G
+pub begins-frame : {m : Mode} {c : Given} {memory fuel : ℕ} {words out : List ℕ} {r : Registers} → Going m c memory fuel words out r
+    → Going m c (length words) fuel words out r
+begins-frame {m = m} {c = c} {fuel = fuel} {words = words} {out = out} {r = r} G = subst (λ (k : ℕ). Going m c k fuel words out r) (sym (G .long)) G
 
--- what the run of a frame comes to, in a memory that is as long as it was before
-module _ {m : Mode} {c : Given} {memory fuel n : ℕ} {words out : List ℕ} {r : Registers} (G : Going m c memory fuel n words out r)
-    (words′ out′ : List ℕ) (p : Paused) (paused : Going m c (length words) fuel n words out r → PausedIs m c (length words) fuel n words′ out′ p) where
-  pub enters-frame : (q : Registers) (k : ℕ) → p ≡ P.Enter q k → (n < k) × ((k ≤ fuel) × Going m c memory fuel k words′ out′ q)
-  enters-frame q k e = subst (λ (z : ℕ). PausedIs m c z fuel n words′ out′ (P.Enter q k)) (G .long) (rw e at (paused (begins-frame G)))
+-- registers that every run came to are where the run of a frame begins
+pub begins : {m : Mode} {s input : List ℕ} {until : ℕ} {words₀ out₀ words out : List ℕ} {start r : Registers}
+    → Kept m s input until (length words₀) words₀ out₀ start words out r → Begun m s input until words₀ out₀ start → r .steps ≤ until → Begun m s input until words out r
+begins K B h = record { some-run = B .some-run; going = begins-frame (begun-kept K B); soon = h }
 
-  pub ends-frame : (e : Ended) → p ≡ P.End e → EndedIs e (c .output) out′ (whole-run m c memory fuel)
-  ends-frame e is = subst (λ (z : ℕ). PausedIs m c z fuel n words′ out′ (P.End e)) (G .long) (rw is at (paused (begins-frame G)))
+-- what it comes to, in a memory that is as long as it was before
+module _ {m : Mode} {s input : List ℕ} {until : ℕ} {words₀ out₀ words out : List ℕ} {start r : Registers}
+    (K : Kept m s input until (length words₀) words₀ out₀ start words out r) (words′ out′ : List ℕ) (p : Paused) (runs : FrameRuns m s input until words words′ out out′ r p) where
+  comes : (d : RunOf s input until) → Going m (d .given) (length words₀) (d .fuel) words₀ out₀ start
+      → PausedIs m (d .given) (length words₀) (d .fuel) (r .steps) until words′ out′ p
+  comes d G =
+      let N = K d G in
+      subst (λ (z : ℕ). PausedIs m (d .given) z (d .fuel) (r .steps) until words′ out′ p) (N .long) (runs d (begins-frame N))
+
+  pub enters-frame : (q : Registers) → p ≡ P.Enter q → Begun m s input until words₀ out₀ start
+      → (r .steps < q .steps) × ((q .steps ≤ until) × Kept m s input until (length words₀) words₀ out₀ start words′ out′ q)
+  enters-frame q is B =
+      let a : (d : RunOf s input until) → Going m (d .given) (length words₀) (d .fuel) words₀ out₀ start → PausedIs m (d .given) (length words₀) (d .fuel) (r .steps) until words′ out′ (P.Enter q) = λ d G. rw is at (comes d G) in
+      (a (B .some-run) (B .going) .0, (a (B .some-run) (B .going) .1 .0, λ d G. a d G .1 .1))
+
+  pub rests : (q : Registers) → p ≡ P.Rest q → RunsUntil m s input until words₀ words′ out₀ out′ start (H.Rest q)
+  rests q is d G = rw is at (comes d G)
+
+  pub ends-run : (e : Ended) → p ≡ P.End e → RunsUntil m s input until words₀ words′ out₀ out′ start (H.End e)
+  ends-run e is d G = rw is at (comes d G)
+
+-- ---- a run with all its fuel
+
+abbrev all-of : (c : Given) (fuel : ℕ) → RunOf (c .sheet) (c .input) fuel
+all-of c fuel = record { given = c; same-sheet = refl; same-input = refl; fuel = fuel; enough = omega arith }
+
+module _ {m : Mode} {c : Given} {fuel : ℕ} {words : List ℕ} {r : Registers} (G : Going m c (length words) fuel words (c .output) r) where
+  pub begun : Begun m (c .sheet) (c .input) fuel words (c .output) r
+  begun = record { some-run = all-of c fuel; going = G; soon = G .paid }
+
+  module _ (words′ out′ : List ℕ) (h : Halted) (runs : RunsUntil m (c .sheet) (c .input) fuel words words′ (c .output) out′ r h) where
+    pub rested : (q : Registers) → h ≡ H.Rest q → EndedIs (told q 12 (q .steps)) (c .output) out′ (whole-run m c (length words) fuel)
+    rested q is =
+        let a : HaltedIs m c (length words) fuel fuel words′ out′ (H.Rest q) = rw is at (runs (all-of c fuel) G) in
+        spent m c (length words) fuel words′ out′ q (a .1) (a .0)
+
+    pub stopped-run : (e : Ended) → h ≡ H.End e → EndedIs e (c .output) out′ (whole-run m c (length words) fuel)
+    stopped-run e is = rw is at (runs (all-of c fuel) G)

@@ -1,5 +1,5 @@
 // A whole run inside the lent memory, one frame after another.
-pub mod run; // from main's frame to the stop
+pub mod run; // from main's frame to the stop, or to a number of steps
 
 use writers::Registers;
 
@@ -12,8 +12,15 @@ pub struct Ended {
     pub instruction: usize,
 }
 
-// What the run of a frame came to: another frame, with the steps made so far, or the end.
+// What the run of a frame came to: another frame, a rest, or the end.
 pub enum Paused {
-    Enter(Registers, u64),
+    Enter(Registers),
+    Rest(Registers),
+    End(Ended),
+}
+
+// What a run to a number of steps came to: a rest, from which it can go on, or the end.
+pub enum Halted {
+    Rest(Registers),
     End(Ended),
 }

@@ -1,42 +1,41 @@
-// A run: main's frame is opened at the end of the memory, then one frame after another to the stop.
+// A run: main's frame is opened at the end of the memory, then one frame after another to the stop, or to a number of steps.
 use crate::Ended;
+use crate::Halted;
 use crate::Paused;
-use plain_step::step::step;
+use lent_step::count;
+use lent_step::count_step;
+use lent_step::step_by;
 use sheet::bytes::byte;
 use sheet::places::instruction_at;
 use watched_step::step::guarded_step;
 use words::clear;
-use words::place_word;
 use writers::Registers;
 use writers::Stepped;
 ghost use mathlib.Core.Path.{_≡_};
 ghost use mathlib.Core.List.{List};
-ghost use Prim.Native.Nat.{ℕ, _+_, _≤_};
+ghost use Prim.Native.Nat.{ℕ, _+_, _≤_, _<_};
 ghost use lib.ListN.{length};
 ghost use Rattle.model.specs.Modes.{Mode};
 ghost use Rattle.model.specs.Run.{run, opened};
 ghost use Rattle.sheet.specs.Layout.{variablesAt, procedureAt};
-ghost use Rattle.sheet.specs.Decode.{operationAt};
 ghost use Rattle.sheet.specs.Meaning.{programOf};
-ghost use Rattle.writers.specs.Memory.{Given, Sane, StandsFor};
-ghost use Rattle.frames.specs.Performs.{Loaded, Performs};
-ghost use Rattle.frames.specs.Fetch.{Fetchable, place-in};
+ghost use Rattle.writers.specs.Memory.{StandsFor};
+ghost use Rattle.frames.specs.Performs.{Loaded};
+ghost use Rattle.lent_step.specs.Counts.{Ready, TurnIs};
 ghost use Rattle.run_by_frames.specs.Reply.{EndedIs};
-ghost use Rattle.run_by_frames.specs.Turn.{mode-of, Never-stuck, Going, Begun, PausedIs, whole-run};
+ghost use Rattle.run_by_frames.specs.Turn.{mode-of, Never-stuck, Begun, FrameRuns, RunsUntil};
 
 // Main's frame, at the end of the memory; no frame waits for it.
-pub fn open_main(s: &[u8], table: &[u32; 65], memory: &mut [u64], v: usize) -> Registers
+fn open_main(s: &[u8], table: &[u32; 65], memory: &mut [u64], v: usize) -> Registers
     requires { ⌜ Loaded (now s) (now table) ⌝ }
-    requires { ⌜ v ≡ variablesAt (now s) (procedureAt (now s) 0) ⌝ }
+    requires { ⌜ (v ≡ variablesAt (now s) (procedureAt (now s) 0)) × (v < 256) ⌝ }
     requires { ⌜ (v + 2 ≤ length (now memory)) × (length (now memory) ≤ 65536) ⌝ }
+    ensures { λ r. ⌜ r .steps ≡ 0 ⌝ }
     ensures { λ r. ⌜ ((m : Mode) (input out : List ℕ) → StandsFor m (record { sheet = now (s .entry); input = input; output = out }) (now (memory .exit)) out r (opened m (programOf (now (s .entry))) (length (now (memory .entry))) (length out) input)) ⌝ }
 {
     let len = memory.len();
     let at = len - (v + 2);
     clear(&mut memory[at..len]);
-    let none = place_word(0, 0);
-    memory[at + v] = none;
-    memory[at + v + 1] = none;
     Registers {
         procedure: 0,
         next: 0,
@@ -50,21 +49,22 @@ pub fn open_main(s: &[u8], table: &[u32; 65], memory: &mut [u64], v: usize) -> R
     }
 }
 
-pub fn ended(number: u8, steps: u64, r: Registers) -> Ended
-    ensures { λ e. ⌜ e ≡ record { number = number; steps = steps; put = r .put; procedure = r .procedure; instruction = r .next } ⌝ }
+fn ended(number: u8, r: Registers) -> Ended
+    ensures { λ e. ⌜ e ≡ record { number = number; steps = r .steps; put = r .put; procedure = r .procedure; instruction = r .next } ⌝ }
 {
     Ended {
         number,
-        steps,
+        steps: r.steps,
         put: r.put,
         procedure: r.procedure,
         instruction: r.next,
     }
 }
 
-// One instruction of the watched machine, or of the plain one. Each library has the flag as a constant, so that neither pays for the other.
+// One counted step of the watched machine, or of the plain one. Each library has the flag as a constant, so that neither pays for the other.
 fn turn(
     s: &[u8],
+    code: &[u8],
     table: &[u32; 65],
     input: &[u32],
     memory: &mut [u64],
@@ -72,41 +72,39 @@ fn turn(
     r: Registers,
     watch: bool,
 ) -> Stepped
-    requires { ⌜ Loaded (now s) (now table) ⌝ }
-    requires { ⌜ Sane (length (now memory)) r ⌝ }
-    requires { ⌜ Fetchable (now s) r ⌝ }
-    ensures { λ o. ⌜ Performs (mode-of watch) (now (s .entry)) (now (input .entry)) (now (memory .entry)) (now (memory .exit)) (now (output .entry)) (now (output .exit)) r o (operationAt (now (s .entry)) (place-in r)) ⌝ }
+    requires { ⌜ Ready (now s) (now table) (now memory) r ⌝ }
+    ensures { λ o. ⌜ TurnIs (mode-of watch) (now (s .entry)) (now (input .entry)) (now (memory .entry)) (now (memory .exit)) (now (output .entry)) (now (output .exit)) r o ⌝ }
 {
     if watch {
-        return guarded_step(s, table, input, memory, output, r);
+        let o = guarded_step(s, table, input, memory, output, r);
+        return count_step(r, o);
     }
-    step(s, table, input, memory, output, r)
+    step_by(s, code, table, input, memory, output, r)
 }
 
-// The run of one frame: to another frame, or to the end. What tells the frame does not change in it, which is what makes the loop fast.
+// The run of one frame: to another frame, to a number of steps, or to the end. What tells the frame does not change in it, which is what makes the loop fast.
 fn run_frame(
     s: &[u8],
+    code: &[u8],
     table: &[u32; 65],
     input: &[u32],
     memory: &mut [u64],
     output: &mut [u32],
     start: Registers,
-    made: u64,
-    fuel: u64,
+    until: u64,
     watch: bool,
 ) -> Paused
     requires { ⌜ Loaded (now s) (now table) ⌝ }
-    requires { ⌜ Begun (mode-of watch) (now s) (now input) (length (now memory)) fuel made (now memory) (now output) start ⌝ }
-    ensures { λ p. ⌜ ((c : Given) → c .sheet ≡ now (s .entry) → c .input ≡ now (input .entry) → Going (mode-of watch) c (length (now (memory .entry))) fuel made (now (memory .entry)) (now (output .entry)) start → PausedIs (mode-of watch) c (length (now (memory .entry))) fuel made (now (memory .exit)) (now (output .exit)) p) ⌝ }
+    requires { ⌜ Begun (mode-of watch) (now s) (now input) until (now memory) (now output) start ⌝ }
+    ensures { λ p. ⌜ FrameRuns (mode-of watch) (now (s .entry)) (now (input .entry)) until (now (memory .entry)) (now (memory .exit)) (now (output .entry)) (now (output .exit)) start p ⌝ }
 {
     let procedure = start.procedure;
     let first = start.first;
     let variables = start.variables;
     let base = start.base;
     let mut r = start;
-    let mut n: u64 = made;
-    while n < fuel {
-        match turn(s, table, input, memory, output, r, watch) {
+    while r.steps < until {
+        match turn(s, code, table, input, memory, output, r, watch) {
             Stepped::Go(q) => {
                 r = Registers {
                     procedure,
@@ -121,45 +119,45 @@ fn run_frame(
                 };
             }
             Stepped::Enter(q) => {
-                return Paused::Enter(q, n + 1);
+                return Paused::Enter(q);
             }
             Stepped::Halt(k) => {
-                return Paused::End(ended(k, n, r));
+                return Paused::End(ended(k, r));
             }
             Stepped::Done => {
-                return Paused::End(ended(11, n + 1, r));
+                return Paused::End(ended(11, count(r, r)));
             }
         }
-        n += 1;
     }
-    Paused::End(ended(12, n, r))
+    Paused::Rest(r)
 }
 
-// The run from main's open frame on.
-fn run_frames(
+// From registers and memory that stand where a run does, to where it stands after `until` steps, or to its end.
+pub fn run_until(
     s: &[u8],
     table: &[u32; 65],
     input: &[u32],
     memory: &mut [u64],
     output: &mut [u32],
     start: Registers,
-    fuel: u64,
+    until: u64,
     watch: bool,
-) -> Ended
+) -> Halted
     requires { ⌜ Loaded (now s) (now table) ⌝ }
-    requires { ⌜ Going (mode-of watch) (record { sheet = now s; input = now input; output = now output }) (length (now memory)) fuel 0 (now memory) (now output) start ⌝ }
-    ensures { λ e. ⌜ EndedIs e (now (output .entry)) (now (output .exit)) (whole-run (mode-of watch) (record { sheet = now (s .entry); input = now (input .entry); output = now (output .entry) }) (length (now (memory .entry))) fuel) ⌝ }
+    requires { ⌜ Begun (mode-of watch) (now s) (now input) until (now memory) (now output) start ⌝ }
+    ensures { λ h. ⌜ RunsUntil (mode-of watch) (now (s .entry)) (now (input .entry)) until (now (memory .entry)) (now (memory .exit)) (now (output .entry)) (now (output .exit)) start h ⌝ }
 {
     let mut r = start;
-    let mut n: u64 = 0;
     loop {
-        match run_frame(s, table, input, memory, output, r, n, fuel, watch) {
-            Paused::Enter(q, made) => {
+        match run_frame(s, s, table, input, memory, output, r, until, watch) {
+            Paused::Enter(q) => {
                 r = q;
-                n = made;
+            }
+            Paused::Rest(q) => {
+                return Halted::Rest(q);
             }
             Paused::End(e) => {
-                return e;
+                return Halted::End(e);
             }
         }
     }
@@ -192,5 +190,8 @@ pub fn run_in(
         };
     }
     let start = open_main(s, table, memory, v);
-    run_frames(s, table, input, memory, output, start, fuel, watch)
+    match run_until(s, table, input, memory, output, start, fuel, watch) {
+        Halted::Rest(r) => ended(12, r),
+        Halted::End(e) => e,
+    }
 }

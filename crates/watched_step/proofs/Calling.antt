@@ -17,6 +17,7 @@ use Rattle.model.specs.Machine as M
 use Rattle.model.specs.Machine.{Cell, frame, state, View, view, apply, actual, actuals, plan, plan-call}
 use Rattle.model.specs.declared.Operation.the-variants.{Call}
 use Rattle.sheet.specs.Layout.{formalsAt, variablesAt, instructionAt, resultAt}
+use Rattle.sheet.specs.Decode.{operationAt}
 use Rattle.sheet.specs.Meaning.{qualOf, programOf, resultIn}
 use Rattle.words.specs.Word.{cell, slot-in, as-cell}
 use Rattle.words.specs.Sees.{Sees}
@@ -31,7 +32,9 @@ use Rattle.writers.specs.Memory.{object-part, frame-part, SeesIn}
 use Rattle.writers.proofs.Effects.{halted-then, does-stop, gap-kept, gap-stands}
 use Rattle.writers.proofs.View.{room-is}
 use Rattle.frames.specs.Performs.{Performs}
+use Rattle.frames.specs.Fetch.{place-in}
 use Rattle.frames.specs.Frames.{Opened}
+use Rattle.frames.proofs.Kept.{kept-here}
 use Rattle.frames.proofs.Performs.{sees}
 use Rattle.watched_step.specs.Calls.{Callee, cells-at, before, Bound, Binds}
 use Rattle.watched_step.proofs.Laws.{stopped-as, performs-exactly}
@@ -197,10 +200,10 @@ module _ (s words : List ℕ) (r : Registers) (a b k pr : ℕ) (C : Callee s k p
           ∙ halted-then watched x (λ cs. ok (M.call k cs)))
 
       pub call-goes : (words′ words″ : List ℕ) (q : Registers) (first : ℕ) → Bound s words words′ r k b (r .base - (v + 2)) f 0
-          → first ≡ instructionAt s pr 0 → Opened watched words′ words″ r q k first v f
+          → first ≡ instructionAt s pr 0 → Opened watched words′ words″ r q a k first v f → operationAt s (place-in r) ≡ Call a b k
           → (input out : List ℕ) → Performs watched s input words words″ out out r (Enter q) (Call a b k)
       unfolding _>>=_ apply
-      call-goes words′ words″ q first B starts P input out c (state (frame p i vs) fs os left put) same from S =
+      call-goes words′ words″ q first B starts P here input out c (state (frame p i vs) fs os left put) same from S =
           let t = state (frame p i vs) fs os left put in
           let seen = view (length words) (length out) t in
           let at = r .base - (v + 2) in
@@ -209,5 +212,5 @@ module _ (s words : List ℕ) (r : Registers) (a b k pr : ℕ) (C : Callee s k p
           call-is seen (room-is watched c words out r t S) (ok cs) (bound-all B seen (sees watched c s words out r t same S)) in
           let place = C .place in
           rw (is, place, ← many, ← few)
-          (P c p i vs cs fs os left put out (gap-kept S words′ (B .gap)) (rw same (C .known)) (C .small)
+          (P c p i vs cs fs os left put out (gap-kept S words′ (B .gap)) (kept-here S a b k (rw same here)) (rw same (C .known)) (C .small)
           (rw (same, place) starts) (rw (same, place) many) (rw same (B .cells)))

@@ -1,5 +1,5 @@
 -- What a return hands over, and how the frame that waits takes it.
-use Prim.Native.Nat.{ℕ, pred, _+_, _*_, _<_}
+use Prim.Native.Nat.{ℕ, _+_, _<_}
 use native.Mathlib.Omega.{arith}
 use mathlib.Core.Path.{_≡_, refl, sym, ap, _∙_}
 use mathlib.Core.Bool.{true, false}
@@ -12,11 +12,10 @@ use Rattle.model.specs.Outcome.{Res, ok, stop, stuck, ensure, _>>=_, _>>_}
 use Rattle.model.specs.Program.{Program}
 use Rattle.model.specs.Modes.{watched, demand, amiss}
 use Rattle.model.specs.Machine as M
-use Rattle.model.specs.Machine.{Cell, frame, State, state, View, view, kept, moved, handed, to-caller, plan, plan-return}
+use Rattle.model.specs.Machine.{Cell, frame, State, state, View, view, moved, handed, to-caller, plan, plan-return}
 use Rattle.model.specs.declared.Operation.the-variants.{Return}
 use Rattle.sheet.specs.Layout.{proceduresOf, resultAt, procedureAt}
 use Rattle.sheet.specs.Meaning.{qualOf, programOf, innerIn, resultIn}
-use Rattle.sheet.specs.Decode.{operationAt}
 use Rattle.words.specs.Word.{slot-in, as-cell}
 use Rattle.words.specs.Answers.{halted, IsCell, MovedOk}
 use Rattle.words.specs.declared.Moved.{Moved}
@@ -29,7 +28,7 @@ use Rattle.writers.specs.Memory.{Given, object-part, StandsFor}
 use Rattle.writers.proofs.Effects.{halted-then}
 use Rattle.writers.proofs.View.{alone}
 use Rattle.frames.specs.Performs.{Loaded, Performs, Returns}
-use Rattle.frames.specs.Frames.{Waits, Keeps}
+use Rattle.frames.specs.Frames.{Waits, KeptIn, Keeps}
 use Rattle.frames.proofs.Performs.{runs, sees}
 use Rattle.frames.proofs.Table.{table-at}
 use Rattle.frames.proofs.Kept.{optional-none, optional-some}
@@ -79,46 +78,47 @@ module _ (s : List ℕ) (v : View watched) (pr a : ℕ) (at : procedureAt s (v .
 
 -- ---- the frame that waits
 
-module _ (s words : List ℕ) (r b : Registers) (a : ℕ) (above : r .base + (r .variables + 2) < length words)
-    (W : Waits watched s words r b) (names : optional a ≡ kept (operationAt s (b .first + 8 * pred (b .next)))) (n : a ≡ 255 → ⊥) where
+module _ (s words : List ℕ) (r : Registers) (a : ℕ) (above : r .base + (r .variables + 2) < length words) (K : KeptIn watched words r a)
+    (n : a ≡ 255 → ⊥) where
   pub returns-lacking : (out : List ℕ) → Returns watched s words words out r (Halt 18) none
   unfolding halted
-  returns-lacking out c t same S = stopped-as c words out s r t S 18 _ (caller-lacks watched s words r b a above W names n out c t same S)
+  returns-lacking out c t same S = stopped-as c words out s r t S 18 _ (caller-lacks watched s words r a above K n out c t same S)
 
-  back-known : (c : Given) (out : List ℕ) (t : State watched) → c .sheet ≡ s → StandsFor watched c words out r t → b .procedure < proceduresOf s
-  back-known c out (state (frame p i vs) [] os input put) same S = let l = alone S in absurd (omega arith)
-  back-known c out (state (frame p i vs) (frame q k us ∷ gs) os input put) same S =
-      let B = W c p i q k vs us gs os input put out same S in
-      rw (B .procedure) (rw same at (B .running .procedure))
+  module _ (b : Registers) (W : Waits watched words r b) where
+    back-known : (c : Given) (out : List ℕ) (t : State watched) → c .sheet ≡ s → StandsFor watched c words out r t → b .procedure < proceduresOf s
+    back-known c out (state (frame p i vs) [] os input put) same S = let l = alone S in absurd (omega arith)
+    back-known c out (state (frame p i vs) (frame q k us ∷ gs) os input put) same S =
+        let B = W c p i q k vs us gs os input put out S in
+        rw (B .procedure) (rw same at (B .running .procedure))
 
-  module _ (table : List ℕ) (L : Loaded s table) (w : ℕ) (is-cell : IsCell w) (m : Moved)
-      (is : BindsWord s (object-part r words) (innerIn s (getD table (b .procedure) 0) a) w m) where
-    -- the value, bound to the variable that is kept
-    bound-kept : (out : List ℕ) (c : Given) (t : State watched) → c .sheet ≡ s → StandsFor watched c words out r t
-        → to-caller watched (programOf s) (view (length words) (length out) t) (view (length words) (length out) t .caller) (some (as-cell (slot-in watched (qualOf s) w)))
-        ≡ (moved-cell (qualOf s) m >>= λ d. ok (M.resume (some (a, d))))
-    bound-kept out c t same S =
-        let v = view (length words) (length out) t in
-        let value = as-cell (slot-in watched (qualOf s) w) in
-        caller-binds watched s words r b a above W names n value out c t same S
-        ∙ ap (λ (x : Res (Cell watched)). x >>= λ d. ok (M.resume (some (a, d))))
-        (sym (is (programOf s) v value (sees watched c s words out r t same S .head) (is-cell watched (qualOf s))
-        ∙ ap (λ (p : ℕ). moved watched (programOf s) v (innerIn s p a) value) (table-at s table L (b .procedure) (back-known c out t same S))))
+    module _ (table : List ℕ) (L : Loaded s table) (w : ℕ) (is-cell : IsCell w) (m : Moved)
+        (is : BindsWord s (object-part r words) (innerIn s (getD table (b .procedure) 0) a) w m) where
+      -- the value, bound to the variable that is kept
+      bound-kept : (out : List ℕ) (c : Given) (t : State watched) → c .sheet ≡ s → StandsFor watched c words out r t
+          → to-caller watched (programOf s) (view (length words) (length out) t) (view (length words) (length out) t .caller) (some (as-cell (slot-in watched (qualOf s) w)))
+          ≡ (moved-cell (qualOf s) m >>= λ d. ok (M.resume (some (a, d))))
+      bound-kept out c t same S =
+          let v = view (length words) (length out) t in
+          let value = as-cell (slot-in watched (qualOf s) w) in
+          caller-binds watched s words r a above K b W n value out c t same S
+          ∙ ap (λ (x : Res (Cell watched)). x >>= λ d. ok (M.resume (some (a, d))))
+          (sym (is (programOf s) v value (sees watched c s words out r t same S .head) (is-cell watched (qualOf s))
+          ∙ ap (λ (p : ℕ). moved watched (programOf s) v (innerIn s p a) value) (table-at s table L (b .procedure) (back-known c out t same S))))
 
-    pub returns-refused : {k : ℕ} → m ≡ Mv.Halt k → (out : List ℕ)
-        → Returns watched s words words out r (Halt k) (some (as-cell (slot-in watched (qualOf s) w)))
-    unfolding moved-cell
-    returns-refused {k} e out c t same S =
-        stopped-as c words out s r t S k _ (bound-kept out c t same S ∙ rw (e, halted-then watched k))
+      pub returns-refused : {k : ℕ} → m ≡ Mv.Halt k → (out : List ℕ)
+          → Returns watched s words words out r (Halt k) (some (as-cell (slot-in watched (qualOf s) w)))
+      unfolding moved-cell
+      returns-refused {k} e out c t same S =
+          stopped-as c words out s r t S k _ (bound-kept out c t same S ∙ rw (e, halted-then watched k))
 
-    pub returns-kept : {x : ℕ} → m ≡ Mv.To x → MovedOk m → (words′ : List ℕ) → Keeps watched words words′ b a x → (out : List ℕ)
-        → Returns watched s words words′ out r (Enter b) (some (as-cell (slot-in watched (qualOf s) w)))
-    unfolding moved-cell _>>=_
-    returns-kept {x} e fine words′ K out c t same S =
-        let d = as-cell (slot-in watched (qualOf s) x) in
-        let x-cell : IsCell x = rw e at fine in
-        planned-as c words′ out s r t (Enter b) _ (ok (M.resume (some (a, d)))) (bound-kept out c t same S ∙ rw e)
-        (resumed watched s words r b a above W names n x words′ K d out c t same S (rw same (x-cell watched (qualOf s))))
+      pub returns-kept : {x : ℕ} → m ≡ Mv.To x → MovedOk m → (words′ : List ℕ) → Keeps watched words words′ b a x → (out : List ℕ)
+          → Returns watched s words words′ out r (Enter b) (some (as-cell (slot-in watched (qualOf s) w)))
+      unfolding moved-cell _>>=_
+      returns-kept {x} e fine words′ kept out c t same S =
+          let d = as-cell (slot-in watched (qualOf s) x) in
+          let x-cell : IsCell x = rw e at fine in
+          planned-as c words′ out s r t (Enter b) _ (ok (M.resume (some (a, d)))) (bound-kept out c t same S ∙ rw e)
+          (resumed watched s words r a above K b W n x words′ kept d out c t same S (rw same (x-cell watched (qualOf s))))
 
 -- ---- the return
 

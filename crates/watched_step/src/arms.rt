@@ -106,7 +106,7 @@ fn set_in(s: &[u8], pr: u32, memory: &[u64], r: Registers, a: u8, b: u8, k: u16)
 
 pub fn set(s: &[u8], pr: u32, memory: &mut [u64], r: Registers, a: u8, k: u16) -> Stepped
     requires { ⌜ Sane (length (now memory)) r ⌝ }
-    requires { ⌜ r .next < 65536 ⌝ }
+    requires { ⌜ r .next < 1000 ⌝ }
     requires { ⌜ PlaceOf (now s) r pr ⌝ }
     ensures { λ o. ⌜ PerformsInside watched (now (s .entry)) (now (memory .entry)) (now (memory .exit)) r o (Op.Set a k) ⌝ }
 {
@@ -115,7 +115,7 @@ pub fn set(s: &[u8], pr: u32, memory: &mut [u64], r: Registers, a: u8, k: u16) -
 
 pub fn add(s: &[u8], pr: u32, memory: &mut [u64], r: Registers, a: u8, b: u8, c: u8) -> Stepped
     requires { ⌜ Sane (length (now memory)) r ⌝ }
-    requires { ⌜ r .next < 65536 ⌝ }
+    requires { ⌜ r .next < 1000 ⌝ }
     requires { ⌜ PlaceOf (now s) r pr ⌝ }
     ensures { λ o. ⌜ PerformsInside watched (now (s .entry)) (now (memory .entry)) (now (memory .exit)) r o (Op.Add a b c) ⌝ }
 {
@@ -127,7 +127,7 @@ pub fn add(s: &[u8], pr: u32, memory: &mut [u64], r: Registers, a: u8, b: u8, c:
 
 pub fn subtract(s: &[u8], pr: u32, memory: &mut [u64], r: Registers, a: u8, b: u8, c: u8) -> Stepped
     requires { ⌜ Sane (length (now memory)) r ⌝ }
-    requires { ⌜ r .next < 65536 ⌝ }
+    requires { ⌜ r .next < 1000 ⌝ }
     requires { ⌜ PlaceOf (now s) r pr ⌝ }
     ensures { λ o. ⌜ PerformsInside watched (now (s .entry)) (now (memory .entry)) (now (memory .exit)) r o (Op.Subtract a b c) ⌝ }
 {
@@ -139,7 +139,7 @@ pub fn subtract(s: &[u8], pr: u32, memory: &mut [u64], r: Registers, a: u8, b: u
 
 pub fn less(s: &[u8], pr: u32, memory: &mut [u64], r: Registers, a: u8, b: u8, c: u8) -> Stepped
     requires { ⌜ Sane (length (now memory)) r ⌝ }
-    requires { ⌜ r .next < 65536 ⌝ }
+    requires { ⌜ r .next < 1000 ⌝ }
     requires { ⌜ PlaceOf (now s) r pr ⌝ }
     ensures { λ o. ⌜ PerformsInside watched (now (s .entry)) (now (memory .entry)) (now (memory .exit)) r o (Op.Less a b c) ⌝ }
 {
@@ -151,7 +151,7 @@ pub fn less(s: &[u8], pr: u32, memory: &mut [u64], r: Registers, a: u8, b: u8, c
 
 pub fn bind(s: &[u8], pr: u32, memory: &mut [u64], r: Registers, a: u8, b: u8) -> Stepped
     requires { ⌜ Sane (length (now memory)) r ⌝ }
-    requires { ⌜ r .next < 65536 ⌝ }
+    requires { ⌜ r .next < 1000 ⌝ }
     requires { ⌜ PlaceOf (now s) r pr ⌝ }
     ensures { λ o. ⌜ PerformsInside watched (now (s .entry)) (now (memory .entry)) (now (memory .exit)) r o (Op.Bind a b) ⌝ }
 {
@@ -161,7 +161,7 @@ pub fn bind(s: &[u8], pr: u32, memory: &mut [u64], r: Registers, a: u8, b: u8) -
 
 pub fn fetch(s: &[u8], pr: u32, memory: &mut [u64], r: Registers, a: u8, b: u8, c: u8) -> Stepped
     requires { ⌜ Sane (length (now memory)) r ⌝ }
-    requires { ⌜ r .next < 65536 ⌝ }
+    requires { ⌜ r .next < 1000 ⌝ }
     requires { ⌜ PlaceOf (now s) r pr ⌝ }
     ensures { λ o. ⌜ PerformsInside watched (now (s .entry)) (now (memory .entry)) (now (memory .exit)) r o (Op.Fetch a b c) ⌝ }
 {
@@ -171,7 +171,7 @@ pub fn fetch(s: &[u8], pr: u32, memory: &mut [u64], r: Registers, a: u8, b: u8, 
 
 pub fn size(s: &[u8], pr: u32, memory: &mut [u64], r: Registers, a: u8, b: u8) -> Stepped
     requires { ⌜ Sane (length (now memory)) r ⌝ }
-    requires { ⌜ r .next < 65536 ⌝ }
+    requires { ⌜ r .next < 1000 ⌝ }
     requires { ⌜ PlaceOf (now s) r pr ⌝ }
     ensures { λ o. ⌜ PerformsInside watched (now (s .entry)) (now (memory .entry)) (now (memory .exit)) r o (Op.Size a b) ⌝ }
 {
@@ -189,7 +189,7 @@ pub fn get_slot(
     k: u16,
 ) -> Stepped
     requires { ⌜ Sane (length (now memory)) r ⌝ }
-    requires { ⌜ r .next < 65536 ⌝ }
+    requires { ⌜ r .next < 1000 ⌝ }
     requires { ⌜ PlaceOf (now s) r pr ⌝ }
     ensures { λ o. ⌜ PerformsInside watched (now (s .entry)) (now (memory .entry)) (now (memory .exit)) r o (Op.GetSlot a b k) ⌝ }
 {
@@ -199,7 +199,7 @@ pub fn get_slot(
 
 pub fn store(s: &[u8], memory: &mut [u64], r: Registers, a: u8, b: u8, c: u8) -> Stepped
     requires { ⌜ Sane (length (now memory)) r ⌝ }
-    requires { ⌜ r .next < 65536 ⌝ }
+    requires { ⌜ r .next < 1000 ⌝ }
     ensures { λ o. ⌜ PerformsInside watched (now (s .entry)) (now (memory .entry)) (now (memory .exit)) r o (Op.Store a b c) ⌝ }
 {
     let m = store_in(s, memory, r, a, b, c);
@@ -216,7 +216,7 @@ pub fn set_slot(
     k: u16,
 ) -> Stepped
     requires { ⌜ Sane (length (now memory)) r ⌝ }
-    requires { ⌜ r .next < 65536 ⌝ }
+    requires { ⌜ r .next < 1000 ⌝ }
     requires { ⌜ PlaceOf (now s) r pr ⌝ }
     ensures { λ o. ⌜ PerformsInside watched (now (s .entry)) (now (memory .entry)) (now (memory .exit)) r o (Op.SetSlot a b k) ⌝ }
 {
@@ -226,7 +226,7 @@ pub fn set_slot(
 
 pub fn jump_zero(memory: &[u64], r: Registers, a: u8, k: u16) -> Stepped
     requires { ⌜ Sane (length (now memory)) r ⌝ }
-    requires { ⌜ r .next < 65536 ⌝ }
+    requires { ⌜ r .next < 1000 ⌝ }
     ensures { λ o. ⌜ ((s : List ℕ) → PerformsInside watched s (now (memory .entry)) (now (memory .entry)) r o (Op.JumpZero a k)) ⌝ }
 {
     let base = r.base;
@@ -236,7 +236,7 @@ pub fn jump_zero(memory: &[u64], r: Registers, a: u8, k: u16) -> Stepped
 
 pub fn put(memory: &[u64], output: &mut [u32], r: Registers, a: u8) -> Stepped
     requires { ⌜ Sane (length (now memory)) r ⌝ }
-    requires { ⌜ r .next < 65536 ⌝ }
+    requires { ⌜ r .next < 1000 ⌝ }
     ensures { λ o. ⌜ ((s input : List ℕ) → Performs watched s input (now (memory .entry)) (now (memory .entry)) (now (output .entry)) (now (output .exit)) r o (Op.Put a)) ⌝ }
 {
     let base = r.base;
@@ -247,7 +247,7 @@ pub fn put(memory: &[u64], output: &mut [u32], r: Registers, a: u8) -> Stepped
 
 pub fn take(s: &[u8], pr: u32, input: &[u32], memory: &mut [u64], r: Registers, a: u8) -> Stepped
     requires { ⌜ Sane (length (now memory)) r ⌝ }
-    requires { ⌜ r .next < 65536 ⌝ }
+    requires { ⌜ r .next < 1000 ⌝ }
     requires { ⌜ PlaceOf (now s) r pr ⌝ }
     ensures { λ o. ⌜ ((out : List ℕ) → Performs watched (now (s .entry)) (now (input .entry)) (now (memory .entry)) (now (memory .exit)) out out r o (Op.Take a)) ⌝ }
 {
@@ -260,7 +260,7 @@ pub fn take(s: &[u8], pr: u32, input: &[u32], memory: &mut [u64], r: Registers, 
 // A new array of n cells, where there is room for it, bound to variable a.
 fn give_array(s: &[u8], pr: u32, memory: &mut [u64], r: Registers, a: u8, n: Number) -> Stepped
     requires { ⌜ Sane (length (now memory)) r ⌝ }
-    requires { ⌜ r .next < 65536 ⌝ }
+    requires { ⌜ r .next < 1000 ⌝ }
     ensures { λ o. ⌜ DoesInside (now (s .entry)) (now (memory .entry)) (now (memory .exit)) r o (array-for (now (s .entry)) pr r a n) ⌝ }
 {
     match n {
@@ -277,7 +277,7 @@ fn give_array(s: &[u8], pr: u32, memory: &mut [u64], r: Registers, a: u8, n: Num
 // The same where there is room.
 fn make_array(s: &[u8], pr: u32, memory: &mut [u64], r: Registers, a: u8, n: u32) -> Stepped
     requires { ⌜ Sane (length (now memory)) r ⌝ }
-    requires { ⌜ r .next < 65536 ⌝ }
+    requires { ⌜ r .next < 1000 ⌝ }
     requires { ⌜ n < r .base - r .used ⌝ }
     ensures { λ o. ⌜ DoesInside (now (s .entry)) (now (memory .entry)) (now (memory .exit)) r o (array-for (now (s .entry)) pr r a (Is n)) ⌝ }
 {
@@ -292,7 +292,7 @@ fn make_array(s: &[u8], pr: u32, memory: &mut [u64], r: Registers, a: u8, n: u32
 
 pub fn new_array(s: &[u8], pr: u32, memory: &mut [u64], r: Registers, a: u8, b: u8) -> Stepped
     requires { ⌜ Sane (length (now memory)) r ⌝ }
-    requires { ⌜ r .next < 65536 ⌝ }
+    requires { ⌜ r .next < 1000 ⌝ }
     requires { ⌜ PlaceOf (now s) r pr ⌝ }
     ensures { λ o. ⌜ PerformsInside watched (now (s .entry)) (now (memory .entry)) (now (memory .exit)) r o (Op.NewArray a b) ⌝ }
 {
@@ -305,7 +305,7 @@ pub fn new_array(s: &[u8], pr: u32, memory: &mut [u64], r: Registers, a: u8, b: 
 // A new record of the owner's type, of n slots, where there is room for it, bound to variable a.
 fn make_record(s: &[u8], pr: u32, memory: &mut [u64], r: Registers, a: u8, n: u32) -> Stepped
     requires { ⌜ Sane (length (now memory)) r ⌝ }
-    requires { ⌜ r .next < 65536 ⌝ }
+    requires { ⌜ r .next < 1000 ⌝ }
     requires { ⌜ n < r .base - r .used ⌝ }
     ensures { λ o. ⌜ DoesInside (now (s .entry)) (now (memory .entry)) (now (memory .exit)) r o (record-for (now (s .entry)) pr r a n) ⌝ }
 {
@@ -320,7 +320,7 @@ fn make_record(s: &[u8], pr: u32, memory: &mut [u64], r: Registers, a: u8, n: u3
 
 pub fn new_record(s: &[u8], pr: u32, memory: &mut [u64], r: Registers, a: u8) -> Stepped
     requires { ⌜ Sane (length (now memory)) r ⌝ }
-    requires { ⌜ r .next < 65536 ⌝ }
+    requires { ⌜ r .next < 1000 ⌝ }
     requires { ⌜ PlaceOf (now s) r pr ⌝ }
     ensures { λ o. ⌜ PerformsInside watched (now (s .entry)) (now (memory .entry)) (now (memory .exit)) r o (Op.NewRecord a) ⌝ }
 {

@@ -3,7 +3,7 @@ use binding::actual_word;
 use binding::bind_word;
 use binding::result_word;
 use frames::keep;
-use frames::kept_at;
+use frames::kept_in;
 use frames::open;
 use frames::waiting;
 use order::inner_of;
@@ -17,16 +17,17 @@ use writers::Stepped;
 ghost use mathlib.Core.Path.{_≡_};
 ghost use mathlib.Core.List.{List};
 ghost use mathlib.Core.Option.{none, some};
-ghost use Prim.Native.Nat.{ℕ, _+_, _-_, _^_, _≤_, _<_};
+ghost use Prim.Native.Nat.{ℕ, _+_, _≤_};
 ghost use lib.ListN.{length, take};
 ghost use Rattle.model.specs.Modes.{watched};
 ghost use Rattle.model.specs.declared.Operation.the-variants as Op;
-ghost use Rattle.sheet.specs.Layout.{proceduresOf, procedureAt};
+ghost use Rattle.sheet.specs.Layout.{procedureAt};
 ghost use Rattle.sheet.specs.Meaning.{qualOf, innerIn};
 ghost use Rattle.words.specs.Word.{slot-in, as-cell};
 ghost use Rattle.words.specs.Answers.{IsCell, MovedOk};
 ghost use Rattle.writers.specs.Memory.{Sane};
 ghost use Rattle.frames.specs.Performs.{Loaded, PerformsInside, Returns};
+ghost use Rattle.frames.specs.Frames.{Callable};
 ghost use Rattle.watched_step.specs.Watched.{PlaceOf};
 ghost use Rattle.watched_step.specs.Calls.{Callee, BindsActual, Binds, HandsOver, HandedOk, BindsWord};
 
@@ -75,7 +76,7 @@ fn bind_actuals(
 // A call of procedure k, whose PR stands at pr: 18 for a result that is kept and not there, 17, then what each actual gives.
 fn call_at(s: &[u8], pr: u32, memory: &mut [u64], r: Registers, a: u8, b: u8, k: u16) -> Stepped
     requires { ⌜ Sane (length (now memory)) r ⌝ }
-    requires { ⌜ (r .next < 65536) × (r .first < 2 ^ 32) ⌝ }
+    requires { ⌜ Callable (now s) r a b k ⌝ }
     requires { ⌜ Callee (now s) k pr ⌝ }
     ensures { λ o. ⌜ PerformsInside watched (now (s .entry)) (now (memory .entry)) (now (memory .exit)) r o (Op.Call a b k) ⌝ }
 {
@@ -91,7 +92,7 @@ fn call_at(s: &[u8], pr: u32, memory: &mut [u64], r: Registers, a: u8, b: u8, k:
     match bind_actuals(s, pr, memory, r, b, r.base - (v + 2), f) {
         Number::Is(_) => {
             let first = instruction_at(s, pr, 0);
-            Stepped::Enter(open(memory, r, k as usize, first, v, f))
+            Stepped::Enter(open(memory, r, a, k as usize, first, v, f))
         }
         Number::Halt(n) => Stepped::Halt(n),
     }
@@ -108,8 +109,7 @@ pub fn call(
 ) -> Stepped
     requires { ⌜ Loaded (now s) (now table) ⌝ }
     requires { ⌜ Sane (length (now memory)) r ⌝ }
-    requires { ⌜ (r .next < 65536) × (r .first < 2 ^ 32) ⌝ }
-    requires { ⌜ k < proceduresOf (now s) ⌝ }
+    requires { ⌜ Callable (now s) r a b k ⌝ }
     ensures { λ o. ⌜ PerformsInside watched (now (s .entry)) (now (memory .entry)) (now (memory .exit)) r o (Op.Call a b k) ⌝ }
 {
     call_at(s, table[k as usize], memory, r, a, b, k)
@@ -149,17 +149,15 @@ fn handed_by(s: &[u8], pr: u32, memory: &[u64], r: Registers, a: u8) -> Handed
 }
 
 // The frame that waits runs on with nothing: 18 where its call keeps a result.
-fn resume_without(s: &[u8], memory: &[u64], r: Registers) -> Stepped
-    requires { ⌜ proceduresOf (now s) ≤ 64 ⌝ }
+fn resume_without(memory: &[u64], r: Registers) -> Stepped
     requires { ⌜ Sane (length (now memory)) r ⌝ }
-    ensures { λ o. ⌜ ((out : List ℕ) → Returns watched (now (s .entry)) (now (memory .entry)) (now (memory .entry)) out r o none) ⌝ }
+    ensures { λ o. ⌜ ((s out : List ℕ) → Returns watched s (now (memory .entry)) (now (memory .entry)) out r o none) ⌝ }
 {
     if memory.len() <= r.base + (r.variables + 2) {
         return Stepped::Done;
     }
-    let back = waiting(memory, r);
-    if kept_at(s, back) == 255 {
-        return Stepped::Enter(back);
+    if kept_in(memory, r) == 255 {
+        return Stepped::Enter(waiting(memory, r));
     }
     Stepped::Halt(18)
 }
@@ -184,7 +182,7 @@ fn resume_with(s: &[u8], table: &[u32; 65], memory: &mut [u64], r: Registers, w:
         return Stepped::Done;
     }
     let back = waiting(memory, r);
-    let kept = kept_at(s, back);
+    let kept = kept_in(memory, r);
     if kept == 255 {
         return Stepped::Enter(back);
     }
@@ -212,7 +210,7 @@ pub fn give_back(
     ensures { λ o. ⌜ PerformsInside watched (now (s .entry)) (now (memory .entry)) (now (memory .exit)) r o (Op.Return a) ⌝ }
 {
     match handed_by(s, pr, memory, r, a) {
-        Handed::Nothing => resume_without(s, memory, r),
+        Handed::Nothing => resume_without(memory, r),
         Handed::Is(w) => resume_with(s, table, memory, r, w),
         Handed::Halt(k) => Stepped::Halt(k),
     }

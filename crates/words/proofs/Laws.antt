@@ -12,23 +12,12 @@ use borrow.Author.Tests.{eqb-true, eqb-false, ne-eqb}
 use Rattle.model.specs.Qualified.{Qual}
 use Rattle.model.specs.Modes.{Mode, ElementInfo, TypeInfo, carried, element-info, type-info}
 use Rattle.model.specs.Machine.{word, object, Cell, empty, filled, array-head, record-head}
-use Rattle.words.specs.Word.{low, tag, payload, pack, size-of, info-of, Slot, cell, head, place, slot-in, as-cell, as-head}
+use Rattle.words.specs.Word.{low, tag, payload, pack, size-of, info-of, back-kept, back-procedure, back-next, extent-variables, Slot, cell, head, back, extent, slot-in, as-cell, as-head}
 use Rattle.words.specs.Answer.{read-as}
 use Rattle.words.specs.Sees.{head-size}
 use Rattle.words.specs.Answers.{IsCell}
 use Rattle.words.specs.declared.Cell.{Cell as Read}
 use Rattle.words.specs.declared.Cell.the-variants.{Blank, Filled}
-
--- a place's two numbers; nothing asks them of another slot
-abbrev place-procedure : {m : Mode} → Slot m → ℕ
-place-procedure (cell c) = 0
-place-procedure (head h) = 0
-place-procedure (place p i) = p
-
-abbrev place-next : {m : Mode} → Slot m → ℕ
-place-next (cell c) = 0
-place-next (head h) = 0
-place-next (place p i) = i
 
 -- ---- the parts of a packed word
 
@@ -73,31 +62,37 @@ module _ (m : Mode) (qual : ℕ → Qual) (w : ℕ) where
   unfolding slot-in
   slot-record e = rw (ne-eqb w 0 (tagged w 3 e), e)
 
-  pub slot-place : tag w ≡ 5 → slot-in m qual w ≡ place (payload w) (low w)
+  pub slot-back : tag w ≡ 5 → slot-in m qual w ≡ back (back-procedure w) (back-next w) (back-kept w)
   unfolding slot-in
-  slot-place e = rw (ne-eqb w 0 (tagged w 4 e), e)
+  slot-back e = rw (ne-eqb w 0 (tagged w 4 e), e)
 
--- the six kinds of word, the same in both machines and for all maps of element numbers
+  slot-extent : tag w ≡ 6 → slot-in m qual w ≡ extent (extent-variables w) (low w)
+  unfolding slot-in
+  slot-extent e = rw (ne-eqb w 0 (tagged w 5 e), e)
+
+-- the seven kinds of word, the same in both machines and for all maps of element numbers
 pub data Reading (w : ℕ) : Type 0 where
   a-blank : w ≡ 0 → Reading w
   an-integer : tag w ≡ 1 → Reading w
   an-object : tag w ≡ 2 → Reading w
   an-array : tag w ≡ 3 → Reading w
   a-record : tag w ≡ 4 → Reading w
-  a-place : ((m : Mode) (qual : ℕ → Qual) → slot-in m qual w ≡ place (payload w) (low w)) → Reading w
+  a-back : tag w ≡ 5 → Reading w
+  an-extent : ((m : Mode) (qual : ℕ → Qual) → slot-in m qual w ≡ extent (extent-variables w) (low w)) → Reading w
 
 pub reading : (w : ℕ) → Reading w
 unfolding slot-in
-reading w = by (eqb w 0) (eqb (tag w) 1) (eqb (tag w) 2) (eqb (tag w) 3) (eqb (tag w) 4) refl refl refl refl refl
+reading w = by (eqb w 0) (eqb (tag w) 1) (eqb (tag w) 2) (eqb (tag w) 3) (eqb (tag w) 4) (eqb (tag w) 5) refl refl refl refl refl refl
   where
-    by : (is0 is1 is2 is3 is4 : Bool)
-        → eqb w 0 ≡ is0 → eqb (tag w) 1 ≡ is1 → eqb (tag w) 2 ≡ is2 → eqb (tag w) 3 ≡ is3 → eqb (tag w) 4 ≡ is4 → Reading w
-    by true is1 is2 is3 is4 z i o a r = a-blank (eqb-true _ _ z)
-    by false true is2 is3 is4 z i o a r = an-integer (eqb-true _ _ i)
-    by false false true is3 is4 z i o a r = an-object (eqb-true _ _ o)
-    by false false false true is4 z i o a r = an-array (eqb-true _ _ a)
-    by false false false false true z i o a r = a-record (eqb-true _ _ r)
-    by false false false false false z i o a r = a-place (λ m q. rw (z, i, o, a, r))
+    by : (is0 is1 is2 is3 is4 is5 : Bool)
+        → eqb w 0 ≡ is0 → eqb (tag w) 1 ≡ is1 → eqb (tag w) 2 ≡ is2 → eqb (tag w) 3 ≡ is3 → eqb (tag w) 4 ≡ is4 → eqb (tag w) 5 ≡ is5 → Reading w
+    by true is1 is2 is3 is4 is5 z i o a r b = a-blank (eqb-true _ _ z)
+    by false true is2 is3 is4 is5 z i o a r b = an-integer (eqb-true _ _ i)
+    by false false true is3 is4 is5 z i o a r b = an-object (eqb-true _ _ o)
+    by false false false true is4 is5 z i o a r b = an-array (eqb-true _ _ a)
+    by false false false false true is5 z i o a r b = a-record (eqb-true _ _ r)
+    by false false false false false true z i o a r b = a-back (eqb-true _ _ b)
+    by false false false false false false z i o a r b = an-extent (λ m q. rw (z, i, o, a, r, b))
 
 -- ---- what a slot says of its word
 
@@ -115,7 +110,8 @@ module _ (m : Mode) (qual : ℕ → Qual) (w : ℕ) where
       by (an-object t) = inr (ap as-cell (sym e ∙ slot-object m qual w t))
       by (an-array t) = let k = slot-array m qual w t in absurd (let z : _≡_ {A = ℕ} 0 1 = cc in omega arith)
       by (a-record t) = let k = slot-record m qual w t in absurd (let z : _≡_ {A = ℕ} 0 1 = cc in omega arith)
-      by (a-place t) = let k = t m qual in absurd (let z : _≡_ {A = ℕ} 0 1 = cc in omega arith)
+      by (a-back t) = let k = slot-back m qual w t in absurd (let z : _≡_ {A = ℕ} 0 1 = cc in omega arith)
+      by (an-extent t) = let k = t m qual in absurd (let z : _≡_ {A = ℕ} 0 1 = cc in omega arith)
 
   pub size-word : {n : ℕ} → head-size (as-head (slot-in m qual w)) ≡ some n → n ≡ size-of w
   size-word {n} e = by (reading w)
@@ -132,7 +128,10 @@ module _ (m : Mode) (qual : ℕ → Qual) (w : ℕ) where
           absurd (let z : _≡_ {A = ℕ} 0 1 = cc in omega arith)
       by (an-array t) = let k : some (size-of w) ≡ some n = sym (ap (λ (s : Slot m). head-size (as-head s)) (slot-array m qual w t)) ∙ e in cc
       by (a-record t) = let k : some (size-of w) ≡ some n = sym (ap (λ (s : Slot m). head-size (as-head s)) (slot-record m qual w t)) ∙ e in cc
-      by (a-place t) =
+      by (a-back t) =
+          let k : head-size (as-head (slot-in m qual w)) ≡ none = rw (slot-back m qual w t) in
+          absurd (let z : _≡_ {A = ℕ} 0 1 = cc in omega arith)
+      by (an-extent t) =
           let k : head-size (as-head (slot-in m qual w)) ≡ none = rw (t m qual) in
           absurd (let z : _≡_ {A = ℕ} 0 1 = cc in omega arith)
 
@@ -142,10 +141,10 @@ module _ (m : Mode) (qual : ℕ → Qual) (w : ℕ) where
   pub record-word : {t : TypeInfo m} {n : ℕ} → as-head (slot-in m qual w) ≡ record-head t n → n ≡ size-of w
   record-word is = size-word (ap head-size is)
 
-  pub place-word : {p i : ℕ} → slot-in m qual w ≡ place p i → (p ≡ payload w) × (i ≡ low w)
-  place-word {p} {i} e = by (reading w)
+  pub back-word : {p i a : ℕ} → slot-in m qual w ≡ back p i a → (p ≡ back-procedure w) × (i ≡ back-next w) × (a ≡ back-kept w)
+  back-word {p} {i} {a} e = by (reading w)
     where
-      by : Reading w → (p ≡ payload w) × (i ≡ low w)
+      by : Reading w → (p ≡ back-procedure w) × (i ≡ back-next w) × (a ≡ back-kept w)
       by (a-blank z) =
           let k : slot-in m qual w ≡ cell empty = rw (z, slot-zero m qual) in
           absurd (let z : _≡_ {A = ℕ} 0 1 = cc in omega arith)
@@ -153,7 +152,26 @@ module _ (m : Mode) (qual : ℕ → Qual) (w : ℕ) where
       by (an-object t) = let k = slot-object m qual w t in absurd (let z : _≡_ {A = ℕ} 0 1 = cc in omega arith)
       by (an-array t) = let k = slot-array m qual w t in absurd (let z : _≡_ {A = ℕ} 0 1 = cc in omega arith)
       by (a-record t) = let k = slot-record m qual w t in absurd (let z : _≡_ {A = ℕ} 0 1 = cc in omega arith)
-      by (a-place t) = let k : place p i ≡ place (payload w) (low w) = sym e ∙ t m qual in (ap place-procedure k, ap place-next k)
+      by (a-back t) =
+          let k : back p i a ≡ back (back-procedure w) (back-next w) (back-kept w) = sym e ∙ slot-back m qual w t in
+          (cc, cc, cc)
+      by (an-extent t) = let k = t m qual in absurd (let z : _≡_ {A = ℕ} 0 1 = cc in omega arith)
+
+  pub extent-word : {v f : ℕ} → slot-in m qual w ≡ extent v f → (v ≡ extent-variables w) × (f ≡ low w)
+  extent-word {v} {f} e = by (reading w)
+    where
+      by : Reading w → (v ≡ extent-variables w) × (f ≡ low w)
+      by (a-blank z) =
+          let k : slot-in m qual w ≡ cell empty = rw (z, slot-zero m qual) in
+          absurd (let z : _≡_ {A = ℕ} 0 1 = cc in omega arith)
+      by (an-integer t) = let k = slot-integer m qual w t in absurd (let z : _≡_ {A = ℕ} 0 1 = cc in omega arith)
+      by (an-object t) = let k = slot-object m qual w t in absurd (let z : _≡_ {A = ℕ} 0 1 = cc in omega arith)
+      by (an-array t) = let k = slot-array m qual w t in absurd (let z : _≡_ {A = ℕ} 0 1 = cc in omega arith)
+      by (a-record t) = let k = slot-record m qual w t in absurd (let z : _≡_ {A = ℕ} 0 1 = cc in omega arith)
+      by (a-back t) = let k = slot-back m qual w t in absurd (let z : _≡_ {A = ℕ} 0 1 = cc in omega arith)
+      by (an-extent t) =
+          let k : extent v f ≡ extent (extent-variables w) (low w) = sym e ∙ t m qual in
+          (cc, cc)
 
 -- ---- what the two machines, and all maps of element numbers, have in common
 
@@ -167,7 +185,8 @@ is-cell m qual w e k q = by (reading w)
     by (an-object t) = rw (slot-object k q w t)
     by (an-array t) = let s = slot-array m qual w t in absurd (let z : _≡_ {A = ℕ} 0 1 = cc in omega arith)
     by (a-record t) = let s = slot-record m qual w t in absurd (let z : _≡_ {A = ℕ} 0 1 = cc in omega arith)
-    by (a-place t) = let s = t m qual in absurd (let z : _≡_ {A = ℕ} 0 1 = cc in omega arith)
+    by (a-back t) = let s = slot-back m qual w t in absurd (let z : _≡_ {A = ℕ} 0 1 = cc in omega arith)
+    by (an-extent t) = let s = t m qual in absurd (let z : _≡_ {A = ℕ} 0 1 = cc in omega arith)
 
 -- all read the same size of a head
 pub same-size : (m k : Mode) (q p : ℕ → Qual) (w : ℕ) → head-size (as-head (slot-in m q w)) ≡ head-size (as-head (slot-in k p w))
@@ -179,7 +198,8 @@ same-size m k q p w = by (reading w)
     by (an-object t) = rw (slot-object m q w t, slot-object k p w t)
     by (an-array t) = rw (slot-array m q w t, slot-array k p w t)
     by (a-record t) = rw (slot-record m q w t, slot-record k p w t)
-    by (a-place t) = rw (t m q, t k p)
+    by (a-back t) = rw (slot-back m q w t, slot-back k p w t)
+    by (an-extent t) = rw (t m q, t k p)
 
 -- ---- what reading a word as a cell tells of it
 
@@ -210,23 +230,33 @@ module _ (m : Mode) (qual : ℕ → Qual) where
       slot-object m qual _ (tag-pack 2 a r (omega arith) h) ∙ rw (payload-pack 2 a r (omega arith) h, low-pack 2 a r (omega arith) h)
 
   -- a head of kind k (the element's number, or the type's) and size n
-  pub array-packed : (k n : ℕ) → k < 2 ^ 8 → n < 2 ^ 17 → slot-in m qual (pack 3 (k * 2 ^ 17 + n) 0) ≡ head (array-head (element-info m (qual k)) n)
+  pub array-packed : (k n : ℕ) → k < 2 ^ 8 → n < 2 ^ 16 → slot-in m qual (pack 3 (k * 2 ^ 16 + n) 0) ≡ head (array-head (element-info m (qual k)) n)
   array-packed k n b h =
-      let size : (k * 2 ^ 17 + n) % 2 ^ 17 ≡ n = omega arith in
-      let over : (k * 2 ^ 17 + n) / 2 ^ 17 ≡ k = omega arith in
+      let size : (k * 2 ^ 16 + n) % 2 ^ 16 ≡ n = omega arith in
+      let over : (k * 2 ^ 16 + n) / 2 ^ 16 ≡ k = omega arith in
       let kind : k % 2 ^ 8 ≡ k = omega arith in
-      slot-array m qual _ (tag-pack 3 _ 0 (omega arith) (omega arith)) ∙ rw (payload-pack 3 (k * 2 ^ 17 + n) 0 (omega arith) (omega arith), size, over, kind)
+      slot-array m qual _ (tag-pack 3 _ 0 (omega arith) (omega arith)) ∙ rw (payload-pack 3 (k * 2 ^ 16 + n) 0 (omega arith) (omega arith), size, over, kind)
 
-  pub record-packed : (k n : ℕ) → k < 2 ^ 8 → n < 2 ^ 17 → slot-in m qual (pack 4 (k * 2 ^ 17 + n) 0) ≡ head (record-head (type-info m k) n)
+  pub record-packed : (k n : ℕ) → k < 2 ^ 8 → n < 2 ^ 16 → slot-in m qual (pack 4 (k * 2 ^ 16 + n) 0) ≡ head (record-head (type-info m k) n)
   record-packed k n b h =
-      let size : (k * 2 ^ 17 + n) % 2 ^ 17 ≡ n = omega arith in
-      let over : (k * 2 ^ 17 + n) / 2 ^ 17 ≡ k = omega arith in
+      let size : (k * 2 ^ 16 + n) % 2 ^ 16 ≡ n = omega arith in
+      let over : (k * 2 ^ 16 + n) / 2 ^ 16 ≡ k = omega arith in
       let kind : k % 2 ^ 8 ≡ k = omega arith in
-      slot-record m qual _ (tag-pack 4 _ 0 (omega arith) (omega arith)) ∙ rw (payload-pack 4 (k * 2 ^ 17 + n) 0 (omega arith) (omega arith), size, over, kind)
+      slot-record m qual _ (tag-pack 4 _ 0 (omega arith) (omega arith)) ∙ rw (payload-pack 4 (k * 2 ^ 16 + n) 0 (omega arith) (omega arith), size, over, kind)
 
-  pub place-packed : (p i : ℕ) → i < 2 ^ 32 → slot-in m qual (pack 5 p i) ≡ place p i
-  place-packed p i h =
-      slot-place m qual _ (tag-pack 5 p i (omega arith) h) ∙ rw (payload-pack 5 p i (omega arith) h, low-pack 5 p i (omega arith) h)
+  pub back-packed : (p i a : ℕ) → p < 2 ^ 6 → a < 2 ^ 8 → slot-in m qual (pack 5 ((i * 2 ^ 6 + p) * 2 ^ 8 + a) 0) ≡ back p i a
+  back-packed p i a b h =
+      let all = (i * 2 ^ 6 + p) * 2 ^ 8 + a in
+      let kept : all % 2 ^ 8 ≡ a = omega arith in
+      let over : all / 2 ^ 8 ≡ i * 2 ^ 6 + p = omega arith in
+      let procedure : (i * 2 ^ 6 + p) % 2 ^ 6 ≡ p = omega arith in
+      let next : all / 2 ^ 14 ≡ i = omega arith in
+      slot-back m qual _ (tag-pack 5 _ 0 (omega arith) (omega arith)) ∙ rw (payload-pack 5 all 0 (omega arith) (omega arith), kept, over, procedure, next)
+
+  pub extent-packed : (v f : ℕ) → v < 2 ^ 8 → f < 2 ^ 32 → slot-in m qual (pack 6 v f) ≡ extent v f
+  extent-packed v f b h =
+      let all : v % 2 ^ 8 ≡ v = omega arith in
+      slot-extent m qual _ (tag-pack 6 v f (omega arith) h) ∙ rw (payload-pack 6 v f (omega arith) h, low-pack 6 v f (omega arith) h, all)
 
 -- ---- a list of words seen as slots
 

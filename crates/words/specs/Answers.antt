@@ -55,7 +55,7 @@ unfoldable pub stored : (m : Mode) → (ℕ → Qual) → Stored → Res (Effect
 stored m qual (S.At o i w) = ok (store o i (as-cell (slot-in m qual w)))
 stored m qual (S.Halt k) = halted m k
 
--- a word is a cell's: no head and no place, in either machine
+-- a word is a cell's: no head's and no frame's, in either machine
 abbrev pub IsCell : ℕ → Type 0
 IsCell w = (m : Mode) (qual : ℕ → Qual) → slot-in m qual w ≡ cell (as-cell (slot-in m qual w))
 

@@ -1,7 +1,15 @@
--- A 64-bit word of the memory (document 01: bench) as a cell, as the head of an object, or as a place to go back to.
--- The low half is a number or rights; the high half is 8 times a payload, plus a tag: 1 an integer, 2 an object, 3 an array's head, 4 a record's head,
--- any other a place; but 0 is a blank cell, and nothing else is. An object's payload is its name and its low half its rights; a head's payload is its
--- size and, in the eight bits from bit 17 on, the number of its element or type.
+-- A 64-bit word of the memory (document 01: bench): a cell, the head of an object, or one of the two words between a frame and the one that waits for it.
+--
+--   bits 32..34, the tag   bits 0..31, the low half              bits 35..63, the payload
+--   1  an integer          its number                            0
+--   2  an object           the rights carried with it            its name
+--   3  an array's head     0 today: S-1, the settled set         35..50 size, 51..58 element, 59..63 0 today: S-1, the settled base - 2
+--   4  a record's head     0                                     35..50 size, 51..58 type, 59..63 0
+--   5  where to go back    0 today: S-1, the waiting frame's     35..42 the variable that its call keeps (255 none), 43..48 its procedure,
+--                          own set; S-9, its carrying variables  49..63 its next instruction
+--   6  its extent          where its instructions start          35..42 its count of variables, 43..63 0 today: S-13, which sheet
+--
+-- The word 0 is a blank cell, and nothing else is. Any other tag is read as 6, which alone is written.
 use Prim.Native.Nat.{ℕ, _+_, _*_, _/_, _%_, _^_}
 use mathlib.Core.Bool.{cond}
 use lib.Dec.{eqb}
@@ -23,16 +31,29 @@ unfoldable pub pack : (tag payload low : ℕ) → ℕ
 pack t p l = (p * 8 + t) * 2 ^ 32 + l
 
 abbrev pub size-of : ℕ → ℕ
-size-of w = payload w % 2 ^ 17
+size-of w = payload w % 2 ^ 16
 
 abbrev pub info-of : ℕ → ℕ
-info-of w = payload w / 2 ^ 17 % 2 ^ 8
+info-of w = payload w / 2 ^ 16 % 2 ^ 8
+
+abbrev pub back-kept : ℕ → ℕ
+back-kept w = payload w % 2 ^ 8
+
+abbrev pub back-procedure : ℕ → ℕ
+back-procedure w = payload w / 2 ^ 8 % 2 ^ 6
+
+abbrev pub back-next : ℕ → ℕ
+back-next w = payload w / 2 ^ 14
+
+abbrev pub extent-variables : ℕ → ℕ
+extent-variables w = payload w % 2 ^ 8
 
 -- one word of the memory; `qual` gives the type of an element's number
 pub data Slot (m : Mode) : Type 0 where
   cell : Cell m → Slot m
   head : Head m → Slot m
-  place : (procedure next : ℕ) → Slot m
+  back : (procedure next kept : ℕ) → Slot m
+  extent : (variables first : ℕ) → Slot m
 
 unfoldable pub slot-in : (m : Mode) → (qual : ℕ → Qual) → ℕ → Slot m
 slot-in m qual w =
@@ -41,15 +62,18 @@ slot-in m qual w =
     (cond (eqb (tag w) 2) (cell (filled (object (payload w)) (carried m (low w))))
     (cond (eqb (tag w) 3) (head (array-head (element-info m (qual (info-of w))) (size-of w)))
     (cond (eqb (tag w) 4) (head (record-head (type-info m (info-of w)) (size-of w)))
-    (place (payload w) (low w))))))
+    (cond (eqb (tag w) 5) (back (back-procedure w) (back-next w) (back-kept w))
+    (extent (extent-variables w) (low w)))))))
 
--- a slot read as a cell, as a head, as a place
+-- a slot read as a cell, as a head
 abbrev pub as-cell : {m : Mode} → Slot m → Cell m
 as-cell (cell c) = c
 as-cell (head h) = empty
-as-cell (place p i) = empty
+as-cell (back p i a) = empty
+as-cell (extent v f) = empty
 
 abbrev pub as-head : {m : Mode} → Slot m → Head m
 as-head (cell c) = no-head
 as-head (head h) = h
-as-head (place p i) = no-head
+as-head (back p i a) = no-head
+as-head (extent v f) = no-head

@@ -5,7 +5,7 @@ ghost use lib.ListN.{length, getD, set, replicate};
 ghost use Rattle.model.specs.Qualified.{Qual};
 ghost use Rattle.model.specs.Modes.{Mode, carried, element-info, type-info};
 ghost use Rattle.model.specs.Machine.{word, object, filled, array-head, record-head};
-ghost use Rattle.words.specs.Word.{cell, head, place, low, tag, payload, size-of, info-of, slot-in};
+ghost use Rattle.words.specs.Word.{cell, head, back, extent, low, tag, payload, size-of, info-of, back-kept, back-procedure, back-next, extent-variables, slot-in};
 ghost use Rattle.words.specs.Answer.{read-as};
 
 // What a variable, a cell of an array or a slot of a record holds: a filled one by its word.
@@ -73,7 +73,7 @@ pub fn name_of(w: u64) -> u32
 pub fn size_of(w: u64) -> u32
     ensures { λ n. ⌜ n ≡ size-of w ⌝ }
 {
-    (w / 34359738368 % 131072) as u32
+    (w / 34359738368 % 65536) as u32
 }
 
 // What a word is; the number of the element or of the type in the head of an object.
@@ -86,10 +86,35 @@ pub fn tag_of(w: u64) -> u8
 pub fn kind_in(w: u64) -> u8
     ensures { λ n. ⌜ n ≡ info-of w ⌝ }
 {
-    (w / 34359738368 / 131072 % 256) as u8
+    (w / 34359738368 / 65536 % 256) as u8
 }
 
-// The words of an integer, of an object, of the heads of an array and of a record, of a place.
+// What stands between a frame and the one that waits for it: the variable that its call keeps, its procedure and next instruction; its count of variables.
+pub fn back_kept(w: u64) -> u8
+    ensures { λ n. ⌜ n ≡ back-kept w ⌝ }
+{
+    (w / 34359738368 % 256) as u8
+}
+
+pub fn back_procedure(w: u64) -> u8
+    ensures { λ n. ⌜ n ≡ back-procedure w ⌝ }
+{
+    (w / 34359738368 / 256 % 64) as u8
+}
+
+pub fn back_next(w: u64) -> u32
+    ensures { λ n. ⌜ n ≡ back-next w ⌝ }
+{
+    (w / 34359738368 / 16384) as u32
+}
+
+pub fn extent_variables(w: u64) -> u8
+    ensures { λ n. ⌜ n ≡ extent-variables w ⌝ }
+{
+    (w / 34359738368 % 256) as u8
+}
+
+// The words of an integer, of an object, of the heads of an array and of a record, and the two of a frame that waits.
 pub fn integer_word(n: u32) -> u64
     ensures { λ w. ⌜ ((m : Mode) (q : ℕ → Qual) → slot-in m q w ≡ cell (filled (word n) (carried m 0))) ⌝ }
 {
@@ -104,24 +129,30 @@ pub fn object_word(a: u32, rights: u32) -> u64
 }
 
 pub fn array_word(n: u32, element: u8) -> u64
-    requires { ⌜ n < 2 ^ 17 ⌝ }
+    requires { ⌜ n < 2 ^ 16 ⌝ }
     ensures { λ w. ⌜ ((m : Mode) (q : ℕ → Qual) → slot-in m q w ≡ head (array-head (element-info m (q element)) n)) ⌝ }
 {
-    (((element as u64) * 131072 + (n as u64)) * 8 + 3) * 4294967296
+    (((element as u64) * 65536 + (n as u64)) * 8 + 3) * 4294967296
 }
 
 pub fn record_word(n: u32, kind: u8) -> u64
-    requires { ⌜ n < 2 ^ 17 ⌝ }
+    requires { ⌜ n < 2 ^ 16 ⌝ }
     ensures { λ w. ⌜ ((m : Mode) (q : ℕ → Qual) → slot-in m q w ≡ head (record-head (type-info m kind) n)) ⌝ }
 {
-    (((kind as u64) * 131072 + (n as u64)) * 8 + 4) * 4294967296
+    (((kind as u64) * 65536 + (n as u64)) * 8 + 4) * 4294967296
 }
 
-pub fn place_word(procedure: u32, next: u32) -> u64
-    requires { ⌜ procedure < 2 ^ 29 ⌝ }
-    ensures { λ w. ⌜ ((m : Mode) (q : ℕ → Qual) → slot-in m q w ≡ place procedure next) ⌝ }
+pub fn back_word(procedure: u8, next: u32, kept: u8) -> u64
+    requires { ⌜ (procedure < 2 ^ 6) × (next < 2 ^ 15) ⌝ }
+    ensures { λ w. ⌜ ((m : Mode) (q : ℕ → Qual) → slot-in m q w ≡ back procedure next kept) ⌝ }
 {
-    ((procedure as u64) * 8 + 5) * 4294967296 + (next as u64)
+    ((((next as u64) * 64 + (procedure as u64)) * 256 + (kept as u64)) * 8 + 5) * 4294967296
+}
+
+pub fn extent_word(variables: u8, first: u32) -> u64
+    ensures { λ w. ⌜ ((m : Mode) (q : ℕ → Qual) → slot-in m q w ≡ extent variables first) ⌝ }
+{
+    ((variables as u64) * 8 + 6) * 4294967296 + (first as u64)
 }
 
 // Every word of a slice becomes 0.

@@ -149,6 +149,7 @@ module _ {m : Mode} {c : Given} {words out : List ℕ} {r : Registers} {p i : �
               frame = rw long (S .sane .frame);
               small = rw long (S .sane .small);
               procedure = S .sane .procedure;
+              variables = S .sane .variables;
             };
         running = record { procedure = S .running .procedure; variables = many ∙ S .running .variables };
         waiting = S .waiting;
@@ -168,7 +169,7 @@ module _ {m : Mode} {c : Given} {words out : List ℕ} {r : Registers} {p i : �
         next = S .next;
         first = S .first;
         variables = S .variables;
-        sane = record { room = S .sane .room; frame = S .sane .frame; small = S .sane .small; procedure = S .sane .procedure };
+        sane = record { room = S .sane .room; frame = S .sane .frame; small = S .sane .small; procedure = S .sane .procedure; variables = S .sane .variables };
         running = S .running;
         waiting = S .waiting;
         objects = S .objects;
@@ -199,7 +200,7 @@ module _ {m : Mode} {c : Given} {words out : List ℕ} {r : Registers} {p i : �
         next = S .next;
         first = S .first;
         variables = S .variables;
-        sane = record { room = S .sane .room; frame = S .sane .frame; small = S .sane .small; procedure = S .sane .procedure };
+        sane = record { room = S .sane .room; frame = S .sane .frame; small = S .sane .small; procedure = S .sane .procedure; variables = S .sane .variables };
         running = S .running;
         waiting = S .waiting;
         objects = S .objects;
@@ -376,7 +377,7 @@ allots m q words zeros words′ r a w n v sane room cleared e =
     let fits : r .used + 1 + n ≤ length words = omega arith in
     let l : length (laid words zeros (r .used) w n) ≡ length words = length-laid words zeros (r .used) w n fits cleared in
     let s : Sane (length (laid words zeros (r .used) w n)) (onward r (r .next) (r .used + (n + 1)) (r .taken) (r .put)) =
-    record { room = room; frame = rw l frame; small = rw l (sane .small); procedure = sane .procedure } in
+    record { room = room; frame = rw l frame; small = rw l (sane .small); procedure = sane .procedure; variables = sane .variables } in
     let P = puts (slot-in m q) (laid words zeros (r .used) w n) words′ (onward r (r .next) (r .used + (n + 1)) (r .taken) (r .put)) a v (slot-in m q v) s refl e in
     record {
       long = P .long ∙ l;

@@ -10,11 +10,11 @@ use Rattle.model.specs.Modes.{Mode}
 use Rattle.model.specs.Machine.{Cell, empty, Object, cells-of, head-of, cell-of, find, Frame, frame, State, state, object-units, frame-units, view, first-of}
 use Rattle.sheet.specs.Layout.{instructionAt, procedureAt}
 use Rattle.sheet.specs.Meaning.{qualOf}
-use Rattle.words.specs.Word.{Slot, cell, place, slot-in, as-head}
+use Rattle.words.specs.Word.{Slot, cell, extent, slot-in, as-head}
 use Rattle.words.specs.Sees.{head-size, heads-in}
 use Rattle.words.proofs.Laws.{slot-at}
 use Rattle.writers.specs.declared.Registers.{Registers}
-use Rattle.writers.specs.Memory.{Given, slots, object-part, frame-part, SeesIn, Stands, StandsFor, flat-objects, flat-frames}
+use Rattle.writers.specs.Memory.{Given, slots, object-part, frame-part, SeesIn, Stands, StandsFor, flat-objects, back-to, flat-frames}
 use Rattle.writers.proofs.Change.{map-take, map-drop}
 use Rattle.writers.proofs.Flat.{size-is, heads, cells-at, length-objects, length-frames}
 
@@ -80,19 +80,19 @@ alone S =
 
 module _ {m : Mode} {c : Given} {words out : List ℕ} {r : Registers} {p i q k : ℕ} {vs us : List (Cell m)} {fs : List (Frame m)} {os : List (Object m)}
     {input put : List ℕ} (S : Stands m c words out r p i vs (frame q k us ∷ fs) os input put) where
-  -- its place stands after the running frame's variables
-  pub waiting-place : slot-in m (qualOf (c .sheet)) (getD words (r .base + r .variables) 0) ≡ place q k
+  -- where it goes back stands after the running frame's variables
+  pub waiting-back : slot-in m (qualOf (c .sheet)) (getD words (r .base + r .variables) 0) ≡ back-to (c .sheet) q k
   unfolding flat-frames
-  waiting-place =
+  waiting-back =
       sym (slot-at m (qualOf (c .sheet)) words (r .base + r .variables))
       ∙ sym (getD-drop (r .base) (slots m c words) (r .variables) (cell empty))
-      ∙ rw (S .frames) (getD-at (map cell vs) (place q k) _ (cell empty) (r .variables) (length-map vs cell ∙ sym (S .variables)))
+      ∙ rw (S .frames) (getD-at (map cell vs) (back-to (c .sheet) q k) _ (cell empty) (r .variables) (length-map vs cell ∙ sym (S .variables)))
 
-  -- and after that its count of variables and where its instructions start
-  pub waiting-more : slot-in m (qualOf (c .sheet)) (getD words (r .base + (r .variables + 1)) 0)
-      ≡ place (length us) (instructionAt (c .sheet) (procedureAt (c .sheet) q) 0)
+  -- and after that its extent
+  pub waiting-extent : slot-in m (qualOf (c .sheet)) (getD words (r .base + (r .variables + 1)) 0)
+      ≡ extent (length us) (instructionAt (c .sheet) (procedureAt (c .sheet) q) 0)
   unfolding flat-frames
-  waiting-more =
+  waiting-extent =
       let n : r .variables + 1 ≡ length (map cell vs) + 1 = rw length-map (ap (λ (n : ℕ). n + 1) (S .variables)) in
       sym (slot-at m (qualOf (c .sheet)) words (r .base + (r .variables + 1)))
       ∙ sym (getD-drop (r .base) (slots m c words) (r .variables + 1) (cell empty))

@@ -1,18 +1,20 @@
 -- What it is for the words of the memory, the registers and the output to stand for a state of a machine.
--- Objects fill the memory from its start, in the order in which they were made; frames from its end, main's last. A frame is its variables, then the
--- place of the frame that waits for it, then that frame's count of variables and where its instructions start. Nothing is said of the words between.
-use Prim.Native.Nat.{ℕ, _+_, _≤_, _<_}
+-- Objects fill the memory from its start, in the order in which they were made; frames from its end, main's last. A frame is its variables, then two
+-- words that tell of the frame that waits for it: where to go back, and its extent. Nothing is said of the words between objects and frames.
+use Prim.Native.Nat.{ℕ, pred, _+_, _≤_, _<_}
 use mathlib.Core.Path.{_≡_}
 use mathlib.Core.List.{List, [], _∷_, _++_, map}
-use mathlib.Core.Option.{some}
+use mathlib.Core.Option.{Option, none, some}
 use lib.ListN.{length, take, drop}
 use Rattle.model.specs.Qualified.{Qual}
 use Rattle.model.specs.Modes.{Mode}
-use Rattle.model.specs.Machine.{Cell, Object, cells-of, head-of, Frame, frame, State, state, View}
+use Rattle.model.specs.Machine.{Cell, empty, Object, cells-of, head-of, Frame, frame, kept, State, state, View}
 use Rattle.model.specs.Run.{written}
+use Rattle.model.specs.declared.Operation.{Operation}
 use Rattle.sheet.specs.Layout.{proceduresOf, variablesAt, instructionAt, procedureAt}
+use Rattle.sheet.specs.Decode.{operationAt}
 use Rattle.sheet.specs.Meaning.{qualOf}
-use Rattle.words.specs.Word.{Slot, cell, head, place, slot-in}
+use Rattle.words.specs.Word.{Slot, cell, head, back, extent, slot-in}
 use Rattle.words.specs.Sees.{Sees}
 use Rattle.writers.specs.declared.Registers.{Registers}
 
@@ -27,10 +29,22 @@ unfoldable pub flat-objects : {m : Mode} → List (Object m) → List (Slot m)
 flat-objects [] = []
 flat-objects (o ∷ os) = head (head-of (some o)) ∷ (map cell (cells-of o) ++ flat-objects os)
 
--- what follows the running frame's variables, where these frames wait
+-- the variable that an operation keeps, as a byte: 255 for none
+abbrev pub byte-of : Option ℕ → ℕ
+byte-of none = 255
+byte-of (some a) = a
+
+abbrev pub kept-byte : Operation → ℕ
+kept-byte op = byte-of (kept op)
+
+-- the word that tells where a frame goes back, which waits behind the call before its next instruction
+abbrev pub back-to : {m : Mode} → (sheet : List ℕ) → (procedure next : ℕ) → Slot m
+back-to s p i = back p i (kept-byte (operationAt s (instructionAt s (procedureAt s p) (pred i))))
+
+-- what follows the running frame's variables, where these frames wait; where none does, two blank words
 unfoldable pub flat-frames : {m : Mode} → (sheet : List ℕ) → List (Frame m) → List (Slot m)
-flat-frames s [] = place 0 0 ∷ (place 0 0 ∷ [])
-flat-frames s (frame p i vs ∷ fs) = place p i ∷ (place (length vs) (instructionAt s (procedureAt s p) 0) ∷ (map cell vs ++ flat-frames s fs))
+flat-frames s [] = cell empty ∷ (cell empty ∷ [])
+flat-frames s (frame p i vs ∷ fs) = back-to s p i ∷ (extent (length vs) (instructionAt s (procedureAt s p) 0) ∷ (map cell vs ++ flat-frames s fs))
 
 -- a frame of a procedure of the sheet has its variables
 pub record Sound {m : Mode} (s : List ℕ) (p : ℕ) (vs : List (Cell m)) : Type 0 where
@@ -47,6 +61,7 @@ pub record Sane (n : ℕ) (r : Registers) : Type 0 where
   pub frame : r .base + (r .variables + 2) ≤ n
   pub small : n ≤ 65536
   pub procedure : r .procedure < 64
+  pub variables : r .variables < 256
 
 -- the two parts of the memory that an instruction reads: the objects, and the running frame's variables
 abbrev pub object-part : Registers → List ℕ → List ℕ

@@ -71,7 +71,7 @@ pub fn put_variable(memory: &mut [u64], base: usize, variables: usize, a: u8, w:
 // Variable a becomes an integer.
 pub fn give_number(memory: &mut [u64], r: Registers, a: u8, n: Number) -> Stepped
     requires { ⌜ Sane (length (now memory)) r ⌝ }
-    requires { ⌜ r .next < 65536 ⌝ }
+    requires { ⌜ r .next < 1000 ⌝ }
     ensures { λ o. ⌜ ((mode : Mode) (c : Given) (out : List ℕ) → Does mode c (now (memory .entry)) (now (memory .exit)) out out r o (given mode a n)) ⌝ }
 {
     match n {
@@ -86,7 +86,7 @@ pub fn give_number(memory: &mut [u64], r: Registers, a: u8, n: Number) -> Steppe
 // Variable a becomes a moved cell; where the definition is stuck the word may be none's.
 pub fn give_moved(memory: &mut [u64], r: Registers, a: u8, m: Moved) -> Stepped
     requires { ⌜ Sane (length (now memory)) r ⌝ }
-    requires { ⌜ r .next < 65536 ⌝ }
+    requires { ⌜ r .next < 1000 ⌝ }
     ensures { λ o. ⌜ ((mode : Mode) (c : Given) (out : List ℕ) → MovedOk m → Does mode c (now (memory .entry)) (now (memory .exit)) out out r o (moved-to mode (qualOf (c .sheet)) a m)) ⌝ }
 {
     match m {
@@ -101,7 +101,7 @@ pub fn give_moved(memory: &mut [u64], r: Registers, a: u8, m: Moved) -> Stepped
 // A cell of an object becomes a moved cell; where the definition is stuck there may be no such cell.
 pub fn store_cell(memory: &mut [u64], r: Registers, m: Stored) -> Stepped
     requires { ⌜ Sane (length (now memory)) r ⌝ }
-    requires { ⌜ r .next < 65536 ⌝ }
+    requires { ⌜ r .next < 1000 ⌝ }
     ensures { λ o. ⌜ ((mode : Mode) (c : Given) (out : List ℕ) → StoredOk (object-part r (now (memory .entry))) m → Does mode c (now (memory .entry)) (now (memory .exit)) out out r o (stored mode (qualOf (c .sheet)) m)) ⌝ }
 {
     match m {
@@ -116,7 +116,7 @@ pub fn store_cell(memory: &mut [u64], r: Registers, m: Stored) -> Stepped
 
 // To instruction k if the integer is zero, else to the next.
 pub fn jump(r: Registers, n: Number, k: u16) -> Stepped
-    requires { ⌜ r .next < 65536 ⌝ }
+    requires { ⌜ r .next < 1000 ⌝ }
     ensures { λ o. ⌜ ((mode : Mode) (c : Given) (words out : List ℕ) → Does mode c words words out out r o (jumped mode k n)) ⌝ }
 {
     match n {
@@ -132,7 +132,7 @@ pub fn jump(r: Registers, n: Number, k: u16) -> Stepped
 
 // The next output word becomes an integer.
 pub fn put_output(output: &mut [u32], r: Registers, n: Number) -> Stepped
-    requires { ⌜ r .next < 65536 ⌝ }
+    requires { ⌜ r .next < 1000 ⌝ }
     ensures { λ o. ⌜ ((mode : Mode) (c : Given) (words : List ℕ) → Does mode c words words (now (output .entry)) (now (output .exit)) r o (put-effect mode (length (now (output .entry)) - r .put) n)) ⌝ }
 {
     match n {
@@ -161,7 +161,7 @@ pub fn put_output(output: &mut [u32], r: Registers, n: Number) -> Stepped
 // Variable a becomes the next input word.
 pub fn take_input(input: &[u32], memory: &mut [u64], r: Registers, a: u8) -> Stepped
     requires { ⌜ Sane (length (now memory)) r ⌝ }
-    requires { ⌜ r .next < 65536 ⌝ }
+    requires { ⌜ r .next < 1000 ⌝ }
     ensures { λ o. ⌜ ((mode : Mode) (c : Given) (out : List ℕ) → Does mode c (now (memory .entry)) (now (memory .exit)) out out r o (take-effect mode a (first-of (drop (r .taken) (now (input .entry)))))) ⌝ }
 {
     let at = r.taken;
@@ -185,7 +185,7 @@ pub fn take_input(input: &[u32], memory: &mut [u64], r: Registers, a: u8) -> Ste
 // A new object with a head and n blank cells, after the others; variable a becomes `name`.
 pub fn allot(memory: &mut [u64], r: Registers, a: u8, head: u64, n: u32, name: u64) -> Registers
     requires { ⌜ Sane (length (now memory)) r ⌝ }
-    requires { ⌜ r .next < 65536 ⌝ }
+    requires { ⌜ r .next < 1000 ⌝ }
     requires { ⌜ r .used + (n + 1) ≤ r .base ⌝ }
     ensures { λ q. ⌜ q ≡ onward r (r .next + 1) (r .used + (n + 1)) (r .taken) (r .put) ⌝ }
     ensures { λ q. ⌜ ((mode : Mode) (qual : ℕ → Qual) → Allotted mode qual (now (memory .entry)) (now (memory .exit)) r a head n name) ⌝ }
@@ -212,7 +212,7 @@ pub fn allot(memory: &mut [u64], r: Registers, a: u8, head: u64, n: u32, name: u
 // A new array, or a new record, of the plain machine, whatever its type.
 pub fn give_array(memory: &mut [u64], r: Registers, a: u8, n: Number) -> Stepped
     requires { ⌜ Sane (length (now memory)) r ⌝ }
-    requires { ⌜ r .next < 65536 ⌝ }
+    requires { ⌜ r .next < 1000 ⌝ }
     ensures { λ o. ⌜ ((c : Given) (out : List ℕ) (q : Qual) → Does plain c (now (memory .entry)) (now (memory .exit)) out out r o (array-effect plain (r .base - r .used) a q n)) ⌝ }
 {
     match n {
@@ -229,7 +229,7 @@ pub fn give_array(memory: &mut [u64], r: Registers, a: u8, n: Number) -> Stepped
 
 pub fn give_record(memory: &mut [u64], r: Registers, a: u8, slots: u8) -> Stepped
     requires { ⌜ Sane (length (now memory)) r ⌝ }
-    requires { ⌜ r .next < 65536 ⌝ }
+    requires { ⌜ r .next < 1000 ⌝ }
     ensures { λ o. ⌜ ((c : Given) (out : List ℕ) (q : Qual) (t named : ℕ) → Does plain c (now (memory .entry)) (now (memory .exit)) out out r o (record-effect plain (r .base - r .used) a q t named slots)) ⌝ }
 {
     let n = slots as u32;

@@ -1,74 +1,110 @@
 //! The proved check beside the second engine.
 
-use crate::timing::least_times;
-use generator::large::{many_procedures, mostly_instructions, one_deep_array, two_deep_arrays};
+use crate::count;
+use crate::sheets::{largest, small, Named};
+use crate::timing::{Call, Rounds, FEW, MANY};
+use comparison::agreed;
+use generator::large::mostly_instructions;
 use std::hint::black_box;
 
-const LARGEST: usize = 32_768;
+/// The two in the order in which they take turns.
+pub const PROVED: usize = 0;
+pub const SECOND: usize = 1;
+
+const SIZES: [(&str, usize); 6] = [
+    ("1 KiB", 1_024),
+    ("2 KiB", 2_048),
+    ("4 KiB", 4_096),
+    ("8 KiB", 8_192),
+    ("16 KiB", 16_384),
+    ("32 KiB", 32_768),
+];
 
 /// What the charts show.
 pub struct Checks {
-    /// The largest sheets: the proved check's time, as so many times the
-    /// second engine's.
-    pub largest: Vec<(&'static str, f64)>,
-    /// Bytes of a sheet, and the seconds of the proved check and the second
-    /// engine's.
-    pub growth: Vec<(usize, [f64; 2])>,
+    pub largest: Vec<(&'static str, Rounds<2>)>,
+    /// By the bytes of a sheet.
+    pub growth: Vec<(usize, Rounds<2>)>,
 }
 
 pub fn report() -> Checks {
-    println!("Largest sheets, all accepted: time per check, bytes per second, and the ratio");
-    heading();
-    let sheets = [
-        ("mostly instructions", mostly_instructions(LARGEST)),
-        ("one array 62 deep", one_deep_array(LARGEST)),
-        ("two arrays 31 deep", two_deep_arrays(LARGEST)),
-        ("64 procedures", many_procedures(LARGEST)),
-    ];
-    let largest = sheets.map(|(name, sheet)| {
-        let [proved, second] = row(name, &sheet.encode());
-        (name, proved / second)
-    });
+    println!("Largest sheets, all accepted: medians of a check, with the quartiles of the ratio");
+    let largest = table(MANY, largest(), count::check);
+    println!();
+    println!(
+        "Small sheets: the smallest; two arrays 31 deep, compared once, the last ones refused"
+    );
+    table(MANY, small(), count::check);
     println!();
     println!("Time against size, mostly instructions");
-    heading();
-    let growth = [1, 2, 4, 8, 16, 32].map(|kilobytes| {
-        let sheet = mostly_instructions(kilobytes * 1024).encode();
-        (sheet.len(), row(&format!("{kilobytes} KiB"), &sheet))
-    });
+    let sheets = SIZES.map(|(name, bytes)| (name, mostly_instructions(bytes).encode()));
+    let lengths = sheets.each_ref().map(|(_, sheet)| sheet.len());
+    let growth = table(FEW, sheets, |_| None).into_iter();
+    let growth = growth
+        .zip(lengths)
+        .map(|((_, rounds), length)| (length, rounds));
     Checks {
-        largest: largest.to_vec(),
-        growth: growth.to_vec(),
+        largest,
+        growth: growth.collect(),
     }
+}
+
+/// A line for each sheet, with the instructions if they are counted.
+fn table<const COUNT: usize>(
+    rounds: usize,
+    sheets: [Named; COUNT],
+    count: fn(&str) -> Option<u64>,
+) -> Vec<(&'static str, Rounds<2>)> {
+    heading();
+    let calls = sheets.each_ref().map(|(_, sheet)| calls(sheet));
+    let all = sheets.iter().zip(Rounds::measured(rounds, calls));
+    let row = |((name, sheet), rounds): (&Named, Rounds<2>)| {
+        show(name, sheet.len(), &rounds, count(name));
+        (*name, rounds)
+    };
+    all.map(row).collect()
+}
+
+/// The proved check and the second engine's, which agree.
+fn calls(sheet: &[u8]) -> [Call<'_>; 2] {
+    agreed(sheet).unwrap_or_else(|fault| panic!("{fault}"));
+    [
+        Box::new(|| {
+            black_box(wennathig::check(black_box(sheet)));
+        }),
+        Box::new(|| {
+            black_box(reference::check(black_box(sheet)));
+        }),
+    ]
 }
 
 fn heading() {
     println!(
-        "{:<20} {:>7} {:>12} {:>10} {:>12} {:>10} {:>7}",
-        "sheet", "bytes", "proved us", "MB/s", "reference us", "MB/s", "ratio"
+        "{:<20} {:>6} {:>10} {:>7} {:>10} {:>7} {:>20} {:>9} {:>13}",
+        "sheet",
+        "bytes",
+        "proved us",
+        "MB/s",
+        "second us",
+        "MB/s",
+        "second/proved",
+        "quietest",
+        "instructions"
     );
 }
 
 /// One line of a table; the ratio says how many times faster the proved check
-/// is. Gives the seconds of both.
-fn row(name: &str, sheet: &[u8]) -> [f64; 2] {
-    assert_eq!(reference::check(sheet), reference::Verdict::Accepted);
-    assert_eq!(wennathig::check(sheet), wennathig::Verdict::Accepted);
-    let mut by_proved = || {
-        black_box(wennathig::check(black_box(sheet)));
-    };
-    let mut by_second = || {
-        black_box(reference::check(black_box(sheet)));
-    };
-    let [proved, second] = least_times([&mut by_proved, &mut by_second]);
+/// is, in all rounds and in the quietest tenth; the instructions are its own.
+fn show(name: &str, bytes: usize, rounds: &Rounds<2>, instructions: Option<u64>) {
+    let [proved, second] = [PROVED, SECOND].map(|engine| rounds.seconds(engine));
     println!(
-        "{name:<20} {:>7} {:>12.3} {:>10.1} {:>12.3} {:>10.1} {:>7.2}",
-        sheet.len(),
+        "{name:<20} {bytes:>6} {:>10.3} {:>7.0} {:>10.3} {:>7.0} {:>20} {:>9.2} {:>13}",
         proved * 1e6,
-        sheet.len() as f64 / proved / 1e6,
+        bytes as f64 / proved / 1e6,
         second * 1e6,
-        sheet.len() as f64 / second / 1e6,
-        second / proved
+        bytes as f64 / second / 1e6,
+        rounds.ratio(SECOND, PROVED),
+        rounds.quietest().ratio(SECOND, PROVED).median,
+        count::shown(instructions),
     );
-    [proved, second]
 }

@@ -1,148 +1,133 @@
 //! The proved run and watch beside each other, and run beside the second
 //! engine and the plain C interpreter.
 
+use crate::count;
+use crate::engines::{Engine, LOOP_MEMORY};
 use crate::interpreter::Accepted;
-use crate::timing::least_times;
-use generator::loops::{arithmetic, call_and_return, fetch_and_store, record_slots};
-use generator::operations::leave;
-use generator::{Procedure, SheetBuilder};
+use crate::sheets::loops;
+use crate::timing::{geometric_mean, Call, Rounds, Spread, FEW, MANY};
+use generator::handwritten::SMALLEST;
+use generator::loops::fetch_and_store;
 use reference::machine::MAX_MEMORY;
 use reference::Outcome;
-use std::hint::black_box;
-use wennathig::{run_into, watch_into, Machine};
+use wennathig::{run_into, watch_into};
 
 /// The steps of a timed run: enough that its start and its end do not count.
-const STEPS: u64 = 500_000;
-const LOOP_MEMORY: usize = 64;
+const STEPS: u64 = 100_000;
 
-/// Seconds, or nanoseconds per step, of the same loop.
-#[derive(Clone, Copy)]
-pub struct Times {
-    /// The proved run and the proved watch.
-    pub run: f64,
-    pub watch: f64,
-    /// The second engine's run and the C interpreter.
-    pub second: f64,
-    pub plain: f64,
-}
+/// The engines' times of a loop, in the order of [`Engine::ALL`].
+pub type Times = Rounds<4>;
+
+/// What is compared: an engine's time over that of another.
+pub const RATIOS: [[Engine; 2]; 3] = [
+    [Engine::Run, Engine::Plain],
+    [Engine::Run, Engine::Second],
+    [Engine::Watch, Engine::Run],
+];
+
+/// Whose instructions are counted, and whose start and end are timed.
+const COUNTED: [Engine; 3] = [Engine::Run, Engine::Watch, Engine::Plain];
 
 /// What the charts show.
 pub struct Runs {
     pub loops: Vec<(&'static str, Times)>,
-    /// Steps of one loop, and the seconds.
+    /// By the steps of one loop.
     pub growth: Vec<(u64, Times)>,
 }
 
 pub fn report() -> Runs {
-    println!("Loops: nanoseconds per step, and their ratios");
-    println!(
-        "{:<20} {:>7} {:>8} {:>12} {:>7} {:>13} {:>7} {:>9}",
-        "loop", "run ns", "watch ns", "reference ns", "C ns", "run/reference", "run/C", "watch/run"
-    );
-    let sheets = [
-        ("arithmetic", arithmetic()),
-        ("fetch and store", fetch_and_store()),
-        ("call and return", call_and_return()),
-        ("record slots", record_slots()),
-    ];
-    let loops = sheets.map(|(name, sheet)| (name, row(name, &sheet.encode())));
-    let mean = |of: fn(&Times) -> f64| {
-        let logarithms: f64 = loops.iter().map(|(_, times)| of(times).ln()).sum();
-        (logarithms / loops.len() as f64).exp()
-    };
-    let means = Times {
-        run: mean(|times| times.run),
-        watch: mean(|times| times.watch),
-        second: mean(|times| times.second),
-        plain: mean(|times| times.plain),
-    };
-    print_row("geometric mean", means);
+    let sheets = loops();
+    sheets.iter().for_each(|(_, sheet)| same_outcomes(sheet));
+    let calls = sheets.each_ref().map(|(_, sheet)| calls(sheet, STEPS));
+    let names = sheets.iter().map(|(name, _)| *name);
+    let loops: Vec<(&str, Times)> = names.zip(Rounds::measured(MANY, calls)).collect();
+    show_times(&loops);
+    println!();
+    println!("Loops: ratios of the times of a round, the median and the quartiles");
+    show_ratios(&loops);
+    println!();
+    println!("Loops: the same in the quietest tenth of the rounds");
+    let quietest = loops.iter().map(|(name, times)| (*name, times.quietest()));
+    show_ratios(&quietest.collect::<Vec<_>>());
+    println!();
+    show_instructions(&loops);
     println!();
     let growth = against_steps();
     println!();
     start_and_end();
-    Runs {
-        loops: loops.to_vec(),
-        growth,
+    Runs { loops, growth }
+}
+
+fn calls(sheet: &[u8], steps: u64) -> [Call<'_>; 4] {
+    Engine::ALL.map(|engine| engine.call(sheet, steps, LOOP_MEMORY))
+}
+
+/// The spread of an engine's time over that of another.
+pub fn ratio(times: &Times, [engine, other]: [Engine; 2]) -> Spread {
+    times.ratio(engine as usize, other as usize)
+}
+
+fn names<const COUNT: usize>(engines: [Engine; COUNT]) -> [String; COUNT] {
+    engines.map(|engine| String::from(engine.name()))
+}
+
+/// A line of a table.
+fn show<const COUNT: usize>(name: &str, columns: [String; COUNT]) {
+    let columns = columns.map(|text| format!("{text:>20}"));
+    println!("{name:<20}{}", columns.concat());
+}
+
+fn show_times(loops: &[(&str, Times)]) {
+    println!("Loops: nanoseconds a step");
+    show("loop", names(Engine::ALL));
+    let step = |times: &Times, engine| times.seconds(engine as usize) / STEPS as f64 * 1e9;
+    for (name, times) in loops {
+        let columns = Engine::ALL.map(|engine| step(times, engine));
+        show(name, columns.map(|time| format!("{time:.2}")));
+    }
+    let means = Engine::ALL.map(|engine| {
+        let all = loops.iter().map(|(_, times)| step(times, engine));
+        geometric_mean(all)
+    });
+    show("geometric mean", means.map(|mean| format!("{mean:.2}")));
+}
+
+fn show_ratios(loops: &[(&str, Times)]) {
+    let name = |[engine, other]: [Engine; 2]| format!("{}/{}", engine.name(), other.name());
+    show("loop", RATIOS.map(name));
+    for (name, times) in loops {
+        show(name, RATIOS.map(|pair| ratio(times, pair).to_string()));
+    }
+    let means = RATIOS.map(|pair| {
+        let medians = loops.iter().map(|(_, times)| ratio(times, pair).median);
+        geometric_mean(medians)
+    });
+    show("geometric mean", means.map(|mean| format!("{mean:.3}")));
+}
+
+fn show_instructions(loops: &[(&str, Times)]) {
+    println!("Loops: instructions a step");
+    show("loop", names(COUNTED));
+    for (name, _) in loops {
+        let counts = COUNTED.map(|engine| count::step(engine, name));
+        let counts = counts.map(|count| count.map(|count| format!("{count:.2}")));
+        show(name, counts.map(count::shown));
     }
 }
 
 /// One loop for more and more steps.
 fn against_steps() -> Vec<(u64, Times)> {
-    println!("Time against steps, fetch and store");
-    println!(
-        "{:<20} {:>12} {:>12} {:>12} {:>12}",
-        "steps", "run us", "watch us", "reference us", "C us"
-    );
+    println!("Time against steps, fetch and store: microseconds");
+    show("steps", names(Engine::ALL));
     let sheet = fetch_and_store().encode();
     let steps = [62_500, 125_000, 250_000, 500_000, 1_000_000];
-    let growth = steps.map(|steps| {
-        let times = times(&sheet, steps);
-        let all = [times.run, times.watch, times.second, times.plain];
-        let [run, watch, second, plain] = all.map(|time| time * 1e6);
-        println!("{steps:<20} {run:>12.1} {watch:>12.1} {second:>12.1} {plain:>12.1}");
-        (steps, times)
-    });
-    growth.to_vec()
-}
-
-fn print_row(name: &str, times: Times) {
-    let Times {
-        run,
-        watch,
-        second,
-        plain,
-    } = times;
-    println!(
-        "{name:<20} {run:>7.3} {watch:>8.3} {second:>12.3} {plain:>7.3} {:>13.3} {:>7.3} {:>9.3}",
-        run / second,
-        run / plain,
-        watch / run
-    );
-}
-
-/// One line of the table; gives the nanoseconds per step.
-fn row(name: &str, sheet: &[u8]) -> Times {
-    same_outcomes(sheet);
-    let seconds = times(sheet, STEPS);
-    let nanoseconds = |time: f64| time / STEPS as f64 * 1e9;
-    let times = Times {
-        run: nanoseconds(seconds.run),
-        watch: nanoseconds(seconds.watch),
-        second: nanoseconds(seconds.second),
-        plain: nanoseconds(seconds.plain),
-    };
-    print_row(name, times);
-    times
-}
-
-/// Seconds of a run of so many steps.
-fn times(sheet: &[u8], steps: u64) -> Times {
-    let accepted = Accepted::new(sheet).expect("the loop is accepted");
-    let proved = |machine: Machine| {
-        let mut memory = [0; LOOP_MEMORY];
-        move || {
-            let sheet = black_box(sheet);
-            machine(sheet, &[], steps, &mut memory, &mut [], &mut [0; 5]);
-        }
-    };
-    let mut by_second = || {
-        let sheet = black_box(sheet);
-        black_box(reference::run(sheet, &[], steps, LOOP_MEMORY, &mut []));
-    };
-    let mut memory = [0; LOOP_MEMORY];
-    let mut by_plain = || {
-        accepted.run_into(&[], black_box(steps), &mut memory, &mut [], &mut [0; 5]);
-    };
-    let (mut by_run, mut by_watch) = (proved(run_into), proved(watch_into));
-    let [run, watch, second, plain] =
-        least_times([&mut by_run, &mut by_watch, &mut by_second, &mut by_plain]);
-    Times {
-        run,
-        watch,
-        second,
-        plain,
+    let all = Rounds::measured(FEW, steps.map(|steps| calls(&sheet, steps)));
+    let growth: Vec<(u64, Times)> = steps.into_iter().zip(all).collect();
+    for (steps, times) in &growth {
+        let columns = Engine::ALL.map(|engine| times.seconds(engine as usize) * 1e6);
+        show(&steps.to_string(), columns.map(|time| format!("{time:.1}")));
     }
+    growth
 }
 
 /// All spend the fuel and end at the same place, whatever the fuel.
@@ -164,29 +149,12 @@ fn same_outcomes(sheet: &[u8]) {
 
 /// Runs of one step, which are all start and end.
 fn start_and_end() {
-    println!("Starting and ending: the smallest sheet, checked (but for C), run for one step, the memory cleared");
-    println!(
-        "{:<20} {:>12} {:>12} {:>12}",
-        "words of memory", "run us", "watch us", "C us"
-    );
-    let main = Procedure::main().body(&[leave()]);
-    let smallest = SheetBuilder::new().procedure(main).build().encode();
-    let accepted = Accepted::new(&smallest).expect("the smallest sheet is accepted");
-    for words in [2, 256, 4_096, MAX_MEMORY] {
-        let proved = |machine: Machine| {
-            let (sheet, mut memory) = (&smallest, vec![0; words]);
-            move || {
-                let memory = black_box(&mut memory);
-                machine(black_box(sheet), &[], 1, memory, &mut [], &mut [0; 5]);
-            }
-        };
-        let mut memory = vec![0; words];
-        let mut by_plain = || {
-            accepted.run_into(&[], 1, black_box(&mut memory), &mut [], &mut [0; 5]);
-        };
-        let (mut by_run, mut by_watch) = (proved(run_into), proved(watch_into));
-        let [run, watch, plain] = least_times([&mut by_run, &mut by_watch, &mut by_plain]);
-        let [run, watch, plain] = [run, watch, plain].map(|time| time * 1e6);
-        println!("{words:<20} {run:>12.4} {watch:>12.4} {plain:>12.4}");
+    println!("Starting and ending: the smallest sheet, checked (but for C), run for one step, the memory cleared: microseconds");
+    show("words of memory", names(COUNTED));
+    let words = [2, 256, 4_096, MAX_MEMORY];
+    let calls = words.map(|words| COUNTED.map(|engine| engine.call(&SMALLEST, 1, words)));
+    for (words, rounds) in words.iter().zip(Rounds::measured(FEW, calls)) {
+        let columns = [0, 1, 2].map(|engine| rounds.seconds(engine) * 1e6);
+        show(&words.to_string(), columns.map(|time| format!("{time:.4}")));
     }
 }

@@ -6,6 +6,17 @@ use crate::sheet::{Procedure, Sheet, SheetBuilder};
 
 const MAX_INSTRUCTIONS: usize = 1000;
 
+/// A sheet of so many bytes, or a few less.
+type Make = fn(usize) -> Sheet;
+
+/// All of them, with their names.
+pub const SHEETS: [(&str, Make); 4] = [
+    ("mostly instructions", mostly_instructions),
+    ("one array 62 deep", one_deep_array),
+    ("two arrays 31 deep", two_deep_arrays),
+    ("64 procedures", many_procedures),
+];
+
 /// As near below the byte count as instructions of integers can fill it.
 pub fn mostly_instructions(bytes: usize) -> Sheet {
     let pattern = |step: usize| match step % 7 {
@@ -24,7 +35,19 @@ pub fn mostly_instructions(bytes: usize) -> Sheet {
 /// Two chains of arrays, each 31 deep, equal all the way down without sharing
 /// a record, and binds between the ends of the two.
 pub fn two_deep_arrays(bytes: usize) -> Sheet {
-    let mut start = SheetBuilder::new().integer().integer();
+    bound_chains(SheetBuilder::new().integer().integer(), bytes)
+}
+
+/// The same but for the innermost elements, which are unequal, so that the
+/// first bind is refused after all levels have been compared.
+pub fn two_unequal_arrays(bytes: usize) -> Sheet {
+    let start = SheetBuilder::new().record_type(0, &[]);
+    bound_chains(start.integer().record(2, 0), bytes)
+}
+
+/// Two chains of arrays, each 31 deep, over the two innermost elements that
+/// the start has, and binds between the ends of the two.
+fn bound_chains(mut start: SheetBuilder, bytes: usize) -> Sheet {
     for number in 2..62 {
         start = start.array(number - 2, ARRAY_ALL);
     }

@@ -10,6 +10,16 @@ use crate::sheet::{Procedure, Sheet, SheetBuilder};
 
 const INT: u8 = 0;
 
+type Make = fn() -> Sheet;
+
+/// All of them, with their names.
+pub const LOOPS: [(&str, Make); 4] = [
+    ("arithmetic", arithmetic),
+    ("fetch and store", fetch_and_store),
+    ("call and return", call_and_return),
+    ("record slots", record_slots),
+];
+
 /// Add, subtract, add, less, jump.
 pub fn arithmetic() -> Sheet {
     let main = Procedure::main().variables(&[INT; 5]).body(&[

@@ -3,7 +3,7 @@
 use generator::accepted::accepted;
 use generator::breach::Flaw;
 use generator::damage::damaged;
-use generator::large::{many_procedures, mostly_instructions, one_deep_array, two_deep_arrays};
+use generator::large::{two_deep_arrays, two_unequal_arrays, SHEETS};
 use generator::runs::families::{MISDECLARED, RUNNABLE, TRIALS};
 use generator::showcase::showcase;
 use generator::wellformed::wellformed;
@@ -113,16 +113,24 @@ fn a_seed_gives_one_sheet() {
 
 #[test]
 fn large_sheets_fill_the_bytes_given() {
-    for make in [
-        mostly_instructions,
-        one_deep_array,
-        two_deep_arrays,
-        many_procedures,
-    ] {
+    for (_, make) in SHEETS {
         let sheet = make(32_768).encode();
         assert!((32_000..=32_768).contains(&sheet.len()), "{}", sheet.len());
         assert_eq!(check(&sheet), Verdict::Accepted);
     }
+}
+
+/// Sheets of one bind, between the ends of two chains of arrays, and a return.
+#[test]
+fn deep_arrays_are_compared_to_their_innermost_elements() {
+    assert_eq!(check(&two_deep_arrays(422).encode()), Verdict::Accepted);
+    let unequal = two_unequal_arrays(434).encode();
+    assert_eq!(unequal.len(), 434);
+    let refused = Verdict::Refused {
+        number: 8,
+        place: unequal.len() - 16,
+    };
+    assert_eq!(check(&unequal), refused);
 }
 
 #[test]

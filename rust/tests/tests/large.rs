@@ -1,17 +1,12 @@
 //! The largest sheets, whole and with one late flaw.
 
 use comparison::agreed;
-use generator::large::{many_procedures, mostly_instructions, one_deep_array, two_deep_arrays};
+use generator::large::SHEETS;
 use generator::{At, Sheet};
 use reference::Verdict;
 
 fn largest() -> [Sheet; 4] {
-    [
-        mostly_instructions(32_768),
-        one_deep_array(32_768),
-        two_deep_arrays(32_768),
-        many_procedures(32_768),
-    ]
+    SHEETS.map(|(_, sheet)| sheet(32_768))
 }
 
 #[test]

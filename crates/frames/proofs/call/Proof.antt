@@ -1,33 +1,25 @@
--- The tests are those of the definition, in its order.
+-- The tests are those of the definition, in its order; the word of the index has what they ask of the procedure.
 use Prim.Native.Nat.{_≤_, _<_}
-use mathlib.Core.Path.{ap, subst, _∙_}
+use mathlib.Core.Path.{subst, _∙_}
 use mathlib.Core.Logic.{inl, inr, ⊎-elim}
 use denote.Ref.{now}
 use Rattle.model.specs.Modes.{plain}
-use Rattle.sheet.specs.Layout.{formalsAt, variablesAt, instructionAt}
-use Rattle.form.proofs.WellFormed.{form-short}
 use Rattle.frames.specs.Frames.{Copies}
-use Rattle.frames.proofs.Table.{few-procedures, table-at, record-there, formals-within}
+use Rattle.frames.proofs.Called.{few-procedures, formals-within, word-is, first-is}
 use Rattle.frames.proofs.Calling.{Picked, picked-fits, call-without-room, call-of-blank, call-goes}
 use native.Mathlib.Omega.{arith}
 use borrow.Author.Needs.{needs}
 use Rattle.frames.proofs.call.Statement.{statement}
 use Rattle.frames.proofs.call.Tie as tie
 
-mul-header-at : tie.Need-mul-header-at
-mul-header-at c = search needs
+procedure-word-requires : tie.Need-procedure-word-requires
+procedure-word-requires c κs = search needs
 
-element-copy-out-header-at : tie.Need-element-copy-out-header-at
-element-copy-out-header-at c =
-    let args = c .before .before .args in
-    let pre = c .before .before .pre in
-    omega (arith, few-procedures (args .s .now) (args .table .now) (pre .0) (args .k) (pre .1 .1 .procedure))
+formals-in-requires : tie.Need-formals-in-requires
+formals-in-requires c κs = search needs
 
-header-at-requires : tie.Need-header-at-requires
-header-at-requires c κs =
-    let args = c .before .before .before .args in
-    let pre = c .before .before .before .pre in
-    record-there (args .s .now) (args .table .now) (pre .0) (args .k) (pre .1 .1 .procedure)
+variables-in-requires : tie.Need-variables-in-requires
+variables-in-requires c κs = search needs
 
 cast-v : tie.Need-cast-v
 cast-v c = search needs
@@ -42,11 +34,14 @@ returns : tie.Need-returns
 returns c =
     let args = c .before .before .before .before .before .before .before .args in
     let pre = c .before .before .before .before .before .before .before .pre in
-    let header-at = c .before .before .before .header-at in
-    let s = args .s .now in
-    let at = table-at s (args .table .now) (pre .0) (args .k) (pre .1 .1 .procedure) in
-    call-without-room s (now (args .memory)) (args .r) (args .b) (args .k) _ _
-    (header-at .ensures .1 ∙ ap (variablesAt s) at) (header-at .ensures .0 ∙ ap (formalsAt s) at) (c .if1 .taken)
+    let procedure-word = c .before .before .before .before .procedure-word in
+    let variables-in = c .before .before .variables-in in
+    let formals-in = c .before .before .before .formals-in in
+    let if1 = c .if1 in
+    let s = now (args .s) in
+    let P = word-is s (now (args .index)) (pre .0) (args .k) (pre .1 .1 .procedure) (procedure-word .ensures) in
+    call-without-room s (now (args .memory)) (args .r) (args .a) (args .b) (args .k) _ _
+    (variables-in .ensures ∙ P .variables) (formals-in .ensures ∙ P .formals) (if1 .taken)
 
 add-copy-filled : tie.Need-add-copy-filled
 add-copy-filled c = search needs
@@ -64,61 +59,73 @@ copy-filled-requires : tie.Need-copy-filled-requires
 copy-filled-requires c κs =
     let args = c .before .before .before .before .before .before .before .before .before .before .args in
     let pre = c .before .before .before .before .before .before .before .before .before .before .pre in
-    let header-at = c .before .before .before .before .before .before .header-at in
-    let if1 = c .before .before .before .if1 in
+    let procedure-word = c .before .before .before .before .before .before .before .procedure-word in
+    let formals-in = c .before .before .before .before .before .before .formals-in in
+    let variables-in = c .before .before .before .before .before .variables-in in
     let if2 = c .before .before .if2 in
-    let s = args .s .now in
-    let at = table-at s (args .table .now) (pre .0) (args .k) (pre .1 .1 .procedure) in
-    let formals = header-at .ensures .0 ∙ ap (formalsAt s) at in
-    let few : header-at .result .formals ≤ header-at .result .variables =
-    rw (header-at .ensures .0, header-at .ensures .1) (formals-within s (args .table .now) (pre .0) (args .k) (pre .1 .1 .procedure)) in
-    let fits =
-    picked-fits (args .b) _ (if2 .from) (args .r .variables) (⊎-elim (λ w. inl (w .0 .taken, w .1)) (λ w. inr (w .0 .left, w .1)) (if2 .came))
-    (λ j h. pre .1 .1 .actuals j (subst (λ n. j < n) formals h)) in
+    let if1 = c .before .before .before .if1 in
+    let s = now (args .s) in
+    let C = pre .1 .1 in
+    let P = word-is s (now (args .index)) (pre .0) (args .k) (C .procedure) (procedure-word .ensures) in
+    let formals = formals-in .ensures ∙ P .formals in
+    let few : formals-in .result ≤ variables-in .result =
+    rw (formals, variables-in .ensures ∙ P .variables) (formals-within s (now (args .index)) (pre .0) (args .k) (C .procedure)) in
+    let picked : Picked (args .b) (formals-in .result) (if2 .from) =
+    ⊎-elim (λ w. inl (w .0 .taken, w .1)) (λ w. inr (w .0 .left, w .1)) (if2 .came) in
+    let fits = picked-fits (args .b) _ (if2 .from) (args .r .variables) picked (λ j h. C .actuals j (subst (λ n. j < n) formals h)) in
+    let room = if1 .left in
     let frame-fits = pre .1 .0 .frame in
     (omega arith, omega arith)
 
+first-in-requires : tie.Need-first-in-requires
+first-in-requires c κs = search needs
+
 open-requires : tie.Need-open-requires
 open-requires c κs =
-    let args = c .before .before .before .before .before .before .before .before .before .before .before .before .before .before .before .args in
-    let pre = c .before .before .before .before .before .before .before .before .before .before .before .before .before .before .before .pre in
-    let header-at = c .before .before .before .before .before .before .before .before .before .before .before .header-at in
-    let if1 = c .before .before .before .before .before .before .before .before .if1 in
-    let copy-filled = c .before .before .before .before .copy-filled in
-    let s = args .s .now in
-    let few : header-at .result .formals ≤ header-at .result .variables =
-    rw (header-at .ensures .0, header-at .ensures .1) (formals-within s (args .table .now) (pre .0) (args .k) (pre .1 .1 .procedure)) in
+    let args = c .before .before .before .before .before .before .before .before .before .before .before .before .before .before .before .before .args in
+    let pre = c .before .before .before .before .before .before .before .before .before .before .before .before .before .before .before .before .pre in
+    let procedure-word = c .before .before .before .before .before .before .before .before .before .before .before .before .before .procedure-word in
+    let formals-in = c .before .before .before .before .before .before .before .before .before .before .before .before .formals-in in
+    let variables-in = c .before .before .before .before .before .before .before .before .before .before .before .variables-in in
+    let copy-filled = c .before .before .before .before .before .copy-filled in
+    let if1 = c .before .before .before .before .before .before .before .before .before .if1 in
+    let s = now (args .s) in
     let C = pre .1 .1 in
-    let short = form-short s (pre .0 .formed) in
-    let first = C .first in
-    (rw (copy-filled .kept .0) (pre .1 .0), ((C .next, omega arith), (if1 .left, few)))
+    let P = word-is s (now (args .index)) (pre .0) (args .k) (C .procedure) (procedure-word .ensures) in
+    let few : formals-in .result ≤ variables-in .result =
+    rw (formals-in .ensures ∙ P .formals, variables-in .ensures ∙ P .variables) (formals-within s (now (args .index)) (pre .0) (args .k) (C .procedure)) in
+    (rw (copy-filled .kept .0) (pre .1 .0), ((C .next, C .first), ((omega arith, if1 .left), few)))
 
 same-length : tie.Need-same-length
 same-length c = search needs
 
 returns-2 : tie.Need-returns-2
 returns-2 c =
-    let args = c .before .before .before .before .before .before .before .before .before .before .before .before .before .before .before .before .before .before .args in
-    let pre = c .before .before .before .before .before .before .before .before .before .before .before .before .before .before .before .before .before .before .pre in
-    let header-at = c .before .before .before .before .before .before .before .before .before .before .before .before .before .before .header-at in
-    let if1 = c .before .before .before .before .before .before .before .before .before .before .before .if1 in
-    let if2 = c .before .before .before .before .before .before .before .before .before .before .if2 in
-    let copy-filled = c .before .before .before .before .before .before .before .copy-filled in
-    let if3 = c .before .before .before .before .if3 in
+    let args = c .before .before .before .before .before .before .before .before .before .before .before .before .before .before .before .before .before .before .before .args in
+    let pre = c .before .before .before .before .before .before .before .before .before .before .before .before .before .before .before .before .before .before .before .pre in
+    let procedure-word = c .before .before .before .before .before .before .before .before .before .before .before .before .before .before .before .before .procedure-word in
+    let formals-in = c .before .before .before .before .before .before .before .before .before .before .before .before .before .before .before .formals-in in
+    let variables-in = c .before .before .before .before .before .before .before .before .before .before .before .before .before .before .variables-in in
+    let if2 = c .before .before .before .before .before .before .before .before .before .before .before .if2 in
+    let if1 = c .before .before .before .before .before .before .before .before .before .before .before .before .if1 in
+    let if3 = c .before .before .before .before .before .if3 in
+    let copy-filled = c .before .before .before .before .before .before .before .before .copy-filled in
     let opened-by = c .before .before .«open» in
-    let s = args .s .now in
+    let first-in = c .before .before .before .first-in in
+    let s = now (args .s) in
     let C = pre .1 .1 in
-    let at = table-at s (args .table .now) (pre .0) (args .k) (C .procedure) in
-    let formals = header-at .ensures .0 ∙ ap (formalsAt s) at in
-    let few : header-at .result .formals ≤ header-at .result .variables =
-    rw (header-at .ensures .0, header-at .ensures .1) (formals-within s (args .table .now) (pre .0) (args .k) (C .procedure)) in
-    let picked : Picked (args .b) (header-at .result .formals) (if2 .from) =
+    let P = word-is s (now (args .index)) (pre .0) (args .k) (C .procedure) (procedure-word .ensures) in
+    let formals = formals-in .ensures ∙ P .formals in
+    let few : formals-in .result ≤ variables-in .result =
+    rw (formals, variables-in .ensures ∙ P .variables) (formals-within s (now (args .index)) (pre .0) (args .k) (C .procedure)) in
+    let picked : Picked (args .b) (formals-in .result) (if2 .from) =
     ⊎-elim (λ w. inl (w .0 .taken, w .1)) (λ w. inr (w .0 .left, w .1)) (if2 .came) in
-    call-goes s (now (args .memory)) (args .r) (args .b) (args .k) _ _
-    (header-at .ensures .1 ∙ ap (variablesAt s) at) formals (if1 .left) few (if2 .from) picked
+    call-goes s (now (args .memory)) (args .r) (args .a) (args .b) (args .k) _ _
+    (variables-in .ensures ∙ P .variables) formals (if1 .left) few (if2 .from) picked
     (picked-fits (args .b) _ (if2 .from) (args .r .variables) picked (λ j h. C .actuals j (subst (λ n. j < n) formals h))) _
     (subst (Copies _ _ _ _ _) (if3 .taken) (copy-filled .ensures)) _ _ _ (opened-by .ensures plain)
-    (C .procedure) (few-procedures s (args .table .now) (pre .0) (args .k) (C .procedure)) (header-at .ensures .2 ∙ ap (λ x. instructionAt s x 0) at)
+    (C .here) (C .procedure) (few-procedures s (now (args .index)) (pre .0) (args .k) (C .procedure))
+    (first-in .ensures ∙ first-is s (now (args .index)) (pre .0) (args .k) (C .procedure) (procedure-word .ensures))
 
 same-length-2 : tie.Need-same-length-2
 same-length-2 c = search needs
@@ -127,21 +134,23 @@ returns-3 : tie.Need-returns-3
 returns-3 c =
     let args = c .before .before .before .before .before .before .before .before .before .before .before .before .before .before .args in
     let pre = c .before .before .before .before .before .before .before .before .before .before .before .before .before .before .pre in
-    let header-at = c .before .before .before .before .before .before .before .before .before .before .header-at in
-    let if1 = c .before .before .before .before .before .before .before .if1 in
+    let procedure-word = c .before .before .before .before .before .before .before .before .before .before .before .procedure-word in
+    let formals-in = c .before .before .before .before .before .before .before .before .before .before .formals-in in
+    let variables-in = c .before .before .before .before .before .before .before .before .before .variables-in in
     let if2 = c .before .before .before .before .before .before .if2 in
-    let copy-filled = c .before .before .before .copy-filled in
+    let if1 = c .before .before .before .before .before .before .before .if1 in
     let if3 = c .if3 in
-    let s = args .s .now in
+    let copy-filled = c .before .before .before .copy-filled in
+    let s = now (args .s) in
     let C = pre .1 .1 in
-    let at = table-at s (args .table .now) (pre .0) (args .k) (C .procedure) in
-    let formals = header-at .ensures .0 ∙ ap (formalsAt s) at in
-    let few : header-at .result .formals ≤ header-at .result .variables =
-    rw (header-at .ensures .0, header-at .ensures .1) (formals-within s (args .table .now) (pre .0) (args .k) (C .procedure)) in
-    let picked : Picked (args .b) (header-at .result .formals) (if2 .from) =
+    let P = word-is s (now (args .index)) (pre .0) (args .k) (C .procedure) (procedure-word .ensures) in
+    let formals = formals-in .ensures ∙ P .formals in
+    let few : formals-in .result ≤ variables-in .result =
+    rw (formals, variables-in .ensures ∙ P .variables) (formals-within s (now (args .index)) (pre .0) (args .k) (C .procedure)) in
+    let picked : Picked (args .b) (formals-in .result) (if2 .from) =
     ⊎-elim (λ w. inl (w .0 .taken, w .1)) (λ w. inr (w .0 .left, w .1)) (if2 .came) in
-    call-of-blank s (now (args .memory)) (args .r) (args .b) (args .k) _ _
-    (header-at .ensures .1 ∙ ap (variablesAt s) at) formals (if1 .left) few (if2 .from) picked
+    call-of-blank s (now (args .memory)) (args .r) (args .a) (args .b) (args .k) _ _
+    (variables-in .ensures ∙ P .variables) formals (if1 .left) few (if2 .from) picked
     (picked-fits (args .b) _ (if2 .from) (args .r .variables) picked (λ j h. C .actuals j (subst (λ n. j < n) formals h))) _
     (subst (Copies _ _ _ _ _) (if3 .left) (copy-filled .ensures))
 
@@ -149,9 +158,9 @@ pub call-spec : {M : Type 1} → statement M
 call-spec =
     tie.close
     (tie.spec
-    mul-header-at
-    element-copy-out-header-at
-    header-at-requires
+    procedure-word-requires
+    formals-in-requires
+    variables-in-requires
     cast-v
     sub-if1
     add-if1
@@ -161,6 +170,7 @@ call-spec =
     sub-copy-filled
     cast-copy-filled
     copy-filled-requires
+    first-in-requires
     open-requires
     same-length
     returns-2

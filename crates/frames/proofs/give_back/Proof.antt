@@ -29,10 +29,11 @@ same-length c = search needs
 
 returns : tie.Need-returns
 returns c =
-    let args = c .before .before .before .before .before .before .before .args in
+    let if1 = c .if1 in
+    let args = c .before .before .before .before .before .before .args in
     let read = c .before .read in
-    let told = blank-told _ _ (c .if1 .taken) in
-    gives-blank (args .s .now) (now (args .memory)) (args .r) (args .a) _ (read .ensures) (told .0) (told .1)
+    let told = blank-told _ _ (if1 .taken) in
+    λ s. gives-blank s (now (args .memory)) (args .r) (args .a) _ (read .ensures) (told .0) (told .1)
 
 add-if2 : tie.Need-add-if2
 add-if2 c = search needs
@@ -45,16 +46,17 @@ same-length-2 c = search needs
 
 returns-2 : tie.Need-returns-2
 returns-2 c =
-    let args = c .before .before .before .before .before .before .before .before .before .args in
+    let args = c .before .before .before .before .before .before .before .before .args in
     let read = c .before .before .before .read in
+    let if1 = c .before .before .if1 in
     let if2 = c .if2 in
-    gives-over (args .s .now) (now (args .memory)) (args .r) (args .a) _ (read .ensures) (value-told _ _ (c .before .before .if1 .left)) (if2 .taken)
+    λ s. gives-over s (now (args .memory)) (args .r) (args .a) _ (read .ensures) (value-told _ _ (if1 .left)) (if2 .taken)
 
 waiting-requires : tie.Need-waiting-requires
 waiting-requires c κs = search needs
 
-kept-at-requires : tie.Need-kept-at-requires
-kept-at-requires c κs = search needs
+kept-in-requires : tie.Need-kept-in-requires
+kept-in-requires c κs = search needs
 
 same-length-3 : tie.Need-same-length-3
 same-length-3 c = search needs
@@ -62,15 +64,14 @@ same-length-3 c = search needs
 returns-3 : tie.Need-returns-3
 returns-3 c =
     let args = c .before .before .before .before .before .before .before .before .before .before .before .before .before .args in
-    let pre = c .before .before .before .before .before .before .before .before .before .before .before .before .before .pre in
-    let read = c .before .before .before .before .before .before .before .read in
-    let if1 = c .before .before .before .before .before .before .if1 in
-    let if2 = c .before .before .before .before .if2 in
-    let waiting = c .before .before .waiting in
-    let kept-at = c .before .kept-at in
+    let read = c .before .before .before .before .before .before .before .before .read in
+    let if1 = c .before .before .before .before .before .before .before .if1 in
+    let if2 = c .before .before .before .before .before .if2 in
+    let waiting = c .before .before .before .waiting in
+    let kept-in = c .before .kept-in in
     let if3 = c .if3 in
-    gives-dropped (args .s .now) (now (args .memory)) (args .r) (args .a) _ (read .ensures) (value-told _ _ (if1 .left)) _ _ (if2 .left)
-    (waiting .ensures .0 plain (args .s .now) (pre .0)) (kept-at .ensures) (if3 .taken)
+    λ s. gives-dropped s (now (args .memory)) (args .r) (args .a) _ (read .ensures) (value-told _ _ (if1 .left)) _ _ (if2 .left)
+    (waiting .ensures .0 plain) (kept-in .ensures plain) (if3 .taken)
 
 keep-requires : tie.Need-keep-requires
 keep-requires c κs = search needs
@@ -81,16 +82,15 @@ same-length-4 c = search needs
 returns-4 : tie.Need-returns-4
 returns-4 c =
     let args = c .before .before .before .before .before .before .before .before .before .before .before .before .before .before .before .before .before .args in
-    let pre = c .before .before .before .before .before .before .before .before .before .before .before .before .before .before .before .before .before .pre in
-    let read = c .before .before .before .before .before .before .before .before .before .before .before .read in
-    let if1 = c .before .before .before .before .before .before .before .before .before .before .if1 in
-    let if2 = c .before .before .before .before .before .before .before .before .if2 in
-    let waiting = c .before .before .before .before .before .before .waiting in
-    let kept-at = c .before .before .before .before .before .kept-at in
+    let read = c .before .before .before .before .before .before .before .before .before .before .before .before .read in
+    let if1 = c .before .before .before .before .before .before .before .before .before .before .before .if1 in
+    let if2 = c .before .before .before .before .before .before .before .before .before .if2 in
+    let waiting = c .before .before .before .before .before .before .before .waiting in
+    let kept-in = c .before .before .before .before .before .kept-in in
     let if3 = c .before .before .before .before .if3 in
     let keep = c .before .before .keep in
-    gives-kept (args .s .now) (now (args .memory)) (args .r) (args .a) _ (read .ensures) (value-told _ _ (if1 .left)) _ _ (if2 .left)
-    (waiting .ensures .0 plain (args .s .now) (pre .0)) (kept-at .ensures) (if3 .left) _ (keep .ensures plain)
+    λ s. gives-kept s (now (args .memory)) (args .r) (args .a) _ (read .ensures) (value-told _ _ (if1 .left)) _ _ (if2 .left)
+    (waiting .ensures .0 plain) (kept-in .ensures plain) (if3 .left) _ (keep .ensures plain)
 
 pub give-back-spec : {M : Type 1} → statement M
 give-back-spec =
@@ -109,7 +109,7 @@ give-back-spec =
     same-length-2
     returns-2
     waiting-requires
-    kept-at-requires
+    kept-in-requires
     same-length-3
     returns-3
     keep-requires

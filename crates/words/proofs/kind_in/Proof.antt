@@ -1,4 +1,4 @@
--- The eight bits from bit 17 of the payload on.
+-- The eight bits from bit 16 of the payload on.
 use native.Mathlib.Omega.{arith}
 use Rattle.words.specs.Word.{payload}
 use borrow.Author.Needs.{needs}

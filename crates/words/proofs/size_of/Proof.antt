@@ -1,4 +1,4 @@
--- The rest of the payload by 2^17 is the size.
+-- The rest of the payload by 2^16 is the size.
 use native.Mathlib.Omega.{arith}
 use Rattle.words.specs.Word.{payload}
 use borrow.Author.Needs.{needs}

@@ -1,18 +1,15 @@
--- The table has the running procedure's place, and so its owner's slots.
-use borrow.Author.Needs.{needs}
+-- The word of the running procedure has its owner, and so the slots.
 use denote.Ref.{now}
 use Rattle.plain_step.proofs.Laws.{performs-record}
+use borrow.Author.Needs.{needs}
 use Rattle.plain_step.proofs.arms.new_record.Statement.{statement}
 use Rattle.plain_step.proofs.arms.new_record.Tie as tie
 
-mul-slots-at : tie.Need-mul-slots-at
-mul-slots-at c = search needs
+procedure-word-requires : tie.Need-procedure-word-requires
+procedure-word-requires c κs = search needs
 
-element-copy-out-slots-at : tie.Need-element-copy-out-slots-at
-element-copy-out-slots-at c = search needs
-
-slots-at-requires : tie.Need-slots-at-requires
-slots-at-requires c κs = search needs
+slots-by-requires : tie.Need-slots-by-requires
+slots-by-requires c κs = search needs
 
 give-record-requires : tie.Need-give-record-requires
 give-record-requires c κs = search needs
@@ -23,18 +20,13 @@ same-length c = search needs
 returns : tie.Need-returns
 returns c =
     let args = c .before .before .before .before .before .before .before .before .args in
-    let pre = c .before .before .before .before .before .before .before .before .pre in
-    let slots-at = c .before .before .before .slots-at in
     let give-record = c .before .before .give-record in
-    λ input out. performs-record (now (args .s)) input (now (args .memory)) (give-record .last .0) out out (args .r) (give-record .result) (args .a) (now (args .table)) _ (pre .0) (pre .1 .0 .procedure) (slots-at .ensures) (λ d. give-record .ensures d out)
+    let pre = c .before .before .before .before .before .before .before .before .pre in
+    let procedure-word = c .before .before .before .before .before .procedure-word in
+    let slots-by = c .before .before .before .before .slots-by in
+    λ input out. performs-record (now (args .s)) input (now (args .memory)) (give-record .last .0) out out (args .r) (give-record .result) (args .a) (now (args .index)) _ _ (pre .0) (procedure-word .ensures) (slots-by .ensures) (λ d. give-record .ensures d out)
 
 pub new-record-spec : {M : Type 1} → statement M
 new-record-spec =
     tie.close
-    (tie.spec
-    mul-slots-at
-    element-copy-out-slots-at
-    slots-at-requires
-    give-record-requires
-    same-length
-    returns)
+    (tie.spec procedure-word-requires slots-by-requires give-record-requires same-length returns)

@@ -1,10 +1,9 @@
--- The cleared words are blank variables, and the places written after them say that no frame waits.
+-- The cleared words are blank variables, and the two blank words that end the frame which no other waits for.
 use Prim.Native.Nat.{ℕ, zero-le}
 use mathlib.Core.Path.{ap, _∙_}
-use Rattle.sheet.specs.Meaning.{qualOf}
 use Rattle.sheet.specs.Layout.{instructionAt}
 use Rattle.form.proofs.Laws.{placed}
-use Rattle.run_by_frames.proofs.Begin.{begins, second-there}
+use Rattle.run_by_frames.proofs.Begin.{begins}
 use borrow.Author.Needs.{needs}
 use Rattle.run_by_frames.proofs.run.open_main.Statement.{statement}
 use Rattle.run_by_frames.proofs.run.open_main.Tie as tie
@@ -30,31 +29,6 @@ part-clear-end c = search needs
 clear-requires : tie.Need-clear-requires
 clear-requires c κs = search needs
 
-place-word-requires : tie.Need-place-word-requires
-place-word-requires c κs = search needs
-
-add-memory : tie.Need-add-memory
-add-memory c = search needs
-
-mul-memory : tie.Need-mul-memory
-mul-memory c = search needs
-
-slice-write-memory : tie.Need-slice-write-memory
-slice-write-memory c = search needs
-
-add-memory-2 : tie.Need-add-memory-2
-add-memory-2 c = search needs
-
-add-memory-3 : tie.Need-add-memory-3
-add-memory-3 c = search needs
-
-mul-memory-2 : tie.Need-mul-memory-2
-mul-memory-2 c = search needs
-
-slice-write-memory-2 : tie.Need-slice-write-memory-2
-slice-write-memory-2 c =
-    second-there (c .before .before .before .before .before .before .before .args .memory .now) _ (c .before .before .before .before .before .before .before .args .v) _ (c .before .before .before .before .before .before .before .pre .1 .1 .0) (c .before .before .before .clear .ensures)
-
 element-copy-out-instruction-at : tie.Need-element-copy-out-instruction-at
 element-copy-out-instruction-at c = search needs
 
@@ -66,7 +40,13 @@ same-length c = search needs
 
 returns : tie.Need-returns
 returns c =
-    λ m input out. let a = c .before .before .before .before .before .before .before .before .before .pre in begins m (c .before .before .before .before .before .before .before .before .before .args .s .now) (c .before .before .before .before .before .before .before .before .before .args .memory .now) _ input out (c .before .before .before .before .before .before .before .before .before .args .v) _ _ (a .0 .formed) (a .1 .0) (a .1 .1 .0) (a .1 .1 .1) (c .instruction-at .ensures .0 ∙ ap (λ (at : ℕ). instructionAt (c .before .before .before .before .before .before .before .before .before .args .s .now) at 0) (placed (c .before .before .before .before .before .before .before .before .before .args .s .now) (c .before .before .before .before .before .before .before .before .before .args .table .now) (a .0 .places) 0 zero-le zero-le)) (c .before .before .before .before .before .clear .ensures) (c .before .before .place-word .ensures m (qualOf (c .before .before .before .before .before .before .before .before .before .args .s .now)))
+    let args = c .before .before .before .before .before .before .before .before .args in
+    let instruction-at = c .instruction-at in
+    let pre = c .before .before .before .before .before .before .before .before .pre in
+    let clear = c .before .before .before .before .clear in
+    let s = args .s .now in
+    let first = instruction-at .ensures .0 ∙ ap (λ (at : ℕ). instructionAt s at 0) (placed s (args .table .now) (pre .0 .places) 0 zero-le zero-le) in
+    (search needs, λ m input out. begins m s (args .memory .now) _ input out (args .v) _ (pre .0 .formed) (pre .1 .0 .0) (pre .1 .0 .1) (pre .1 .1 .0) (pre .1 .1 .1) first (clear .ensures))
 
 pub open-main-spec : {M : Type 1} → statement M
 open-main-spec =
@@ -79,14 +59,6 @@ open-main-spec =
     part-clear-start
     part-clear-end
     clear-requires
-    place-word-requires
-    add-memory
-    mul-memory
-    slice-write-memory
-    add-memory-2
-    add-memory-3
-    mul-memory-2
-    slice-write-memory-2
     element-copy-out-instruction-at
     instruction-at-requires
     same-length

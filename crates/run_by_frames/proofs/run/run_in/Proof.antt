@@ -1,4 +1,4 @@
--- Main's variables are counted where the table says that main stands; with room for its frame the run is that of its frames, and else there is none.
+-- Main's variables are counted where the table says that main stands; with room for its frame the run is that of its frames with all the fuel, and else there is none.
 use Prim.Native.Nat.{ℕ, _+_, _≤_, _<_, zero-le}
 use mathlib.Core.Path.{_≡_, refl, ap, _∙_}
 use native.Mathlib.Omega.{arith}
@@ -9,7 +9,8 @@ use Rattle.sheet.specs.Bytes.{byteAt}
 use Rattle.sheet.specs.Layout.{variablesAt, procedureAt}
 use Rattle.form.proofs.Laws.{placed, procedure-small}
 use Rattle.run_by_frames.specs.Reply.{ended}
-use Rattle.run_by_frames.proofs.Turn.{no-room, starts, begins-frame}
+use Rattle.run_by_frames.specs.Turn.{mode-of, Going}
+use Rattle.run_by_frames.proofs.Turn.{no-room, starts, begins-frame, begun, rested, stopped-run}
 use borrow.Author.Needs.{needs}
 use Rattle.run_by_frames.proofs.run.run_in.Statement.{statement}
 use Rattle.run_by_frames.proofs.run.run_in.Tie as tie
@@ -46,16 +47,31 @@ returns c =
 open-main-requires : tie.Need-open-main-requires
 open-main-requires c κs =
     let pre = c .before .before .before .before .before .before .before .before .pre in
-    (pre .0, (main-variables (c .before .before), (omega arith, pre .1 .0)))
+    (pre .0, ((main-variables (c .before .before), omega arith), (omega arith, pre .1 .0)))
 
-run-frames-requires : tie.Need-run-frames-requires
+-- where the run stands with main's frame open
+going : (c : tie.After-open-main)
+    → (let a = c .before .before .before .before .before .before .before .before .before .args in
+    Going (mode-of (a .watch)) (record { sheet = now (a .s); input = now (a .input); output = now (a .output) }) (length (c .open-main .last .1 .1 .0)) (a .fuel) (c .open-main .last .1 .1 .0) (now (a .output)) (c .open-main .result))
 unfolding opened
-run-frames-requires c κs =
-    let args = c .before .before .before .before .before .before .before .before .before .before .before .before .before .args in
-    let pre = c .before .before .before .before .before .before .before .before .before .before .before .before .before .pre in
-    let open-main = c .before .before .before .before .open-main in
-    let h : variablesAt (args .s .now) (procedureAt (args .s .now) 0) + 2 ≤ length (args .memory .now) = omega (arith, main-variables (c .before .before .before .before .before .before .before), c .before .before .before .before .before .before .if1 .left) in
-    (pre .0, begins-frame (starts _ _ _ _ _ (args .fuel) (pre .0 .formed) h (open-main .kept .1 .1 .0) (open-main .ensures _ _ _) (pre .1 .1)))
+going c =
+    let args = c .before .before .before .before .before .before .before .before .before .args in
+    let pre = c .before .before .before .before .before .before .before .before .before .pre in
+    let h : variablesAt (args .s .now) (procedureAt (args .s .now) 0) + 2 ≤ length (args .memory .now) = omega (arith, main-variables (c .before .before .before), c .before .before .if1 .left) in
+    begins-frame (starts _ _ _ _ _ (args .fuel) (pre .0 .formed) h (c .open-main .kept .1 .1 .0) (c .open-main .ensures .0) (c .open-main .ensures .1 _ _ _) (pre .1 .1))
+
+run-until-requires : tie.Need-run-until-requires
+run-until-requires c κs =
+    (c .before .before .before .before .before .before .before .before .before .before .before .before .before .pre .0, begun (going (c .before .before .before .before)))
+
+enum-known-r : tie.Need-enum-known-r
+enum-known-r c = search needs
+
+ended-requires : tie.Need-ended-requires
+ended-requires c κs = search needs
+
+enum-known-e : tie.Need-enum-known-e
+enum-known-e c = search needs
 
 same-length : tie.Need-same-length
 same-length c = search needs
@@ -65,9 +81,17 @@ same-length-2 c = search needs
 
 returns-2 : tie.Need-returns-2
 returns-2 c =
-    let open-main = c .before .before .before .before .before .before .before .before .before .open-main in
-    let run-frames = c .before .before .before .before .run-frames in
-    rw (open-main .kept .1 .1 .0) at (run-frames .ensures)
+    let is = c .before .before .r .given .1 in rw (c .ended .ensures, ← c .before .before .before .before .before .before .before .before .before .before .before .before .before .open-main .kept .1 .1 .0) (rested (going (c .before .before .before .before .before .before .before .before .before .before .before .before .before)) _ _ _ (c .before .before .before .before .before .before .before .before .run-until .ensures) _ is)
+
+same-length-3 : tie.Need-same-length-3
+same-length-3 c = search needs
+
+same-length-4 : tie.Need-same-length-4
+same-length-4 c = search needs
+
+returns-3 : tie.Need-returns-3
+returns-3 c =
+    rw (← c .before .before .before .before .before .before .before .before .before .before .before .before .open-main .kept .1 .1 .0) (stopped-run (going (c .before .before .before .before .before .before .before .before .before .before .before .before)) _ _ _ (c .before .before .before .before .before .before .before .run-until .ensures) _ (c .before .e .given .1))
 
 pub run-in-spec : {M : Type 1} → statement M
 run-in-spec =
@@ -80,7 +104,13 @@ run-in-spec =
     add-if1
     returns
     open-main-requires
-    run-frames-requires
+    run-until-requires
+    enum-known-r
+    ended-requires
+    enum-known-e
     same-length
     same-length-2
-    returns-2)
+    returns-2
+    same-length-3
+    same-length-4
+    returns-3)

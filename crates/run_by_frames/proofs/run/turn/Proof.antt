@@ -6,6 +6,9 @@ use Rattle.run_by_frames.proofs.run.turn.Tie as tie
 guarded-step-requires : tie.Need-guarded-step-requires
 guarded-step-requires c κs = search needs
 
+count-step-requires : tie.Need-count-step-requires
+count-step-requires c κs = search needs
+
 same-length : tie.Need-same-length
 same-length c = search needs
 
@@ -13,10 +16,11 @@ same-length-2 : tie.Need-same-length-2
 same-length-2 c = search needs
 
 returns : tie.Need-returns
-returns c = rw (c .before .before .before .before .before .before .before .if1 .taken) (c .before .before .before .before .guarded-step .ensures)
+returns c =
+    let did = c .before .before .before .before .before .guarded-step .ensures in rw (c .before .before .before .before .before .before .before .before .if1 .taken) (record { stepped = c .before .before .before .before .before .guarded-step .result; performs = did; counts = c .count-step .ensures })
 
-step-requires : tie.Need-step-requires
-step-requires c κs = search needs
+step-by-requires : tie.Need-step-by-requires
+step-by-requires c κs = search needs
 
 same-length-3 : tie.Need-same-length-3
 same-length-3 c = search needs
@@ -26,17 +30,18 @@ same-length-4 c = search needs
 
 returns-2 : tie.Need-returns-2
 returns-2 c =
-    rw (c .before .before .before .before .before .before .before .if1 .left) (c .before .before .before .before .step .ensures)
+    rw (c .before .before .before .before .before .before .before .if1 .left) (c .before .before .before .before .step-by .ensures)
 
 pub turn-spec : {M : Type 1} → statement M
 turn-spec =
     tie.close
     (tie.spec
     guarded-step-requires
+    count-step-requires
     same-length
     same-length-2
     returns
-    step-requires
+    step-by-requires
     same-length-3
     same-length-4
     returns-2)

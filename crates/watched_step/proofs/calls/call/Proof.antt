@@ -14,13 +14,13 @@ element-copy-out-call-at : tie.Need-element-copy-out-call-at
 element-copy-out-call-at c =
     let args = c .before .before .args in
     let pre = c .before .before .pre in
-    omega (arith, few-procedures (now (args .s)) (now (args .table)) (pre .0) (args .k) (pre .1 .1 .1))
+    omega (arith, few-procedures (now (args .s)) (now (args .table)) (pre .0) (args .k) (pre .1 .1 .procedure))
 
 call-at-requires : tie.Need-call-at-requires
 call-at-requires c κs =
     let pre = c .before .before .before .before .pre in
     let args = c .before .before .before .before .args in
-    (pre .1 .0, (pre .1 .1 .0, record { place = sym (table-at (now (args .s)) (now (args .table)) (pre .0) (args .k) (pre .1 .1 .1)); formals = formals-within (now (args .s)) (now (args .table)) (pre .0) (args .k) (pre .1 .1 .1); known = pre .1 .1 .1; small = few-procedures (now (args .s)) (now (args .table)) (pre .0) (args .k) (pre .1 .1 .1) }))
+    (pre .1 .0, (pre .1 .1, record { place = sym (table-at (now (args .s)) (now (args .table)) (pre .0) (args .k) (pre .1 .1 .procedure)); formals = formals-within (now (args .s)) (now (args .table)) (pre .0) (args .k) (pre .1 .1 .procedure); known = pre .1 .1 .procedure; small = few-procedures (now (args .s)) (now (args .table)) (pre .0) (args .k) (pre .1 .1 .procedure) }))
 
 same-length : tie.Need-same-length
 same-length c = search needs

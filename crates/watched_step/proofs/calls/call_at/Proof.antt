@@ -77,7 +77,7 @@ open-requires c κs =
     let if2 = c .before .before .before .before .before .before .before .before .before .before .if2 in
     let byte3 = c .before .before .before .before .before .before .before .before .before .byte3 in
     let bind-actuals = c .before .before .before .before .before .before .bind-actuals in
-    let few : byte3 .result ≤ byte2 .result = rw (byte3 .ensures, byte2 .ensures) (pre .1 .1 .formals) in (rw (bind-actuals .kept .1 .1 .0) (pre .0), (pre .1 .0, (if2 .left, few)))
+    let few : byte3 .result ≤ byte2 .result = rw (byte3 .ensures, byte2 .ensures) (pre .1 .1 .formals) in (rw (bind-actuals .kept .1 .1 .0) (pre .0), ((pre .1 .0 .next, pre .1 .0 .first), ((omega arith, if2 .left), few)))
 
 enum-known-n : tie.Need-enum-known-n
 enum-known-n c = search needs
@@ -99,7 +99,7 @@ returns-3 c =
     let enum-told = c .before .before .before .before .before .enum-told in
     let instruction-at = c .before .before .before .before .instruction-at in
     let opened-by = c .before .before .«open» in
-    call-goes (now (args .s)) (now (args .memory)) (args .r) (args .a) (args .b) (args .k) (args .pr) (pre .1 .1) (byte .ensures) (if1 .left) _ (byte2 .ensures) (if2 .left) _ (byte3 .ensures) (bind-actuals .last .1 .1 .0) (opened-by .last .0) (opened-by .result) (instruction-at .result) (subst (Binds _ _ _ _ _ _ _ _) (enum-told .given .1) (bind-actuals .ensures (args .k) (pre .1 .1 .place))) (instruction-at .ensures .0) (opened-by .ensures watched)
+    call-goes (now (args .s)) (now (args .memory)) (args .r) (args .a) (args .b) (args .k) (args .pr) (pre .1 .1) (byte .ensures) (if1 .left) _ (byte2 .ensures) (if2 .left) _ (byte3 .ensures) (bind-actuals .last .1 .1 .0) (opened-by .last .0) (opened-by .result) (instruction-at .result) (subst (Binds _ _ _ _ _ _ _ _) (enum-told .given .1) (bind-actuals .ensures (args .k) (pre .1 .1 .place))) (instruction-at .ensures .0) (opened-by .ensures watched) (pre .1 .0 .here)
 
 same-length-2 : tie.Need-same-length-2
 same-length-2 c = search needs

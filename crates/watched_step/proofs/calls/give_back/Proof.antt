@@ -1,7 +1,6 @@
 -- What is handed over decides how the frame that waits goes on.
 use borrow.Author.Needs.{needs}
 use denote.Ref.{now}
-use Rattle.form.proofs.WellFormed.{form-small}
 use Rattle.watched_step.proofs.Returning.{gives-nothing, gives-word, gives-halt}
 use Rattle.watched_step.proofs.calls.give_back.Statement.{statement}
 use Rattle.watched_step.proofs.calls.give_back.Tie as tie
@@ -13,10 +12,7 @@ enum-told : tie.Need-enum-told
 enum-told c = search needs
 
 resume-without-requires : tie.Need-resume-without-requires
-resume-without-requires c κs =
-    let args = c .before .before .before .before .before .before .before .args in
-    let pre = c .before .before .before .before .before .before .before .pre in
-    (form-small (now (args .s)) (pre .0 .formed) .3, pre .1 .0)
+resume-without-requires c κs = search needs
 
 enum-known-w : tie.Need-enum-known-w
 enum-known-w c = search needs
@@ -41,7 +37,7 @@ returns c =
     let handed-by = c .before .before .before .before .handed-by in
     let enum-told = c .before .before .enum-told in
     let resume-without = c .resume-without in
-    gives-nothing (now (args .s)) (now (args .memory)) (now (args .memory)) (args .r) (args .a) (args .pr) (pre .1 .1) (handed-by .result) (handed-by .ensures .1) (resume-without .result) (enum-told .given .1) (resume-without .ensures)
+    gives-nothing (now (args .s)) (now (args .memory)) (now (args .memory)) (args .r) (args .a) (args .pr) (pre .1 .1) (handed-by .result) (handed-by .ensures .1) (resume-without .result) (enum-told .given .1) (resume-without .ensures (now (args .s)))
 
 same-length-2 : tie.Need-same-length-2
 same-length-2 c = search needs

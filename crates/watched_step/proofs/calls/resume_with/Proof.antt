@@ -2,7 +2,6 @@
 use borrow.Author.Needs.{needs}
 use denote.Ref.{now}
 use Rattle.model.specs.Modes.{watched}
-use Rattle.form.proofs.WellFormed.{form-small}
 use Rattle.frames.proofs.Returning.{returns-over, returns-dropped}
 use Rattle.watched_step.proofs.Returning.{returns-kept, returns-refused}
 use Rattle.watched_step.proofs.calls.resume_with.Statement.{statement}
@@ -23,21 +22,20 @@ returns c =
 waiting-requires : tie.Need-waiting-requires
 waiting-requires c κs = search needs
 
-kept-at-requires : tie.Need-kept-at-requires
-kept-at-requires c κs = search needs
+kept-in-requires : tie.Need-kept-in-requires
+kept-in-requires c κs = search needs
 
 same-length : tie.Need-same-length
 same-length c = search needs
 
 returns-2 : tie.Need-returns-2
 returns-2 c =
-    let args = c .before .before .before .before .before .before .before .before .before .args in
-    let pre = c .before .before .before .before .before .before .before .before .before .pre in
-    let if1 = c .before .before .before .before .if1 in
-    let waiting = c .before .before .waiting in
-    let kept-at = c .before .kept-at in
+    let args = c .before .before .before .before .before .before .before .before .before .before .args in
+    let kept-in = c .before .kept-in in
+    let if1 = c .before .before .before .before .before .if1 in
+    let waiting = c .before .before .before .waiting in
     let if2 = c .if2 in
-    returns-dropped watched (now (args .s)) (now (args .memory)) (args .r) (waiting .result) (kept-at .result) (if1 .left) (waiting .ensures .0 watched (now (args .s)) (form-small (now (args .s)) (pre .0 .formed) .3)) (kept-at .ensures) (if2 .taken) _
+    returns-dropped watched (now (args .s)) (now (args .memory)) (args .r) (kept-in .result) (if1 .left) (kept-in .ensures watched) (waiting .result) (waiting .ensures .0 watched) (if2 .taken) _
 
 mul-bind-kept : tie.Need-mul-bind-kept
 mul-bind-kept c = search needs
@@ -62,31 +60,33 @@ same-length-2 c = search needs
 
 returns-3 : tie.Need-returns-3
 returns-3 c =
-    let args = c .before .before .before .before .before .before .before .before .before .before .before .before .before .before .before .before .before .before .before .args in
-    let pre = c .before .before .before .before .before .before .before .before .before .before .before .before .before .before .before .before .before .before .before .pre in
-    let if1 = c .before .before .before .before .before .before .before .before .before .before .before .before .before .before .if1 in
-    let waiting = c .before .before .before .before .before .before .before .before .before .before .before .before .waiting in
-    let kept-at = c .before .before .before .before .before .before .before .before .before .before .before .kept-at in
+    let args = c .before .before .before .before .before .before .before .before .before .before .before .before .before .before .before .before .before .before .before .before .args in
+    let kept-in = c .before .before .before .before .before .before .before .before .before .before .before .kept-in in
+    let if1 = c .before .before .before .before .before .before .before .before .before .before .before .before .before .before .before .if1 in
     let if2 = c .before .before .before .before .before .before .before .before .before .before .if2 in
+    let waiting = c .before .before .before .before .before .before .before .before .before .before .before .before .before .waiting in
+    let pre = c .before .before .before .before .before .before .before .before .before .before .before .before .before .before .before .before .before .before .before .before .pre in
     let bind-kept = c .before .before .before .before .before .before .before .bind-kept in
     let x = c .before .before .before .before .before .x in
     let keep = c .before .before .keep in
-    returns-kept (now (args .s)) (now (args .memory)) (args .r) (waiting .result) (kept-at .result) (if1 .left) (waiting .ensures .0 watched (now (args .s)) (form-small (now (args .s)) (pre .0 .formed) .3)) (kept-at .ensures) (if2 .left) (now (args .table)) (pre .0) (args .w) (pre .1 .1) (bind-kept .result) (bind-kept .ensures .1) (x .given .1) (bind-kept .ensures .0) (keep .last .0) (keep .ensures watched)
+    returns-kept (now (args .s)) (now (args .memory)) (args .r) (kept-in .result) (if1 .left) (kept-in .ensures watched) (if2 .left) (waiting .result) (waiting .ensures .0 watched)
+    (now (args .table)) (pre .0) (args .w) (pre .1 .1) (bind-kept .result) (bind-kept .ensures .1) (x .given .1) (bind-kept .ensures .0) (keep .last .0) (keep .ensures watched)
 
 same-length-3 : tie.Need-same-length-3
 same-length-3 c = search needs
 
 returns-4 : tie.Need-returns-4
 returns-4 c =
-    let args = c .before .before .before .before .before .before .before .before .before .before .before .before .before .before .before .args in
-    let pre = c .before .before .before .before .before .before .before .before .before .before .before .before .before .before .before .pre in
-    let if1 = c .before .before .before .before .before .before .before .before .before .before .if1 in
-    let waiting = c .before .before .before .before .before .before .before .before .waiting in
-    let kept-at = c .before .before .before .before .before .before .before .kept-at in
+    let args = c .before .before .before .before .before .before .before .before .before .before .before .before .before .before .before .before .args in
+    let kept-in = c .before .before .before .before .before .before .before .kept-in in
+    let if1 = c .before .before .before .before .before .before .before .before .before .before .before .if1 in
     let if2 = c .before .before .before .before .before .before .if2 in
+    let waiting = c .before .before .before .before .before .before .before .before .before .waiting in
+    let pre = c .before .before .before .before .before .before .before .before .before .before .before .before .before .before .before .before .pre in
     let bind-kept = c .before .before .before .bind-kept in
     let k = c .before .k in
-    returns-refused (now (args .s)) (now (args .memory)) (args .r) (waiting .result) (kept-at .result) (if1 .left) (waiting .ensures .0 watched (now (args .s)) (form-small (now (args .s)) (pre .0 .formed) .3)) (kept-at .ensures) (if2 .left) (now (args .table)) (pre .0) (args .w) (pre .1 .1) (bind-kept .result) (bind-kept .ensures .1) (k .given .1)
+    returns-refused (now (args .s)) (now (args .memory)) (args .r) (kept-in .result) (if1 .left) (kept-in .ensures watched) (if2 .left) (waiting .result) (waiting .ensures .0 watched)
+    (now (args .table)) (pre .0) (args .w) (pre .1 .1) (bind-kept .result) (bind-kept .ensures .1) (k .given .1)
 
 pub resume-with-spec : {M : Type 1} → statement M
 resume-with-spec =
@@ -96,7 +96,7 @@ resume-with-spec =
     add-if1-2
     returns
     waiting-requires
-    kept-at-requires
+    kept-in-requires
     same-length
     returns-2
     mul-bind-kept

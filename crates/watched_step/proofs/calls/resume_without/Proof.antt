@@ -1,10 +1,10 @@
 -- Main's return, a result that is dropped, and one that is kept and is not there.
-use borrow.Author.Needs.{needs}
 use mathlib.Core.Option.{none}
 use denote.Ref.{now}
 use Rattle.model.specs.Modes.{watched}
 use Rattle.frames.proofs.Returning.{returns-over, returns-dropped}
 use Rattle.watched_step.proofs.Returning.{returns-lacking}
+use borrow.Author.Needs.{needs}
 use Rattle.watched_step.proofs.calls.resume_without.Statement.{statement}
 use Rattle.watched_step.proofs.calls.resume_without.Tie as tie
 
@@ -16,37 +16,34 @@ add-if1-2 c = search needs
 
 returns : tie.Need-returns
 returns c =
-    let args = c .before .before .before .before .before .args in
+    let args = c .before .before .before .before .args in
     let if1 = c .if1 in
-    returns-over watched (now (args .s)) (now (args .memory)) (args .r) none (if1 .taken)
+    λ s. returns-over watched s (now (args .memory)) (args .r) none (if1 .taken)
+
+kept-in-requires : tie.Need-kept-in-requires
+kept-in-requires c κs = search needs
 
 waiting-requires : tie.Need-waiting-requires
 waiting-requires c κs = search needs
 
-kept-at-requires : tie.Need-kept-at-requires
-kept-at-requires c κs = search needs
-
 returns-2 : tie.Need-returns-2
 returns-2 c =
-    let args = c .before .before .before .before .before .before .before .before .args in
-    let pre = c .before .before .before .before .before .before .before .before .pre in
+    let args = c .before .before .before .before .before .before .before .args in
+    let kept-in = c .before .before .kept-in in
     let if1 = c .before .before .before .if1 in
-    let waiting = c .before .before .waiting in
-    let kept-at = c .before .kept-at in
-    let if2 = c .if2 in
-    returns-dropped watched (now (args .s)) (now (args .memory)) (args .r) (waiting .result) (kept-at .result) (if1 .left) (waiting .ensures .0 watched (now (args .s)) (pre .0)) (kept-at .ensures) (if2 .taken) none
+    let waiting = c .waiting in
+    let if2 = c .before .if2 in
+    λ s. returns-dropped watched s (now (args .memory)) (args .r) (kept-in .result) (if1 .left) (kept-in .ensures watched) (waiting .result) (waiting .ensures .0 watched) (if2 .taken) none
 
 returns-3 : tie.Need-returns-3
 returns-3 c =
-    let args = c .before .before .before .before .before .before .before .before .args in
-    let pre = c .before .before .before .before .before .before .before .before .pre in
-    let if1 = c .before .before .before .if1 in
-    let waiting = c .before .before .waiting in
-    let kept-at = c .before .kept-at in
+    let args = c .before .before .before .before .before .before .args in
+    let kept-in = c .before .kept-in in
+    let if1 = c .before .before .if1 in
     let if2 = c .if2 in
-    returns-lacking (now (args .s)) (now (args .memory)) (args .r) (waiting .result) (kept-at .result) (if1 .left) (waiting .ensures .0 watched (now (args .s)) (pre .0)) (kept-at .ensures) (if2 .left)
+    λ s. returns-lacking s (now (args .memory)) (args .r) (kept-in .result) (if1 .left) (kept-in .ensures watched) (if2 .left)
 
 pub resume-without-spec : {M : Type 1} → statement M
 resume-without-spec =
     tie.close
-    (tie.spec add-if1 add-if1-2 returns waiting-requires kept-at-requires returns-2 returns-3)
+    (tie.spec add-if1 add-if1-2 returns kept-in-requires waiting-requires returns-2 returns-3)

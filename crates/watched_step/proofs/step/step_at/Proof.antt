@@ -5,6 +5,7 @@ use mathlib.Core.Path.{sym, _∙_}
 use denote.Ref.{now}
 use Rattle.model.specs.Rules.{callee}
 use Rattle.form.proofs.WellFormed.{form-short}
+use Rattle.frames.specs.Frames.{Callable}
 use Rattle.watched_step.proofs.step.step_at.Statement.{statement}
 use Rattle.watched_step.proofs.step.step_at.Tie as tie
 
@@ -117,7 +118,19 @@ call-requires c κs =
     let args = c .before .before .before .before .before .before .before .before .before .before .before .args in
     let operation-whole = c .before .before .before .before .operation-whole in
     let operation16 = c .before .before .operation16 in
-    let whole = pre .1 .1 .0 .whole in let short = form-short (now (args .s)) (pre .0 .formed) in (pre .0, (pre .1 .0, ((pre .1 .1 .0 .next, omega arith), rw (sym (operation-whole .ensures) ∙ operation16 .given .1) at (pre .1 .1 .0 .callee-there))))
+    let F = pre .1 .1 .0 in
+    let whole = F .whole in
+    let short = form-short (now (args .s)) (pre .0 .formed) in
+    let e = sym (operation-whole .ensures) ∙ operation16 .given .1 in
+    let callable : Callable _ _ _ _ _ =
+    record {
+      here = e;
+      next = F .next;
+      first = omega arith;
+      procedure = rw e at (F .callee-there);
+      actuals = F .actuals _ _ _ e;
+    } in
+    (pre .0, (pre .1 .0, callable))
 
 enum-known-operation-17 : tie.Need-enum-known-operation-17
 enum-known-operation-17 c = search needs

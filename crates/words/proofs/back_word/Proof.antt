@@ -1,0 +1,42 @@
+-- The product is the word packed from tag 5, the instruction, the procedure and the kept variable.
+use Prim.Native.Nat.{_+_, _*_, _^_}
+use native.Mathlib.Omega.{arith}
+use mathlib.Core.Path.{_≡_}
+use Rattle.words.specs.Word.{pack}
+use Rattle.words.proofs.Laws.{back-packed}
+use borrow.Author.Needs.{needs}
+use Rattle.words.proofs.back_word.Statement.{statement}
+use Rattle.words.proofs.back_word.Tie as tie
+
+mul-result : tie.Need-mul-result
+mul-result c = search needs
+
+add-result : tie.Need-add-result
+add-result c = search needs
+
+mul-result-2 : tie.Need-mul-result-2
+mul-result-2 c = search needs
+
+add-result-2 : tie.Need-add-result-2
+add-result-2 c = search needs
+
+mul-result-3 : tie.Need-mul-result-3
+mul-result-3 c = search needs
+
+add-result-3 : tie.Need-add-result-3
+add-result-3 c = search needs
+
+mul-result-4 : tie.Need-mul-result-4
+mul-result-4 c = search needs
+
+returns : tie.Need-returns
+unfolding pack
+returns c m q =
+    let a = c .args in
+    let packed : (((a .next * 64 + a .procedure) * 256 + a .kept) * 8 + 5) * 4294967296 ≡ pack 5 ((a .next * 2 ^ 6 + a .procedure) * 2 ^ 8 + a .kept) 0 = omega arith in
+    rw packed (back-packed m q _ _ _ (c .pre .0) (omega arith))
+
+pub back-word-spec : {M : Type 1} → statement M
+back-word-spec =
+    tie.close
+    (tie.spec mul-result add-result mul-result-2 add-result-2 mul-result-3 add-result-3 mul-result-4 returns)

@@ -1,0 +1,30 @@
+-- The sum is the word packed from tag 6, the count of variables and the place.
+use Prim.Native.Nat.{_+_, _*_}
+use native.Mathlib.Omega.{arith}
+use mathlib.Core.Path.{_≡_}
+use Rattle.words.specs.Word.{pack}
+use Rattle.words.proofs.Laws.{extent-packed}
+use borrow.Author.Needs.{needs}
+use Rattle.words.proofs.extent_word.Statement.{statement}
+use Rattle.words.proofs.extent_word.Tie as tie
+
+mul-result : tie.Need-mul-result
+mul-result c = search needs
+
+add-result : tie.Need-add-result
+add-result c = search needs
+
+mul-result-2 : tie.Need-mul-result-2
+mul-result-2 c = search needs
+
+add-result-2 : tie.Need-add-result-2
+add-result-2 c = search needs
+
+returns : tie.Need-returns
+unfolding pack
+returns c m q =
+    let packed : (c .args .variables * 8 + 6) * 4294967296 + c .args .first ≡ pack 6 (c .args .variables) (c .args .first) = omega arith in
+    rw packed (extent-packed m q _ _ (omega arith) (omega arith))
+
+pub extent-word-spec : {M : Type 1} → statement M
+extent-word-spec = tie.close (tie.spec mul-result add-result mul-result-2 add-result-2 returns)
