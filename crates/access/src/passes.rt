@@ -11,6 +11,7 @@ use order::require;
 use sheet::bytes::byte;
 use sheet::bytes::word;
 use sheet::decode::instruction_in;
+use sheet::fields::field;
 use sheet::places::instruction_at;
 use sheet::places::qual_at;
 use sheet::places::variable_at;
@@ -103,7 +104,7 @@ fn variables_access(s: &[u8], index: &Index, p: usize, pr: u32) -> Verdict
     requires { ⌜ pr ≡ procedureAt (now s) p ⌝ }
     ensures { λ r. ⌜ r ≡ verdict (each (variablesAt (now (s .entry)) pr) (variable-rules (placeOf (now (s .entry))) (programOf (now (s .entry))) p)) ⌝ }
 {
-    let n = byte(s, pr as usize, 4);
+    let n = field(s, pr, 4);
     let mut x: u8 = 0;
     while x < n {
         let v = variable_access(s, index, p, pr, x);

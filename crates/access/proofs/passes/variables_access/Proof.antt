@@ -15,8 +15,8 @@ Inv-loop s index p pr n x₀ x = Passing (variable-rules (placeOf s) (programOf 
 abbrev μ-loop : tie.MeasureT-loop
 μ-loop s index p pr n x₀ x = n - x
 
-byte-requires : tie.Need-byte-requires Inv-loop μ-loop
-byte-requires c κs = search needs
+field-requires : tie.Need-field-requires Inv-loop μ-loop
+field-requires c κs = search needs
 
 loop-holds : tie.Need-loop-holds Inv-loop μ-loop
 loop-holds c = pass-start _ _
@@ -33,7 +33,7 @@ enum-told-2 c = search needs
 returns : tie.Need-returns Inv-loop μ-loop
 unfolding variablesAt
 returns c =
-    rw (← c .before .before .before .before .before .byte .ensures) (pass-stop _ _ _ (c .before .before .before .before .loop .inv) (c .before .before .before .loop-test .taken) _ _ _ (c .before .before .variable-access .ensures) (c .enum-told2 .given .1))
+    rw (← c .before .before .before .before .before .field .ensures) (pass-stop _ _ _ (c .before .before .before .before .loop .inv) (c .before .before .before .loop-test .taken) _ _ _ (c .before .before .variable-access .ensures) (c .enum-told2 .given .1))
 
 add-x : tie.Need-add-x Inv-loop μ-loop
 add-x c = omega arith
@@ -48,7 +48,7 @@ loop-again c =
 returns-2 : tie.Need-returns-2 Inv-loop μ-loop
 unfolding variablesAt
 returns-2 c =
-    rw (← c .before .before .byte .ensures) (pass-end _ _ _ (c .before .loop .inv) (c .loop-test .left))
+    rw (← c .before .before .field .ensures) (pass-end _ _ _ (c .before .loop .inv) (c .loop-test .left))
 
 pub variables-access-spec : {M : Type 1} → statement M
 variables-access-spec =
@@ -56,7 +56,7 @@ variables-access-spec =
     (tie.spec
     Inv-loop
     μ-loop
-    byte-requires
+    field-requires
     loop-holds
     variable-access-requires
     enum-told
