@@ -1,7 +1,7 @@
 -- What is read is what is planned, and its writer does it: an operation of the watched machine. Nothing here leaves room for a stuck definition.
 use Prim.Native.Nat.{ℕ, zero, suc, _-_, _<_}
 use native.Mathlib.Omega.{arith}
-use mathlib.Core.Path.{_≡_, refl, sym, ap, subst, _∙_}
+use mathlib.Core.Path.{_≡_, refl, sym, ap, _∙_}
 use mathlib.Core.Bool.{Bool, true, false, _||_}
 use mathlib.Core.List.{List, [], _∷_}
 use mathlib.Core.Option.{Option}
@@ -14,7 +14,7 @@ use Rattle.model.specs.Qualified.{Qual, rights, element, isInteger, isArray}
 use Rattle.model.specs.Outcome.{Stop, wrong-kind, input-ended, Res, ok, stop, stuck, found, _>>=_, _>>_}
 use Rattle.model.specs.Modes.{watched, array-kind, record-kind, bind, demand, amiss}
 use Rattle.model.specs.Machine as M
-use Rattle.model.specs.Machine.{Cell, filled, word, State, View, Effect, view, plan, apply, first-of, declared-as, give, gives, plan-array, plan-record, one-integer}
+use Rattle.model.specs.Machine.{Cell, filled, word, View, Effect, view, plan, first-of, declared-as, give, gives, plan-array, plan-record, one-integer}
 use Rattle.model.specs.Program.{Program}
 use Rattle.model.specs.declared.Operation.{Operation}
 use Rattle.model.specs.declared.Operation.the-variants as Op
@@ -23,43 +23,28 @@ use Rattle.sheet.specs.Meaning.{programOf, qualOf}
 use Rattle.words.specs.Answers.{halted, number-as, given}
 use Rattle.words.specs.declared.Number.{Number}
 use Rattle.words.specs.declared.Number.the-variants as N
+use Rattle.watched_plan.specs.Plans.{Plans}
 use Rattle.watched_plan.specs.Spots.{made, size-for}
 use Rattle.watched_plan.proofs.Laws.{gives-integer, gives-misfit}
 use Rattle.writers.specs.declared.Registers.{Registers}
 use Rattle.writers.specs.declared.Stepped.{Stepped}
-use Rattle.writers.specs.declared.Stepped.the-variants.{Halt}
-use Rattle.writers.specs.Memory.{Given, SeesIn, StandsFor}
-use Rattle.writers.specs.Steps.{After, Does, take-effect, array-effect, record-effect}
-use Rattle.writers.proofs.Effects.{halted-then, halted-after}
+use Rattle.writers.specs.Memory.{Given, frame-part, object-part, SeesIn}
+use Rattle.writers.specs.Steps.{Does, take-effect, array-effect, record-effect}
+use Rattle.writers.proofs.Effects.{halted-then}
 use Rattle.writers.proofs.Planned.{array-there, record-there}
 use Rattle.writers.proofs.View.{room-is, next-input-is}
-use Rattle.frames.specs.Performs.{performed, Performs}
-use Rattle.frames.proofs.Performs.{Running, runs, sees}
-use Rattle.watched_step.specs.Watched.{PlaceOf, Plans}
-
-pub at-place : (s : List ℕ) (r : Registers) (pr : ℕ) (v : View watched) → PlaceOf s r pr → Running s r v → procedureAt s (v .procedure) ≡ pr
-at-place s r pr v A R = rw (R .procedure) (A (rw (← R .procedure) (R .known)))
-
--- a stop that was planned
-pub stopped-as : (c : Given) (words out s : List ℕ) (r : Registers) (t : State watched) → StandsFor watched c words out r t
-    → (k : ℕ) (e : Res (Effect watched)) → e ≡ halted watched k → After watched c words out out r t (Halt k) (performed s t e)
-stopped-as c words out s r t S k e is = rw (is, halted-then watched k) (halted-after watched c words out r t S k)
+use Rattle.frames.specs.Performs.{Performs}
+use Rattle.frames.proofs.Performs.{runs, sees}
+use Rattle.watched_calls.specs.Calls.{PlaceOf}
+use Rattle.watched_calls.proofs.Laws.{at-place, performs-exactly}
 
 module _ (s input words words′ before out : List ℕ) (r : Registers) (o : Stepped) (op : Operation) (e : List ℕ → Res (Effect watched))
     (does : (c : Given) → c .sheet ≡ s → Does watched c words words′ before out r o (e (c .sheet))) where
-  pub performs-exactly :
-      ((c : Given) (t : State watched) → c .sheet ≡ s → c .input ≡ input → StandsFor watched c words before r t
-      → e s ≡ plan watched (programOf s) (view (length words) (length before) t) op)
-      → Performs watched s input words words′ before out r o op
-  performs-exactly planned c t q i S =
-      subst (λ (f : Res (Effect watched)). After watched c words′ before out r t o (f >>= λ x. ok (apply (programOf s) t x))) (planned c t q i S)
-      (subst (λ (z : List ℕ). After watched c words′ before out r t o (e z >>= λ x. ok (apply (programOf z) t x))) q (does c q t S))
-
   -- a plan that leans on the running procedure, the variables and the objects alone
   pub performs-seeing : (pr : ℕ) → PlaceOf s r pr
-      → Plans s pr words r op (e s) → Performs watched s input words words′ before out r o op
+      → Plans s pr (frame-part r words) (object-part r words) op (e s) → Performs watched s input words words′ before out r o op
   performs-seeing pr A planned =
-      performs-exactly
+      performs-exactly s input words words′ before out r o op e does
       (λ c t q i S.
       let v = view (length words) (length before) t in
       planned v (at-place s r pr v A (runs watched c s words before r t q S)) (sees watched c s words before r t q S))
@@ -70,7 +55,7 @@ module _ (s input words words′ before out : List ℕ) (r : Registers) (o : Ste
       → SeesIn watched (qualOf s) v words r → e s ≡ plan watched (programOf s) v op)
       → Performs watched s input words words′ before out r o op
   performs-roomy pr A planned =
-      performs-exactly
+      performs-exactly s input words words′ before out r o op e does
       (λ c t q i S.
       let v = view (length words) (length before) t in
       planned v (at-place s r pr v A (runs watched c s words before r t q S)) (room-is watched c words before r t S) (sees watched c s words before r t q S))
@@ -80,7 +65,7 @@ module _ (s input words words′ before out : List ℕ) (r : Registers) (o : Ste
       → ((v : View watched) → procedureAt s (v .procedure) ≡ pr → first-of (drop (r .taken) input) ≡ v .next-input → e s ≡ plan watched (programOf s) v op)
       → Performs watched s input words words′ before out r o op
   performs-taking pr A planned =
-      performs-exactly
+      performs-exactly s input words words′ before out r o op e does
       (λ c t q i S.
       let v = view (length words) (length before) t in
       planned v (at-place s r pr v A (runs watched c s words before r t q S))

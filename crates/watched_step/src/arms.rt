@@ -1,5 +1,7 @@
 // Each operation but call and return: what it asks for (crate watched_plan), done (crate writers). pr is the place of the running procedure's PR.
+use index::Index;
 use sheet::bytes::byte;
+use sheet::fields::field;
 use sheet::places::type_at;
 use watched_plan::add_guarded;
 use watched_plan::array_made_as;
@@ -38,82 +40,136 @@ ghost use Prim.Native.Nat.{ℕ, _-_, _<_};
 ghost use lib.ListN.{length};
 ghost use Rattle.model.specs.Modes.{watched};
 ghost use Rattle.model.specs.declared.Operation.the-variants as Op;
+ghost use Rattle.index.specs.Indexed.{Ready};
 ghost use Rattle.words.specs.declared.Number.the-variants.{Is};
-ghost use Rattle.writers.specs.Memory.{Sane};
+ghost use Rattle.watched_plan.specs.Plans.{PlansNumber, PlansMoved, PlansStored};
+ghost use Rattle.writers.specs.Memory.{Sane, frame-part, object-part};
 ghost use Rattle.frames.specs.Performs.{Performs, PerformsInside};
-ghost use Rattle.watched_step.specs.Watched.{PlaceOf, PlansNumber, PlansMoved, PlansStored, array-for, record-for, DoesInside};
+ghost use Rattle.watched_calls.specs.Calls.{PlaceOf};
+ghost use Rattle.watched_step.specs.Watched.{array-for, record-for, DoesInside};
 
 // What is read of the running frame's part of the memory and of the objects' part.
-fn bind_in(s: &[u8], pr: u32, memory: &[u64], r: Registers, a: u8, b: u8) -> Moved
+fn bind_in(s: &[u8], index: &Index, pr: u32, memory: &[u64], r: Registers, a: u8, b: u8) -> Moved
+    requires { ⌜ Ready (now s) (now index) ⌝ }
     requires { ⌜ Sane (length (now memory)) r ⌝ }
-    ensures { λ m. ⌜ PlansMoved (now (s .entry)) pr (now (memory .entry)) r (Op.Bind a b) a m ⌝ }
+    ensures { λ m. ⌜ PlansMoved (now (s .entry)) pr (frame-part r (now (memory .entry))) (object-part r (now (memory .entry))) (Op.Bind a b) a m ⌝ }
 {
     let base = r.base;
     let end = base + r.variables;
     let used = r.used;
-    bind_guarded(s, pr, &memory[base..end], &memory[..used], a, b)
+    bind_guarded(s, index, pr, &memory[base..end], &memory[..used], a, b)
 }
 
-fn fetch_in(s: &[u8], pr: u32, memory: &[u64], r: Registers, a: u8, b: u8, c: u8) -> Moved
+fn fetch_in(
+    s: &[u8],
+    index: &Index,
+    pr: u32,
+    memory: &[u64],
+    r: Registers,
+    a: u8,
+    b: u8,
+    c: u8,
+) -> Moved
+    requires { ⌜ Ready (now s) (now index) ⌝ }
     requires { ⌜ Sane (length (now memory)) r ⌝ }
-    ensures { λ m. ⌜ PlansMoved (now (s .entry)) pr (now (memory .entry)) r (Op.Fetch a b c) a m ⌝ }
+    ensures { λ m. ⌜ PlansMoved (now (s .entry)) pr (frame-part r (now (memory .entry))) (object-part r (now (memory .entry))) (Op.Fetch a b c) a m ⌝ }
 {
     let base = r.base;
     let end = base + r.variables;
     let used = r.used;
-    fetch_guarded(s, pr, &memory[base..end], &memory[..used], a, b, c)
+    fetch_guarded(s, index, pr, &memory[base..end], &memory[..used], a, b, c)
 }
 
-fn get_in(s: &[u8], pr: u32, memory: &[u64], r: Registers, a: u8, b: u8, k: u16) -> Moved
+fn get_in(
+    s: &[u8],
+    index: &Index,
+    pr: u32,
+    memory: &[u64],
+    r: Registers,
+    a: u8,
+    b: u8,
+    k: u16,
+) -> Moved
+    requires { ⌜ Ready (now s) (now index) ⌝ }
     requires { ⌜ Sane (length (now memory)) r ⌝ }
-    ensures { λ m. ⌜ PlansMoved (now (s .entry)) pr (now (memory .entry)) r (Op.GetSlot a b k) a m ⌝ }
+    ensures { λ m. ⌜ PlansMoved (now (s .entry)) pr (frame-part r (now (memory .entry))) (object-part r (now (memory .entry))) (Op.GetSlot a b k) a m ⌝ }
 {
     let base = r.base;
     let end = base + r.variables;
     let used = r.used;
-    get_guarded(s, pr, &memory[base..end], &memory[..used], a, b, k)
+    get_guarded(s, index, pr, &memory[base..end], &memory[..used], a, b, k)
 }
 
-fn size_in(s: &[u8], pr: u32, memory: &[u64], r: Registers, a: u8, b: u8) -> Number
+fn size_in(s: &[u8], index: &Index, pr: u32, memory: &[u64], r: Registers, a: u8, b: u8) -> Number
+    requires { ⌜ Ready (now s) (now index) ⌝ }
     requires { ⌜ Sane (length (now memory)) r ⌝ }
-    ensures { λ n. ⌜ PlansNumber (now (s .entry)) pr (now (memory .entry)) r (Op.Size a b) a n ⌝ }
+    ensures { λ n. ⌜ PlansNumber (now (s .entry)) pr (frame-part r (now (memory .entry))) (object-part r (now (memory .entry))) (Op.Size a b) a n ⌝ }
 {
     let base = r.base;
     let end = base + r.variables;
     let used = r.used;
-    size_guarded(s, pr, &memory[base..end], &memory[..used], a, b)
+    size_guarded(s, index, pr, &memory[base..end], &memory[..used], a, b)
 }
 
-fn store_in(s: &[u8], memory: &[u64], r: Registers, a: u8, b: u8, c: u8) -> Stored
+fn store_in(index: &Index, memory: &[u64], r: Registers, a: u8, b: u8, c: u8) -> Stored
     requires { ⌜ Sane (length (now memory)) r ⌝ }
-    ensures { λ m. ⌜ ((pr : ℕ) → PlansStored (now (s .entry)) pr (now (memory .entry)) r (Op.Store a b c) m) ⌝ }
+    ensures { λ m. ⌜ ((s : List ℕ) (pr : ℕ) → Ready s (now (index .entry)) → PlansStored s pr (frame-part r (now (memory .entry))) (object-part r (now (memory .entry))) (Op.Store a b c) m) ⌝ }
 {
     let base = r.base;
     let end = base + r.variables;
     let used = r.used;
-    store_guarded(s, &memory[base..end], &memory[..used], a, b, c)
+    store_guarded(index, &memory[base..end], &memory[..used], a, b, c)
 }
 
-fn set_in(s: &[u8], pr: u32, memory: &[u64], r: Registers, a: u8, b: u8, k: u16) -> Stored
+fn set_in(
+    s: &[u8],
+    index: &Index,
+    pr: u32,
+    memory: &[u64],
+    r: Registers,
+    a: u8,
+    b: u8,
+    k: u16,
+) -> Stored
+    requires { ⌜ Ready (now s) (now index) ⌝ }
     requires { ⌜ Sane (length (now memory)) r ⌝ }
-    ensures { λ m. ⌜ PlansStored (now (s .entry)) pr (now (memory .entry)) r (Op.SetSlot a b k) m ⌝ }
+    ensures { λ m. ⌜ PlansStored (now (s .entry)) pr (frame-part r (now (memory .entry))) (object-part r (now (memory .entry))) (Op.SetSlot a b k) m ⌝ }
 {
     let base = r.base;
     let end = base + r.variables;
     let used = r.used;
-    set_slot_guarded(s, pr, &memory[base..end], &memory[..used], a, b, k)
+    set_slot_guarded(s, index, pr, &memory[base..end], &memory[..used], a, b, k)
 }
 
-pub fn set(s: &[u8], pr: u32, memory: &mut [u64], r: Registers, a: u8, k: u16) -> Stepped
+pub fn set(
+    s: &[u8],
+    index: &Index,
+    pr: u32,
+    memory: &mut [u64],
+    r: Registers,
+    a: u8,
+    k: u16,
+) -> Stepped
+    requires { ⌜ Ready (now s) (now index) ⌝ }
     requires { ⌜ Sane (length (now memory)) r ⌝ }
     requires { ⌜ r .next < 1000 ⌝ }
     requires { ⌜ PlaceOf (now s) r pr ⌝ }
     ensures { λ o. ⌜ PerformsInside watched (now (s .entry)) (now (memory .entry)) (now (memory .exit)) r o (Op.Set a k) ⌝ }
 {
-    give_number(memory, r, a, set_guarded(s, pr, a, k))
+    give_number(memory, r, a, set_guarded(s, index, pr, a, k))
 }
 
-pub fn add(s: &[u8], pr: u32, memory: &mut [u64], r: Registers, a: u8, b: u8, c: u8) -> Stepped
+pub fn add(
+    s: &[u8],
+    index: &Index,
+    pr: u32,
+    memory: &mut [u64],
+    r: Registers,
+    a: u8,
+    b: u8,
+    c: u8,
+) -> Stepped
+    requires { ⌜ Ready (now s) (now index) ⌝ }
     requires { ⌜ Sane (length (now memory)) r ⌝ }
     requires { ⌜ r .next < 1000 ⌝ }
     requires { ⌜ PlaceOf (now s) r pr ⌝ }
@@ -121,11 +177,21 @@ pub fn add(s: &[u8], pr: u32, memory: &mut [u64], r: Registers, a: u8, b: u8, c:
 {
     let base = r.base;
     let end = base + r.variables;
-    let n = add_guarded(s, pr, &memory[base..end], a, b, c);
+    let n = add_guarded(s, index, pr, &memory[base..end], a, b, c);
     give_number(memory, r, a, n)
 }
 
-pub fn subtract(s: &[u8], pr: u32, memory: &mut [u64], r: Registers, a: u8, b: u8, c: u8) -> Stepped
+pub fn subtract(
+    s: &[u8],
+    index: &Index,
+    pr: u32,
+    memory: &mut [u64],
+    r: Registers,
+    a: u8,
+    b: u8,
+    c: u8,
+) -> Stepped
+    requires { ⌜ Ready (now s) (now index) ⌝ }
     requires { ⌜ Sane (length (now memory)) r ⌝ }
     requires { ⌜ r .next < 1000 ⌝ }
     requires { ⌜ PlaceOf (now s) r pr ⌝ }
@@ -133,11 +199,21 @@ pub fn subtract(s: &[u8], pr: u32, memory: &mut [u64], r: Registers, a: u8, b: u
 {
     let base = r.base;
     let end = base + r.variables;
-    let n = subtract_guarded(s, pr, &memory[base..end], a, b, c);
+    let n = subtract_guarded(s, index, pr, &memory[base..end], a, b, c);
     give_number(memory, r, a, n)
 }
 
-pub fn less(s: &[u8], pr: u32, memory: &mut [u64], r: Registers, a: u8, b: u8, c: u8) -> Stepped
+pub fn less(
+    s: &[u8],
+    index: &Index,
+    pr: u32,
+    memory: &mut [u64],
+    r: Registers,
+    a: u8,
+    b: u8,
+    c: u8,
+) -> Stepped
+    requires { ⌜ Ready (now s) (now index) ⌝ }
     requires { ⌜ Sane (length (now memory)) r ⌝ }
     requires { ⌜ r .next < 1000 ⌝ }
     requires { ⌜ PlaceOf (now s) r pr ⌝ }
@@ -145,42 +221,71 @@ pub fn less(s: &[u8], pr: u32, memory: &mut [u64], r: Registers, a: u8, b: u8, c
 {
     let base = r.base;
     let end = base + r.variables;
-    let n = less_guarded(s, pr, &memory[base..end], a, b, c);
+    let n = less_guarded(s, index, pr, &memory[base..end], a, b, c);
     give_number(memory, r, a, n)
 }
 
-pub fn bind(s: &[u8], pr: u32, memory: &mut [u64], r: Registers, a: u8, b: u8) -> Stepped
+pub fn bind(
+    s: &[u8],
+    index: &Index,
+    pr: u32,
+    memory: &mut [u64],
+    r: Registers,
+    a: u8,
+    b: u8,
+) -> Stepped
+    requires { ⌜ Ready (now s) (now index) ⌝ }
     requires { ⌜ Sane (length (now memory)) r ⌝ }
     requires { ⌜ r .next < 1000 ⌝ }
     requires { ⌜ PlaceOf (now s) r pr ⌝ }
     ensures { λ o. ⌜ PerformsInside watched (now (s .entry)) (now (memory .entry)) (now (memory .exit)) r o (Op.Bind a b) ⌝ }
 {
-    let m = bind_in(s, pr, memory, r, a, b);
+    let m = bind_in(s, index, pr, memory, r, a, b);
     give_moved(memory, r, a, m)
 }
 
-pub fn fetch(s: &[u8], pr: u32, memory: &mut [u64], r: Registers, a: u8, b: u8, c: u8) -> Stepped
+pub fn fetch(
+    s: &[u8],
+    index: &Index,
+    pr: u32,
+    memory: &mut [u64],
+    r: Registers,
+    a: u8,
+    b: u8,
+    c: u8,
+) -> Stepped
+    requires { ⌜ Ready (now s) (now index) ⌝ }
     requires { ⌜ Sane (length (now memory)) r ⌝ }
     requires { ⌜ r .next < 1000 ⌝ }
     requires { ⌜ PlaceOf (now s) r pr ⌝ }
     ensures { λ o. ⌜ PerformsInside watched (now (s .entry)) (now (memory .entry)) (now (memory .exit)) r o (Op.Fetch a b c) ⌝ }
 {
-    let m = fetch_in(s, pr, memory, r, a, b, c);
+    let m = fetch_in(s, index, pr, memory, r, a, b, c);
     give_moved(memory, r, a, m)
 }
 
-pub fn size(s: &[u8], pr: u32, memory: &mut [u64], r: Registers, a: u8, b: u8) -> Stepped
+pub fn size(
+    s: &[u8],
+    index: &Index,
+    pr: u32,
+    memory: &mut [u64],
+    r: Registers,
+    a: u8,
+    b: u8,
+) -> Stepped
+    requires { ⌜ Ready (now s) (now index) ⌝ }
     requires { ⌜ Sane (length (now memory)) r ⌝ }
     requires { ⌜ r .next < 1000 ⌝ }
     requires { ⌜ PlaceOf (now s) r pr ⌝ }
     ensures { λ o. ⌜ PerformsInside watched (now (s .entry)) (now (memory .entry)) (now (memory .exit)) r o (Op.Size a b) ⌝ }
 {
-    let n = size_in(s, pr, memory, r, a, b);
+    let n = size_in(s, index, pr, memory, r, a, b);
     give_number(memory, r, a, n)
 }
 
 pub fn get_slot(
     s: &[u8],
+    index: &Index,
     pr: u32,
     memory: &mut [u64],
     r: Registers,
@@ -188,26 +293,28 @@ pub fn get_slot(
     b: u8,
     k: u16,
 ) -> Stepped
+    requires { ⌜ Ready (now s) (now index) ⌝ }
     requires { ⌜ Sane (length (now memory)) r ⌝ }
     requires { ⌜ r .next < 1000 ⌝ }
     requires { ⌜ PlaceOf (now s) r pr ⌝ }
     ensures { λ o. ⌜ PerformsInside watched (now (s .entry)) (now (memory .entry)) (now (memory .exit)) r o (Op.GetSlot a b k) ⌝ }
 {
-    let m = get_in(s, pr, memory, r, a, b, k);
+    let m = get_in(s, index, pr, memory, r, a, b, k);
     give_moved(memory, r, a, m)
 }
 
-pub fn store(s: &[u8], memory: &mut [u64], r: Registers, a: u8, b: u8, c: u8) -> Stepped
+pub fn store(index: &Index, memory: &mut [u64], r: Registers, a: u8, b: u8, c: u8) -> Stepped
     requires { ⌜ Sane (length (now memory)) r ⌝ }
     requires { ⌜ r .next < 1000 ⌝ }
-    ensures { λ o. ⌜ PerformsInside watched (now (s .entry)) (now (memory .entry)) (now (memory .exit)) r o (Op.Store a b c) ⌝ }
+    ensures { λ o. ⌜ ((s : List ℕ) → Ready s (now (index .entry)) → PerformsInside watched s (now (memory .entry)) (now (memory .exit)) r o (Op.Store a b c)) ⌝ }
 {
-    let m = store_in(s, memory, r, a, b, c);
+    let m = store_in(index, memory, r, a, b, c);
     store_cell(memory, r, m)
 }
 
 pub fn set_slot(
     s: &[u8],
+    index: &Index,
     pr: u32,
     memory: &mut [u64],
     r: Registers,
@@ -215,12 +322,13 @@ pub fn set_slot(
     b: u8,
     k: u16,
 ) -> Stepped
+    requires { ⌜ Ready (now s) (now index) ⌝ }
     requires { ⌜ Sane (length (now memory)) r ⌝ }
     requires { ⌜ r .next < 1000 ⌝ }
     requires { ⌜ PlaceOf (now s) r pr ⌝ }
     ensures { λ o. ⌜ PerformsInside watched (now (s .entry)) (now (memory .entry)) (now (memory .exit)) r o (Op.SetSlot a b k) ⌝ }
 {
-    let m = set_in(s, pr, memory, r, a, b, k);
+    let m = set_in(s, index, pr, memory, r, a, b, k);
     store_cell(memory, r, m)
 }
 
@@ -245,20 +353,38 @@ pub fn put(memory: &[u64], output: &mut [u32], r: Registers, a: u8) -> Stepped
     put_output(output, r, n)
 }
 
-pub fn take(s: &[u8], pr: u32, input: &[u32], memory: &mut [u64], r: Registers, a: u8) -> Stepped
+pub fn take(
+    s: &[u8],
+    index: &Index,
+    pr: u32,
+    input: &[u32],
+    memory: &mut [u64],
+    r: Registers,
+    a: u8,
+) -> Stepped
+    requires { ⌜ Ready (now s) (now index) ⌝ }
     requires { ⌜ Sane (length (now memory)) r ⌝ }
     requires { ⌜ r .next < 1000 ⌝ }
     requires { ⌜ PlaceOf (now s) r pr ⌝ }
     ensures { λ o. ⌜ ((out : List ℕ) → Performs watched (now (s .entry)) (now (input .entry)) (now (memory .entry)) (now (memory .exit)) out out r o (Op.Take a)) ⌝ }
 {
-    if (input.len() <= r.taken) | takes_integer(s, pr, a) {
+    if (input.len() <= r.taken) | takes_integer(s, index, pr, a) {
         return take_input(input, memory, r, a);
     }
     Stepped::Halt(18)
 }
 
 // A new array of n cells, where there is room for it, bound to variable a.
-fn give_array(s: &[u8], pr: u32, memory: &mut [u64], r: Registers, a: u8, n: Number) -> Stepped
+fn give_array(
+    s: &[u8],
+    index: &Index,
+    pr: u32,
+    memory: &mut [u64],
+    r: Registers,
+    a: u8,
+    n: Number,
+) -> Stepped
+    requires { ⌜ Ready (now s) (now index) ⌝ }
     requires { ⌜ Sane (length (now memory)) r ⌝ }
     requires { ⌜ r .next < 1000 ⌝ }
     ensures { λ o. ⌜ DoesInside (now (s .entry)) (now (memory .entry)) (now (memory .exit)) r o (array-for (now (s .entry)) pr r a n) ⌝ }
@@ -266,7 +392,7 @@ fn give_array(s: &[u8], pr: u32, memory: &mut [u64], r: Registers, a: u8, n: Num
     match n {
         Number::Is(x) => {
             if (x as usize) < r.base - r.used {
-                return make_array(s, pr, memory, r, a, x);
+                return make_array(s, index, pr, memory, r, a, x);
             }
             Stepped::Halt(17)
         }
@@ -275,22 +401,40 @@ fn give_array(s: &[u8], pr: u32, memory: &mut [u64], r: Registers, a: u8, n: Num
 }
 
 // The same where there is room.
-fn make_array(s: &[u8], pr: u32, memory: &mut [u64], r: Registers, a: u8, n: u32) -> Stepped
+fn make_array(
+    s: &[u8],
+    index: &Index,
+    pr: u32,
+    memory: &mut [u64],
+    r: Registers,
+    a: u8,
+    n: u32,
+) -> Stepped
+    requires { ⌜ Ready (now s) (now index) ⌝ }
     requires { ⌜ Sane (length (now memory)) r ⌝ }
     requires { ⌜ r .next < 1000 ⌝ }
     requires { ⌜ n < r .base - r .used ⌝ }
     ensures { λ o. ⌜ DoesInside (now (s .entry)) (now (memory .entry)) (now (memory .exit)) r o (array-for (now (s .entry)) pr r a (Is n)) ⌝ }
 {
-    let stop = array_made_as(s, pr, a);
+    let stop = array_made_as(s, index, pr, a);
     if stop == 0 {
-        let head = array_word(n, declared_element(s, pr, a));
-        let name = object_word(r.used as u32, declared_rights(s, pr, a));
+        let head = array_word(n, declared_element(s, index, pr, a));
+        let name = object_word(r.used as u32, declared_rights(s, index, pr, a));
         return Stepped::Go(allot(memory, r, a, head, n, name));
     }
     Stepped::Halt(stop)
 }
 
-pub fn new_array(s: &[u8], pr: u32, memory: &mut [u64], r: Registers, a: u8, b: u8) -> Stepped
+pub fn new_array(
+    s: &[u8],
+    index: &Index,
+    pr: u32,
+    memory: &mut [u64],
+    r: Registers,
+    a: u8,
+    b: u8,
+) -> Stepped
+    requires { ⌜ Ready (now s) (now index) ⌝ }
     requires { ⌜ Sane (length (now memory)) r ⌝ }
     requires { ⌜ r .next < 1000 ⌝ }
     requires { ⌜ PlaceOf (now s) r pr ⌝ }
@@ -298,35 +442,52 @@ pub fn new_array(s: &[u8], pr: u32, memory: &mut [u64], r: Registers, a: u8, b: 
 {
     let base = r.base;
     let end = base + r.variables;
-    let n = sized(s, pr, &memory[base..end], a, b);
-    give_array(s, pr, memory, r, a, n)
+    let n = sized(s, index, pr, &memory[base..end], a, b);
+    give_array(s, index, pr, memory, r, a, n)
 }
 
 // A new record of the owner's type, of n slots, where there is room for it, bound to variable a.
-fn make_record(s: &[u8], pr: u32, memory: &mut [u64], r: Registers, a: u8, n: u32) -> Stepped
+fn make_record(
+    s: &[u8],
+    index: &Index,
+    pr: u32,
+    memory: &mut [u64],
+    r: Registers,
+    a: u8,
+    n: u32,
+) -> Stepped
+    requires { ⌜ Ready (now s) (now index) ⌝ }
     requires { ⌜ Sane (length (now memory)) r ⌝ }
     requires { ⌜ r .next < 1000 ⌝ }
     requires { ⌜ n < r .base - r .used ⌝ }
     ensures { λ o. ⌜ DoesInside (now (s .entry)) (now (memory .entry)) (now (memory .exit)) r o (record-for (now (s .entry)) pr r a n) ⌝ }
 {
-    let stop = record_made_as(s, pr, a);
+    let stop = record_made_as(s, index, pr, a);
     if stop == 0 {
-        let head = record_word(n, byte(s, pr as usize, 2));
-        let name = object_word(r.used as u32, declared_rights(s, pr, a));
+        let head = record_word(n, field(s, pr, 2));
+        let name = object_word(r.used as u32, declared_rights(s, index, pr, a));
         return Stepped::Go(allot(memory, r, a, head, n, name));
     }
     Stepped::Halt(stop)
 }
 
-pub fn new_record(s: &[u8], pr: u32, memory: &mut [u64], r: Registers, a: u8) -> Stepped
+pub fn new_record(
+    s: &[u8],
+    index: &Index,
+    pr: u32,
+    memory: &mut [u64],
+    r: Registers,
+    a: u8,
+) -> Stepped
+    requires { ⌜ Ready (now s) (now index) ⌝ }
     requires { ⌜ Sane (length (now memory)) r ⌝ }
     requires { ⌜ r .next < 1000 ⌝ }
     requires { ⌜ PlaceOf (now s) r pr ⌝ }
     ensures { λ o. ⌜ PerformsInside watched (now (s .entry)) (now (memory .entry)) (now (memory .exit)) r o (Op.NewRecord a) ⌝ }
 {
-    let n = byte(s, type_at(byte(s, pr as usize, 2)), 3) as u32;
+    let n = byte(s, type_at(field(s, pr, 2)), 3) as u32;
     if (n as usize) < r.base - r.used {
-        return make_record(s, pr, memory, r, a, n);
+        return make_record(s, index, pr, memory, r, a, n);
     }
     Stepped::Halt(17)
 }

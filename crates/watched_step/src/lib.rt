@@ -1,4 +1,3 @@
 // The watched machine: one instruction inside the lent memory.
 pub mod arms; // each operation but call and return: what it asks for, done
-pub mod calls; // call and return
 pub mod step; // one instruction

@@ -14,10 +14,12 @@ use crate::arms::size;
 use crate::arms::store;
 use crate::arms::subtract;
 use crate::arms::take;
-use crate::calls::call;
-use crate::calls::give_back;
+use index::Index;
+use index::procedures::place_of;
 use model::Operation;
 use sheet::fetch::operation_whole;
+use watched_calls::call;
+use watched_calls::give_back;
 use writers::Registers;
 use writers::Stepped;
 ghost use lib.ListN.{length};
@@ -25,61 +27,65 @@ ghost use Rattle.model.specs.Modes.{watched};
 ghost use Rattle.sheet.specs.Decode.{operationAt};
 ghost use Rattle.writers.specs.Memory.{Sane};
 ghost use Rattle.frames.specs.Performs.{Loaded, Performs};
-ghost use Rattle.frames.specs.Fetch.{Fetchable, place-in};
-ghost use Rattle.watched_step.specs.Watched.{PlaceOf};
+ghost use Rattle.frames.specs.Fetch.{Fetchable, CodeOf, place-in};
+ghost use Rattle.watched_calls.specs.Calls.{PlaceOf};
 
 // The same with the place of the running procedure's PR.
 fn step_at(
     s: &[u8],
-    table: &[u32; 65],
+    index: &Index,
+    code: &[u8],
     pr: u32,
     input: &[u32],
     memory: &mut [u64],
     output: &mut [u32],
     r: Registers,
 ) -> Stepped
-    requires { ⌜ Loaded (now s) (now table) ⌝ }
+    requires { ⌜ Loaded (now s) (now index) ⌝ }
     requires { ⌜ Sane (length (now memory)) r ⌝ }
     requires { ⌜ Fetchable (now s) r ⌝ }
+    requires { ⌜ CodeOf (now s) r (now code) ⌝ }
     requires { ⌜ PlaceOf (now s) r pr ⌝ }
     ensures { λ o. ⌜ Performs watched (now (s .entry)) (now (input .entry)) (now (memory .entry)) (now (memory .exit)) (now (output .entry)) (now (output .exit)) r o (operationAt (now (s .entry)) (place-in r)) ⌝ }
 {
-    let operation = operation_whole(s, r.first + 8 * r.next);
+    let operation = operation_whole(code, 8 * r.next);
     match operation {
-        Operation::Set(a, k) => set(s, pr, memory, r, a, k),
-        Operation::Add(a, b, c) => add(s, pr, memory, r, a, b, c),
-        Operation::Subtract(a, b, c) => subtract(s, pr, memory, r, a, b, c),
-        Operation::Less(a, b, c) => less(s, pr, memory, r, a, b, c),
+        Operation::Set(a, k) => set(s, index, pr, memory, r, a, k),
+        Operation::Add(a, b, c) => add(s, index, pr, memory, r, a, b, c),
+        Operation::Subtract(a, b, c) => subtract(s, index, pr, memory, r, a, b, c),
+        Operation::Less(a, b, c) => less(s, index, pr, memory, r, a, b, c),
         Operation::JumpZero(a, k) => jump_zero(memory, r, a, k),
-        Operation::Bind(a, b) => bind(s, pr, memory, r, a, b),
-        Operation::Take(a) => take(s, pr, input, memory, r, a),
+        Operation::Bind(a, b) => bind(s, index, pr, memory, r, a, b),
+        Operation::Take(a) => take(s, index, pr, input, memory, r, a),
         Operation::Put(a) => put(memory, output, r, a),
-        Operation::NewArray(a, b) => new_array(s, pr, memory, r, a, b),
-        Operation::Fetch(a, b, c) => fetch(s, pr, memory, r, a, b, c),
-        Operation::Store(a, b, c) => store(s, memory, r, a, b, c),
-        Operation::Size(a, b) => size(s, pr, memory, r, a, b),
-        Operation::NewRecord(a) => new_record(s, pr, memory, r, a),
-        Operation::GetSlot(a, b, k) => get_slot(s, pr, memory, r, a, b, k),
-        Operation::SetSlot(a, b, k) => set_slot(s, pr, memory, r, a, b, k),
-        Operation::Call(a, b, k) => call(s, table, memory, r, a, b, k),
-        Operation::Return(a) => give_back(s, table, pr, memory, r, a),
+        Operation::NewArray(a, b) => new_array(s, index, pr, memory, r, a, b),
+        Operation::Fetch(a, b, c) => fetch(s, index, pr, memory, r, a, b, c),
+        Operation::Store(a, b, c) => store(index, memory, r, a, b, c),
+        Operation::Size(a, b) => size(s, index, pr, memory, r, a, b),
+        Operation::NewRecord(a) => new_record(s, index, pr, memory, r, a),
+        Operation::GetSlot(a, b, k) => get_slot(s, index, pr, memory, r, a, b, k),
+        Operation::SetSlot(a, b, k) => set_slot(s, index, pr, memory, r, a, b, k),
+        Operation::Call(a, b, k) => call(s, index, memory, r, a, b, k),
+        Operation::Return(a) => give_back(s, index, pr, memory, r, a),
     }
 }
 
 // One instruction of the watched machine.
 pub fn guarded_step(
     s: &[u8],
-    table: &[u32; 65],
+    index: &Index,
+    code: &[u8],
     input: &[u32],
     memory: &mut [u64],
     output: &mut [u32],
     r: Registers,
 ) -> Stepped
-    requires { ⌜ Loaded (now s) (now table) ⌝ }
+    requires { ⌜ Loaded (now s) (now index) ⌝ }
     requires { ⌜ Sane (length (now memory)) r ⌝ }
     requires { ⌜ Fetchable (now s) r ⌝ }
+    requires { ⌜ CodeOf (now s) r (now code) ⌝ }
     ensures { λ o. ⌜ Performs watched (now (s .entry)) (now (input .entry)) (now (memory .entry)) (now (memory .exit)) (now (output .entry)) (now (output .exit)) r o (operationAt (now (s .entry)) (place-in r)) ⌝ }
 {
     let p = r.procedure;
-    step_at(s, table, table[p], input, memory, output, r)
+    step_at(s, index, code, place_of(index, p), input, memory, output, r)
 }

@@ -24,25 +24,21 @@ same-length c = search needs
 
 returns : tie.Need-returns
 returns c =
-    let n = c .before .before .before .before .before .before .before .n in
-    let make-array = c .before .before .make-array in
-    λ d out q. rw (n .given .1) (make-array .ensures d out q)
+    λ d out q. rw (c .before .before .before .before .before .before .before .n .given .1) (c .before .before .make-array .ensures d out q)
 
 enum-known-n-2 : tie.Need-enum-known-n-2
 enum-known-n-2 c = search needs
 
 returns-2 : tie.Need-returns-2
 returns-2 c =
+    let known = c .before .before .before .n in
+    let first-test = c .if1 in
     let args = c .before .before .before .before .before .before .before .args in
-    let n = c .before .before .before .n in
-    let if1 = c .if1 in
-    λ d out q. rw (n .given .1, array-full watched _ _ _ _ (if1 .left)) (does-stop watched d _ out (args .r) memory-full)
+    λ d out q. rw (known .given .1, array-full watched _ _ _ _ (first-test .left)) (does-stop watched d _ out (args .r) memory-full)
 
 returns-3 : tie.Need-returns-3
 returns-3 c =
-    let args = c .before .before .before .before .before .args in
-    let n2 = c .before .n2 in
-    λ d out q. rw (n2 .given .1, array-halt) (does-halt watched d _ out (args .r) _)
+    λ d out q. rw (c .before .n2 .given .1, array-halt) (does-halt watched d _ out (c .before .before .before .before .before .args .r) _)
 
 pub give-array-spec : {M : Type 1} → statement M
 give-array-spec =

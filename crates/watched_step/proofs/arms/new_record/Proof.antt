@@ -1,28 +1,28 @@
 -- The slots are those of the owner's type, and the free units are those of the view.
-use borrow.Author.Needs.{needs}
-use Rattle.model.specs.Modes.{watched}
-use denote.Ref.{now}
-use mathlib.Core.Path.{refl, sym, _∙_}
 use Prim.Native.Nat.{_-_}
+use mathlib.Core.Path.{refl, sym, _∙_}
+use borrow.Author.Needs.{needs}
+use denote.Ref.{now}
+use Rattle.model.specs.Modes.{watched}
 use Rattle.model.specs.Outcome.{memory-full, stop}
-use Rattle.writers.specs.declared.Stepped.the-variants.{Halt}
 use Rattle.sheet.specs.Meaning.{innerIn, programOf}
 use Rattle.sheet.specs.Layout.{ownerAt, namedOf, slotsOf}
-use Rattle.watched_step.specs.Watched.{record-for}
+use Rattle.writers.specs.declared.Stepped.the-variants.{Halt}
 use Rattle.writers.proofs.Planned.{record-full}
 use Rattle.writers.proofs.Effects.{does-stop}
+use Rattle.watched_step.specs.Watched.{record-for}
 use Rattle.watched_step.proofs.Laws.{records, performs-roomy}
 use Rattle.watched_step.proofs.arms.new_record.Statement.{statement}
 use Rattle.watched_step.proofs.arms.new_record.Tie as tie
 
-byte-requires : tie.Need-byte-requires
-byte-requires c κs = search needs
+field-requires : tie.Need-field-requires
+field-requires c κs = search needs
 
 type-at-requires : tie.Need-type-at-requires
 type-at-requires c κs = search needs
 
-byte-requires-2 : tie.Need-byte-requires-2
-byte-requires-2 c κs = search needs
+byte-requires : tie.Need-byte-requires
+byte-requires c κs = search needs
 
 cast-n : tie.Need-cast-n
 cast-n c = search needs
@@ -43,31 +43,31 @@ returns : tie.Need-returns
 unfolding ownerAt slotsOf
 returns c =
     let args = c .before .before .before .before .before .before .before .before .before .before .before .args in
-    let pre = c .before .before .before .before .before .before .before .before .before .before .before .pre in
-    let byte = c .before .before .before .before .before .before .before .before .byte in
-    let type-at = c .before .before .before .before .before .before .before .type-at in
-    let byte2 = c .before .before .before .before .before .before .byte2 in
     let make-record = c .before .before .make-record in
-    λ input out. performs-roomy (now (args .s)) input (now (args .memory)) (make-record .last .1 .1 .0) out out (args .r) (make-record .result) _ (λ z. record-for (now (args .s)) (args .pr) (args .r) (args .a) _) (λ d q. make-record .ensures d out q) (args .pr) (pre .1 .1) (λ v at free S. records (programOf (now (args .s))) v _ (rw at) free (rw at) refl (rw (byte2 .ensures, type-at .ensures, byte .ensures)))
+    let pre = c .before .before .before .before .before .before .before .before .before .before .before .pre in
+    let byte = c .before .before .before .before .before .before .byte in
+    let type-at = c .before .before .before .before .before .before .before .type-at in
+    let field = c .before .before .before .before .before .before .before .before .field in
+    λ input out. performs-roomy (now (args .s)) input (now (args .memory)) (make-record .last .1 .1 .1 .0) out out (args .r) (make-record .result) _ (λ z. record-for (now (args .s)) (args .pr) (args .r) (args .a) _) (λ d q. make-record .ensures d out q) (args .pr) (pre .1 .1 .1) (λ v at free S. records (programOf (now (args .s))) v _ (rw at) free (rw at) refl (rw (byte .ensures, type-at .ensures, field .ensures)))
 
 returns-2 : tie.Need-returns-2
 unfolding ownerAt slotsOf
 returns-2 c =
     let args = c .before .before .before .before .before .before .before .args in
     let pre = c .before .before .before .before .before .before .before .pre in
-    let byte = c .before .before .before .before .byte in
+    let first-test = c .if1 in
+    let byte = c .before .before .byte in
     let type-at = c .before .before .before .type-at in
-    let byte2 = c .before .before .byte2 in
-    let if1 = c .if1 in
-    λ input out. performs-roomy (now (args .s)) input (now (args .memory)) (now (args .memory)) out out (args .r) (Halt 17) _ (λ z. stop memory-full) (λ d q. does-stop watched d (now (args .memory)) out (args .r) memory-full) (args .pr) (pre .1 .1) (λ v at free S. sym (record-full watched (args .r .base - args .r .used) (args .a) (innerIn (now (args .s)) (args .pr) (args .a)) (ownerAt (now (args .s)) (args .pr)) (namedOf (now (args .s)) (ownerAt (now (args .s)) (args .pr))) _ (if1 .left)) ∙ records (programOf (now (args .s))) v _ (rw at) free (rw at) refl (rw (byte2 .ensures, type-at .ensures, byte .ensures)))
+    let field = c .before .before .before .before .field in
+    λ input out. performs-roomy (now (args .s)) input (now (args .memory)) (now (args .memory)) out out (args .r) (Halt 17) _ (λ z. stop memory-full) (λ d q. does-stop watched d (now (args .memory)) out (args .r) memory-full) (args .pr) (pre .1 .1 .1) (λ v at free S. sym (record-full watched (args .r .base - args .r .used) (args .a) (innerIn (now (args .s)) (args .pr) (args .a)) (ownerAt (now (args .s)) (args .pr)) (namedOf (now (args .s)) (ownerAt (now (args .s)) (args .pr))) _ (first-test .left)) ∙ records (programOf (now (args .s))) v _ (rw at) free (rw at) refl (rw (byte .ensures, type-at .ensures, field .ensures)))
 
 pub new-record-spec : {M : Type 1} → statement M
 new-record-spec =
     tie.close
     (tie.spec
-    byte-requires
+    field-requires
     type-at-requires
-    byte-requires-2
+    byte-requires
     cast-n
     cast-if1
     sub-if1

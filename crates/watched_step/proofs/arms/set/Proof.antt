@@ -1,7 +1,7 @@
 -- What is asked for is what is planned; the writer does it.
 use borrow.Author.Needs.{needs}
-use Rattle.model.specs.Modes.{watched}
 use denote.Ref.{now}
+use Rattle.model.specs.Modes.{watched}
 use Rattle.words.specs.Answers.{given}
 use Rattle.watched_step.proofs.Laws.{performs-seeing}
 use Rattle.watched_step.proofs.arms.set.Statement.{statement}
@@ -19,10 +19,10 @@ same-length c = search needs
 returns : tie.Need-returns
 returns c =
     let args = c .before .before .before .before .before .before .before .args in
-    let pre = c .before .before .before .before .before .before .before .pre in
-    let set-guarded = c .before .before .before .set-guarded in
     let give-number = c .before .before .give-number in
-    λ input out. performs-seeing (now (args .s)) input (now (args .memory)) (give-number .last .0) out out (args .r) (give-number .result) _ (λ z. given watched (args .a) (set-guarded .result)) (λ d q. give-number .ensures watched d out) (args .pr) (pre .1 .1) (λ v at S. set-guarded .ensures v at)
+    let set-guarded = c .before .before .before .set-guarded in
+    let pre = c .before .before .before .before .before .before .before .pre in
+    λ input out. performs-seeing (now (args .s)) input (now (args .memory)) (give-number .last .0) out out (args .r) (give-number .result) _ (λ z. given watched (args .a) (set-guarded .result)) (λ d q. give-number .ensures watched d out) (args .pr) (pre .1 .1 .1) (set-guarded .ensures _ _)
 
 pub set-spec : {M : Type 1} → statement M
 set-spec = tie.close (tie.spec set-guarded-requires give-number-requires same-length returns)

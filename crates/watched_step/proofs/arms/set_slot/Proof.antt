@@ -1,7 +1,7 @@
 -- What is read is what the view sees; the writer does what is planned.
 use borrow.Author.Needs.{needs}
-use Rattle.model.specs.Modes.{watched}
 use denote.Ref.{now}
+use Rattle.model.specs.Modes.{watched}
 use Rattle.sheet.specs.Meaning.{qualOf}
 use Rattle.words.specs.Answers.{stored}
 use Rattle.watched_step.proofs.Laws.{performs-seeing}
@@ -20,10 +20,10 @@ same-length c = search needs
 returns : tie.Need-returns
 returns c =
     let args = c .before .before .before .before .before .before .before .before .args in
-    let pre = c .before .before .before .before .before .before .before .before .pre in
-    let set-in = c .before .before .before .before .set-in in
     let store-cell = c .before .before .store-cell in
-    λ input out. performs-seeing (now (args .s)) input (now (args .memory)) (store-cell .last .0) out out (args .r) (store-cell .result) _ (λ z. stored watched (qualOf z) (set-in .result)) (λ d q. store-cell .ensures watched d out (set-in .ensures .0)) (args .pr) (pre .1 .1) (set-in .ensures .1)
+    let set-in = c .before .before .before .before .set-in in
+    let pre = c .before .before .before .before .before .before .before .before .pre in
+    λ input out. performs-seeing (now (args .s)) input (now (args .memory)) (store-cell .last .0) out out (args .r) (store-cell .result) _ (λ z. stored watched (qualOf z) (set-in .result)) (λ d q. store-cell .ensures watched d out (set-in .ensures .0)) (args .pr) (pre .1 .1 .1) (set-in .ensures .1)
 
 pub set-slot-spec : {M : Type 1} → statement M
 set-slot-spec = tie.close (tie.spec set-in-requires store-cell-requires same-length returns)

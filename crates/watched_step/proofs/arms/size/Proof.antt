@@ -1,7 +1,7 @@
 -- What is read is what the view sees; the writer does what is planned.
 use borrow.Author.Needs.{needs}
-use Rattle.model.specs.Modes.{watched}
 use denote.Ref.{now}
+use Rattle.model.specs.Modes.{watched}
 use Rattle.words.specs.Answers.{given}
 use Rattle.watched_step.proofs.Laws.{performs-seeing}
 use Rattle.watched_step.proofs.arms.size.Statement.{statement}
@@ -19,10 +19,10 @@ same-length c = search needs
 returns : tie.Need-returns
 returns c =
     let args = c .before .before .before .before .before .before .before .before .args in
-    let pre = c .before .before .before .before .before .before .before .before .pre in
-    let size-in = c .before .before .before .before .size-in in
     let give-number = c .before .before .give-number in
-    λ input out. performs-seeing (now (args .s)) input (now (args .memory)) (give-number .last .0) out out (args .r) (give-number .result) _ (λ z. given watched (args .a) (size-in .result)) (λ d q. give-number .ensures watched d out) (args .pr) (pre .1 .1) (size-in .ensures)
+    let size-in = c .before .before .before .before .size-in in
+    let pre = c .before .before .before .before .before .before .before .before .pre in
+    λ input out. performs-seeing (now (args .s)) input (now (args .memory)) (give-number .last .0) out out (args .r) (give-number .result) _ (λ z. given watched (args .a) (size-in .result)) (λ d q. give-number .ensures watched d out) (args .pr) (pre .1 .1 .1) (size-in .ensures)
 
 pub size-spec : {M : Type 1} → statement M
 size-spec = tie.close (tie.spec size-in-requires give-number-requires same-length returns)

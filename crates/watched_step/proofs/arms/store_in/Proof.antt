@@ -1,12 +1,10 @@
--- The parts of the memory, as the code cuts them, are those that the view sees.
+-- The part of the memory that the code cuts is the running frame's.
 use native.Mathlib.Omega.{arith}
-use borrow.Author.Needs.{needs}
-use Rattle.model.specs.Modes.{watched}
-use denote.Ref.{now}
 use mathlib.Core.Path.{sym}
-use Rattle.sheet.specs.Meaning.{qualOf}
 use lib.Seq.{length-take-le}
-use Rattle.frames.proofs.Performs.{sees-cut}
+use borrow.Author.Needs.{needs}
+use denote.Ref.{now}
+use Rattle.frames.proofs.Performs.{part-is}
 use Rattle.watched_step.proofs.arms.store_in.Statement.{statement}
 use Rattle.watched_step.proofs.arms.store_in.Tie as tie
 
@@ -33,9 +31,9 @@ store-guarded-requires c κs = search needs
 
 returns : tie.Need-returns
 returns c =
-    let args = c .before .before .before .before .before .before .args in
+    let args = c .before .before .before .before .before .args in
     let store-guarded = c .store-guarded in
-    λ pr. (store-guarded .ensures .0, λ v at S. store-guarded .ensures .1 v (sees-cut watched (qualOf (now (args .s))) v (now (args .memory)) (args .r) S))
+    rw (part-is (args .r .base) (args .r .variables) (now (args .memory))) at (store-guarded .ensures)
 
 pub store-in-spec : {M : Type 1} → statement M
 store-in-spec =

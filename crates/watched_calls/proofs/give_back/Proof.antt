@@ -1,9 +1,9 @@
 -- What is handed over decides how the frame that waits goes on.
 use borrow.Author.Needs.{needs}
 use denote.Ref.{now}
-use Rattle.watched_step.proofs.Returning.{gives-nothing, gives-word, gives-halt}
-use Rattle.watched_step.proofs.calls.give_back.Statement.{statement}
-use Rattle.watched_step.proofs.calls.give_back.Tie as tie
+use Rattle.watched_calls.proofs.Returning.{gives-nothing, gives-word, gives-halt}
+use Rattle.watched_calls.proofs.give_back.Statement.{statement}
+use Rattle.watched_calls.proofs.give_back.Tie as tie
 
 handed-by-requires : tie.Need-handed-by-requires
 handed-by-requires c κs = search needs
@@ -20,9 +20,9 @@ enum-known-w c = search needs
 resume-with-requires : tie.Need-resume-with-requires
 resume-with-requires c κs =
     let pre = c .before .before .before .before .before .before .before .before .pre in
+    let known = c .before .before .w in
     let handed-by = c .before .before .before .before .handed-by in
-    let w = c .before .before .w in
-    (pre .0, (pre .1 .0, rw (w .given .1) at (handed-by .ensures .0)))
+    (pre .0, (pre .1 .0, rw (known .given .1) at (handed-by .ensures .0)))
 
 enum-known-k : tie.Need-enum-known-k
 enum-known-k c = search needs
@@ -35,9 +35,9 @@ returns c =
     let args = c .before .before .before .before .before .before .before .before .args in
     let pre = c .before .before .before .before .before .before .before .before .pre in
     let handed-by = c .before .before .before .before .handed-by in
-    let enum-told = c .before .before .enum-told in
     let resume-without = c .resume-without in
-    gives-nothing (now (args .s)) (now (args .memory)) (now (args .memory)) (args .r) (args .a) (args .pr) (pre .1 .1) (handed-by .result) (handed-by .ensures .1) (resume-without .result) (enum-told .given .1) (resume-without .ensures (now (args .s)))
+    let enum-told = c .before .before .enum-told in
+    gives-nothing (now (args .s)) (now (args .memory)) (now (args .memory)) (args .r) (args .a) (args .pr) (pre .1 .1) (handed-by .result) (handed-by .ensures) (resume-without .result) (enum-told .given .1) (resume-without .ensures (now (args .s)))
 
 same-length-2 : tie.Need-same-length-2
 same-length-2 c = search needs
@@ -45,11 +45,11 @@ same-length-2 c = search needs
 returns-2 : tie.Need-returns-2
 returns-2 c =
     let args = c .before .before .before .before .before .before .before .before .before .before .before .args in
+    let resume-with = c .before .before .resume-with in
     let pre = c .before .before .before .before .before .before .before .before .before .before .before .pre in
     let handed-by = c .before .before .before .before .before .before .before .handed-by in
-    let w = c .before .before .before .before .before .w in
-    let resume-with = c .before .before .resume-with in
-    gives-word (now (args .s)) (now (args .memory)) (resume-with .last .1 .1 .0) (args .r) (args .a) (args .pr) (pre .1 .1) (handed-by .result) (handed-by .ensures .1) (resume-with .result) (w .given .1) (resume-with .ensures)
+    let known = c .before .before .before .before .before .w in
+    gives-word (now (args .s)) (now (args .memory)) (resume-with .last .1 .1 .0) (args .r) (args .a) (args .pr) (pre .1 .1) (handed-by .result) (handed-by .ensures) (resume-with .result) (known .given .1) (resume-with .ensures)
 
 same-length-3 : tie.Need-same-length-3
 same-length-3 c = search needs
@@ -59,8 +59,8 @@ returns-3 c =
     let args = c .before .before .before .before .before .before .before .args in
     let pre = c .before .before .before .before .before .before .before .pre in
     let handed-by = c .before .before .before .handed-by in
-    let k = c .before .k in
-    gives-halt (now (args .s)) (now (args .memory)) (now (args .memory)) (args .r) (args .a) (args .pr) (pre .1 .1) (handed-by .result) (handed-by .ensures .1) (k .given .1)
+    let known = c .before .k in
+    gives-halt (now (args .s)) (now (args .memory)) (now (args .memory)) (args .r) (args .a) (args .pr) (pre .1 .1) (handed-by .result) (handed-by .ensures) (known .given .1)
 
 pub give-back-spec : {M : Type 1} → statement M
 give-back-spec =

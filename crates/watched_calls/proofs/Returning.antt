@@ -6,7 +6,7 @@ use mathlib.Core.Bool.{true, false}
 use mathlib.Core.List.{List, [], _∷_}
 use mathlib.Core.Option.{Option, none, some}
 use lib.Dec.{eqb}
-use lib.ListN.{length, getD}
+use lib.ListN.{length}
 use Rattle.model.specs.Rules.{optional}
 use Rattle.model.specs.Outcome.{Res, ok, stop, stuck, ensure, _>>=_, _>>_}
 use Rattle.model.specs.Program.{Program}
@@ -14,30 +14,30 @@ use Rattle.model.specs.Modes.{watched, demand, amiss}
 use Rattle.model.specs.Machine as M
 use Rattle.model.specs.Machine.{Cell, frame, State, state, View, view, moved, handed, to-caller, plan, plan-return}
 use Rattle.model.specs.declared.Operation.the-variants.{Return}
-use Rattle.sheet.specs.Layout.{proceduresOf, resultAt, procedureAt}
+use Rattle.sheet.specs.Layout.{proceduresOf, resultAt, procedureAt, innerAt}
 use Rattle.sheet.specs.Meaning.{qualOf, programOf, innerIn, resultIn}
+use Rattle.index.specs.Procedures.{procedure-in, place-of}
+use Rattle.index.specs.Indexed.{Ready}
 use Rattle.words.specs.Word.{slot-in, as-cell}
-use Rattle.words.specs.Answers.{halted, IsCell, MovedOk}
+use Rattle.words.specs.Answers.{halted, IsCell}
 use Rattle.words.specs.declared.Moved.{Moved}
 use Rattle.words.specs.declared.Moved.the-variants as Mv
-use Rattle.binding.specs.Kinds.{moved-cell, handed-cell}
+use Rattle.binding.specs.Binds.{moved-cell, handed-cell, BindsWord}
 use Rattle.writers.specs.declared.Registers.{Registers}
 use Rattle.writers.specs.declared.Stepped.{Stepped}
 use Rattle.writers.specs.declared.Stepped.the-variants.{Enter, Halt}
 use Rattle.writers.specs.Memory.{Given, object-part, StandsFor}
 use Rattle.writers.proofs.Effects.{halted-then}
 use Rattle.writers.proofs.View.{alone}
-use Rattle.frames.specs.Performs.{Loaded, Performs, Returns}
+use Rattle.frames.specs.Performs.{Performs, Returns}
 use Rattle.frames.specs.Frames.{Waits, KeptIn, Keeps}
 use Rattle.frames.proofs.Performs.{runs, sees}
-use Rattle.frames.proofs.Table.{table-at}
 use Rattle.frames.proofs.Kept.{optional-none, optional-some}
 use Rattle.frames.proofs.Returning.{planned-as, caller-binds, caller-lacks, resumed}
-use Rattle.watched_step.specs.declared.calls.Handed.{Handed}
-use Rattle.watched_step.specs.declared.calls.Handed.the-variants as H
-use Rattle.watched_step.specs.Watched.{PlaceOf}
-use Rattle.watched_step.specs.Calls.{hands, handed-as, HandsOver, BindsWord}
-use Rattle.watched_step.proofs.Laws.{stopped-as, at-place}
+use Rattle.watched_calls.specs.declared.Handed.{Handed}
+use Rattle.watched_calls.specs.declared.Handed.the-variants as H
+use Rattle.watched_calls.specs.Calls.{PlaceOf, hands, handed-as, HandsOver}
+use Rattle.watched_calls.proofs.Laws.{stopped-as, at-place}
 
 -- ---- what is handed over
 
@@ -91,19 +91,21 @@ module _ (s words : List ℕ) (r : Registers) (a : ℕ) (above : r .base + (r .v
         let B = W c p i q k vs us gs os input put out S in
         rw (B .procedure) (rw same at (B .running .procedure))
 
-    module _ (table : List ℕ) (L : Loaded s table) (w : ℕ) (is-cell : IsCell w) (m : Moved)
-        (is : BindsWord s (object-part r words) (innerIn s (getD table (b .procedure) 0) a) w m) where
+    module _ (index : List ℕ) (ready : Ready s index) (w pr : ℕ) (is-cell : IsCell w) (m : Moved) (at : pr ≡ place-of (procedure-in index (b .procedure)))
+        (is : BindsWord (qualOf s) (object-part r words) (innerAt s pr a) w m) where
       -- the value, bound to the variable that is kept
       bound-kept : (out : List ℕ) (c : Given) (t : State watched) → c .sheet ≡ s → StandsFor watched c words out r t
           → to-caller watched (programOf s) (view (length words) (length out) t) (view (length words) (length out) t .caller) (some (as-cell (slot-in watched (qualOf s) w)))
           ≡ (moved-cell (qualOf s) m >>= λ d. ok (M.resume (some (a, d))))
+      unfolding innerIn
       bound-kept out c t same S =
+          let known = back-known c out t same S in
           let v = view (length words) (length out) t in
           let value = as-cell (slot-in watched (qualOf s) w) in
           caller-binds watched s words r a above K b W n value out c t same S
           ∙ ap (λ (x : Res (Cell watched)). x >>= λ d. ok (M.resume (some (a, d))))
-          (sym (is (programOf s) v value (sees watched c s words out r t same S .head) (is-cell watched (qualOf s))
-          ∙ ap (λ (p : ℕ). moved watched (programOf s) v (innerIn s p a) value) (table-at s table L (b .procedure) (back-known c out t same S))))
+          (sym (is .moves (programOf s) v value (sees watched c s words out r t same S .head) (is-cell watched (qualOf s))
+          ∙ ap (λ (p : ℕ). moved watched (programOf s) v (qualOf s (innerAt s p a)) value) (at ∙ ready .places (b .procedure) (omega arith))))
 
       pub returns-refused : {k : ℕ} → m ≡ Mv.Halt k → (out : List ℕ)
           → Returns watched s words words out r (Halt k) (some (as-cell (slot-in watched (qualOf s) w)))
@@ -111,12 +113,12 @@ module _ (s words : List ℕ) (r : Registers) (a : ℕ) (above : r .base + (r .v
       returns-refused {k} e out c t same S =
           stopped-as c words out s r t S k _ (bound-kept out c t same S ∙ rw (e, halted-then watched k))
 
-      pub returns-kept : {x : ℕ} → m ≡ Mv.To x → MovedOk m → (words′ : List ℕ) → Keeps watched words words′ b a x → (out : List ℕ)
+      pub returns-kept : {x : ℕ} → m ≡ Mv.To x → (words′ : List ℕ) → Keeps watched words words′ b a x → (out : List ℕ)
           → Returns watched s words words′ out r (Enter b) (some (as-cell (slot-in watched (qualOf s) w)))
       unfolding moved-cell _>>=_
-      returns-kept {x} e fine words′ kept out c t same S =
+      returns-kept {x} e words′ kept out c t same S =
           let d = as-cell (slot-in watched (qualOf s) x) in
-          let x-cell : IsCell x = rw e at fine in
+          let x-cell : IsCell x = rw e at (is .fine) in
           planned-as c words′ out s r t (Enter b) _ (ok (M.resume (some (a, d)))) (bound-kept out c t same S ∙ rw e)
           (resumed watched s words r a above K b W n x words′ kept d out c t same S (rw same (x-cell watched (qualOf s))))
 
@@ -141,7 +143,7 @@ module _ (s words words′ : List ℕ) (r : Registers) (a pr : ℕ) (A : PlaceOf
       let v = view (length words) (length out) t in
       returned (programOf s) v a
       ∙ ap (λ (x : Res (Option (Cell watched))). x >>= λ d. to-caller watched (programOf s) v (v .caller) d)
-      (sym (is v (at-place s r pr v A (runs watched c s words out r t same S)) (sees watched c s words out r t same S)))
+      (sym (is .1 v (at-place s r pr v A (runs watched c s words out r t same S)) (sees watched c s words out r t same S)))
 
   pub gives-nothing : (o : Stepped) → h ≡ H.Nothing → ((out : List ℕ) → Returns watched s words words′ out r o none)
       → (input out : List ℕ) → Performs watched s input words words′ out out r o (Return a)

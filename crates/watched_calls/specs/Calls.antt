@@ -1,5 +1,5 @@
 -- What a call and a return of the watched machine ask for, and what the code answers there.
-use Prim.Native.Nat.{ℕ, _+_, _≤_, _<_}
+use Prim.Native.Nat.{ℕ, _+_, _<_}
 use mathlib.Core.Path.{_≡_}
 use mathlib.Core.List.{List, _++_, map}
 use mathlib.Core.Option.{Option, none}
@@ -9,34 +9,32 @@ use Rattle.model.specs.Program.{Program}
 use Rattle.model.specs.Rules.{optional}
 use Rattle.model.specs.Outcome.{Res, ok, _>>=_, _>>_}
 use Rattle.model.specs.Modes.{watched, demand}
-use Rattle.model.specs.Machine.{Cell, View, moved, actual, actuals, handed, returns-well}
-use Rattle.sheet.specs.Layout.{proceduresOf, formalsAt, variablesAt, procedureAt}
+use Rattle.model.specs.Machine.{Cell, View, actual, actuals, handed, returns-well}
+use Rattle.sheet.specs.Layout.{proceduresOf, procedureAt}
 use Rattle.sheet.specs.Meaning.{qualOf, programOf}
 use Rattle.words.specs.Word.{cell, slot-in, as-cell}
-use Rattle.words.specs.Answers.{halted, IsCell}
+use Rattle.words.specs.Answers.{halted, IsCell, MovedOk}
 use Rattle.words.specs.declared.Number.{Number}
 use Rattle.words.specs.declared.Number.the-variants as N
 use Rattle.words.specs.declared.Moved.{Moved}
 use Rattle.words.specs.declared.Moved.the-variants as M
-use Rattle.binding.specs.Kinds.{Heads, moved-cell, handed-cell}
+use Rattle.binding.specs.Binds.{moved-cell, handed-cell}
 use Rattle.writers.specs.declared.Registers.{Registers}
 use Rattle.writers.specs.Memory.{SeesIn, GapOnly}
-use Rattle.watched_step.specs.declared.calls.Handed.{Handed}
-use Rattle.watched_step.specs.declared.calls.Handed.the-variants as H
+use Rattle.watched_calls.specs.declared.Handed.{Handed}
+use Rattle.watched_calls.specs.declared.Handed.the-variants as H
+
+-- pr is the place of the registers' procedure, where that is one of the sheet's
+abbrev pub PlaceOf : List ℕ → Registers → ℕ → Type 0
+PlaceOf s r pr = r .procedure < proceduresOf s → procedureAt s (r .procedure) ≡ pr
 
 -- ---- a call
 
--- procedure k of a sheet, whose PR stands at pr
-pub record Callee (s : List ℕ) (k pr : ℕ) : Type 0 where
-  pub place : procedureAt s k ≡ pr
-  pub formals : formalsAt s pr ≤ variablesAt s pr
-  pub known : k < proceduresOf s
-  pub small : k < 64
-
 -- the answer is actual j of a call of the procedure at pr with variables from b on, in every view that sees these words
-abbrev pub BindsActual : (s words : List ℕ) → Registers → (pr b j : ℕ) → Moved → Type 0
-BindsActual s words r pr b j m =
-    (v : View watched) (k : ℕ) → procedureAt s k ≡ pr → SeesIn watched (qualOf s) v words r → moved-cell (qualOf s) m ≡ actual watched (programOf s) v k b j
+abbrev pub ActualIn : (s words : List ℕ) → Registers → (pr b j : ℕ) → Moved → Type 0
+ActualIn s words r pr b j m =
+    MovedOk m
+    × ((v : View watched) (k : ℕ) → procedureAt s k ≡ pr → SeesIn watched (qualOf s) v words r → moved-cell (qualOf s) m ≡ actual watched (programOf s) v k b j)
 
 -- the cells of n words from a place on
 abbrev pub cells-at : (s words : List ℕ) → (at n : ℕ) → List (Cell watched)
@@ -72,18 +70,14 @@ handed-as qual H.Nothing = ok none
 handed-as qual (H.Is w) = handed-cell qual (M.To w)
 handed-as qual (H.Halt k) = handed-cell qual (M.Halt k)
 
--- the answer is that, in every view that sees these words while the procedure at pr runs
-abbrev pub HandsOver : (s words : List ℕ) → Registers → (pr a : ℕ) → Handed → Type 0
-HandsOver s words r pr a h =
-    (v : View watched) → procedureAt s (v .procedure) ≡ pr → SeesIn watched (qualOf s) v words r → handed-as (qualOf s) h ≡ hands (programOf s) v a
-
 -- a word that is handed over is a cell's
 abbrev pub HandedOk : Handed → Type 0
 HandedOk H.Nothing = Unit {0}
 HandedOk (H.Is w) = IsCell w
 HandedOk (H.Halt k) = Unit {0}
 
--- a word bound to a type, by the heads of the objects in h
-abbrev pub BindsWord : (s h : List ℕ) → Qual → (w : ℕ) → Moved → Type 0
-BindsWord s h q w m =
-    (g : Program) (v : View watched) (c : Cell watched) → Heads s v h → slot-in watched (qualOf s) w ≡ cell c → moved-cell (qualOf s) m ≡ moved watched g v q c
+-- the answer is that, in every view that sees these words while the procedure at pr runs
+abbrev pub HandsOver : (s words : List ℕ) → Registers → (pr a : ℕ) → Handed → Type 0
+HandsOver s words r pr a h =
+    HandedOk h
+    × ((v : View watched) → procedureAt s (v .procedure) ≡ pr → SeesIn watched (qualOf s) v words r → handed-as (qualOf s) h ≡ hands (programOf s) v a)

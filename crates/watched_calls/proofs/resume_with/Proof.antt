@@ -3,9 +3,9 @@ use borrow.Author.Needs.{needs}
 use denote.Ref.{now}
 use Rattle.model.specs.Modes.{watched}
 use Rattle.frames.proofs.Returning.{returns-over, returns-dropped}
-use Rattle.watched_step.proofs.Returning.{returns-kept, returns-refused}
-use Rattle.watched_step.proofs.calls.resume_with.Statement.{statement}
-use Rattle.watched_step.proofs.calls.resume_with.Tie as tie
+use Rattle.watched_calls.proofs.Returning.{returns-kept, returns-refused}
+use Rattle.watched_calls.proofs.resume_with.Statement.{statement}
+use Rattle.watched_calls.proofs.resume_with.Tie as tie
 
 add-if1 : tie.Need-add-if1
 add-if1 c = search needs
@@ -16,8 +16,8 @@ add-if1-2 c = search needs
 returns : tie.Need-returns
 returns c =
     let args = c .before .before .before .before .before .args in
-    let if1 = c .if1 in
-    returns-over watched (now (args .s)) (now (args .memory)) (args .r) _ (if1 .taken)
+    let first-test = c .if1 in
+    returns-over watched (now (args .s)) (now (args .memory)) (args .r) _ (first-test .taken)
 
 waiting-requires : tie.Need-waiting-requires
 waiting-requires c κs = search needs
@@ -32,16 +32,13 @@ returns-2 : tie.Need-returns-2
 returns-2 c =
     let args = c .before .before .before .before .before .before .before .before .before .before .args in
     let kept-in = c .before .kept-in in
-    let if1 = c .before .before .before .before .before .if1 in
+    let first-test = c .before .before .before .before .before .if1 in
     let waiting = c .before .before .before .waiting in
-    let if2 = c .if2 in
-    returns-dropped watched (now (args .s)) (now (args .memory)) (args .r) (kept-in .result) (if1 .left) (kept-in .ensures watched) (waiting .result) (waiting .ensures .0 watched) (if2 .taken) _
+    let second-test = c .if2 in
+    returns-dropped watched (now (args .s)) (now (args .memory)) (args .r) (kept-in .result) (first-test .left) (kept-in .ensures watched) (waiting .result) (waiting .ensures .0 watched) (second-test .taken) _
 
-mul-bind-kept : tie.Need-mul-bind-kept
-mul-bind-kept c = search needs
-
-element-copy-out-bind-kept : tie.Need-element-copy-out-bind-kept
-element-copy-out-bind-kept c = search needs
+place-of-requires : tie.Need-place-of-requires
+place-of-requires c κs = search needs
 
 bind-kept-requires : tie.Need-bind-kept-requires
 bind-kept-requires c κs = search needs
@@ -62,15 +59,15 @@ returns-3 : tie.Need-returns-3
 returns-3 c =
     let args = c .before .before .before .before .before .before .before .before .before .before .before .before .before .before .before .before .before .before .before .before .args in
     let kept-in = c .before .before .before .before .before .before .before .before .before .before .before .kept-in in
-    let if1 = c .before .before .before .before .before .before .before .before .before .before .before .before .before .before .before .if1 in
-    let if2 = c .before .before .before .before .before .before .before .before .before .before .if2 in
+    let first-test = c .before .before .before .before .before .before .before .before .before .before .before .before .before .before .before .if1 in
+    let second-test = c .before .before .before .before .before .before .before .before .before .before .if2 in
     let waiting = c .before .before .before .before .before .before .before .before .before .before .before .before .before .waiting in
     let pre = c .before .before .before .before .before .before .before .before .before .before .before .before .before .before .before .before .before .before .before .before .pre in
     let bind-kept = c .before .before .before .before .before .before .before .bind-kept in
-    let x = c .before .before .before .before .before .x in
+    let place-of = c .before .before .before .before .before .before .before .before .before .place-of in
+    let known = c .before .before .before .before .before .x in
     let keep = c .before .before .keep in
-    returns-kept (now (args .s)) (now (args .memory)) (args .r) (kept-in .result) (if1 .left) (kept-in .ensures watched) (if2 .left) (waiting .result) (waiting .ensures .0 watched)
-    (now (args .table)) (pre .0) (args .w) (pre .1 .1) (bind-kept .result) (bind-kept .ensures .1) (x .given .1) (bind-kept .ensures .0) (keep .last .0) (keep .ensures watched)
+    returns-kept (now (args .s)) (now (args .memory)) (args .r) (kept-in .result) (first-test .left) (kept-in .ensures watched) (second-test .left) (waiting .result) (waiting .ensures .0 watched) (now (args .index)) (pre .0) (args .w) _ (pre .1 .1) (bind-kept .result) (place-of .ensures) (bind-kept .ensures) (known .given .1) (keep .last .0) (keep .ensures watched)
 
 same-length-3 : tie.Need-same-length-3
 same-length-3 c = search needs
@@ -79,14 +76,14 @@ returns-4 : tie.Need-returns-4
 returns-4 c =
     let args = c .before .before .before .before .before .before .before .before .before .before .before .before .before .before .before .before .args in
     let kept-in = c .before .before .before .before .before .before .before .kept-in in
-    let if1 = c .before .before .before .before .before .before .before .before .before .before .before .if1 in
-    let if2 = c .before .before .before .before .before .before .if2 in
+    let first-test = c .before .before .before .before .before .before .before .before .before .before .before .if1 in
+    let second-test = c .before .before .before .before .before .before .if2 in
     let waiting = c .before .before .before .before .before .before .before .before .before .waiting in
     let pre = c .before .before .before .before .before .before .before .before .before .before .before .before .before .before .before .before .pre in
     let bind-kept = c .before .before .before .bind-kept in
-    let k = c .before .k in
-    returns-refused (now (args .s)) (now (args .memory)) (args .r) (kept-in .result) (if1 .left) (kept-in .ensures watched) (if2 .left) (waiting .result) (waiting .ensures .0 watched)
-    (now (args .table)) (pre .0) (args .w) (pre .1 .1) (bind-kept .result) (bind-kept .ensures .1) (k .given .1)
+    let place-of = c .before .before .before .before .before .place-of in
+    let known = c .before .k in
+    returns-refused (now (args .s)) (now (args .memory)) (args .r) (kept-in .result) (first-test .left) (kept-in .ensures watched) (second-test .left) (waiting .result) (waiting .ensures .0 watched) (now (args .index)) (pre .0) (args .w) _ (pre .1 .1) (bind-kept .result) (place-of .ensures) (bind-kept .ensures) (known .given .1)
 
 pub resume-with-spec : {M : Type 1} → statement M
 resume-with-spec =
@@ -99,8 +96,7 @@ resume-with-spec =
     kept-in-requires
     same-length
     returns-2
-    mul-bind-kept
-    element-copy-out-bind-kept
+    place-of-requires
     bind-kept-requires
     enum-known-x
     keep-requires

@@ -1,22 +1,22 @@
 -- After j turns the first j actuals stand at the place; a word that is written there changes nothing that the next one reads.
-use native.Mathlib.Omega.{arith}
-use borrow.Author.Needs.{needs}
 use Prim.Native.Nat.{ℕ, _+_, _-_, _≤_, _<_}
+use native.Mathlib.Omega.{arith}
 use mathlib.Core.Path.{_≡_, refl}
-use denote.Ref.{now}
 use lib.ListN.{length, length-set}
+use borrow.Author.Needs.{needs}
+use denote.Ref.{now}
 use Rattle.sheet.specs.Layout.{procedureAt}
-use Rattle.watched_step.specs.Calls.{Bound}
-use Rattle.watched_step.proofs.Calling.{bound-none, bound-more, bound-stop, bound-done}
-use Rattle.watched_step.proofs.calls.bind_actuals.Statement.{statement}
-use Rattle.watched_step.proofs.calls.bind_actuals.Tie as tie
+use Rattle.watched_calls.specs.Calls.{Bound}
+use Rattle.watched_calls.proofs.Calling.{bound-none, bound-more, bound-stop, bound-done}
+use Rattle.watched_calls.proofs.bind_actuals.Statement.{statement}
+use Rattle.watched_calls.proofs.bind_actuals.Tie as tie
 
 abbrev Inv-loop : tie.InvT-loop
-Inv-loop s pr memory₀ r b at f j₀ memory j =
+Inv-loop s index pr memory₀ r b at f j₀ memory j =
     (j ≤ f) × (length memory ≡ length memory₀) × ((k : ℕ) → procedureAt s k ≡ pr → Bound s memory₀ memory r k b at j (f - j))
 
 abbrev μ-loop : tie.MeasureT-loop
-μ-loop s pr memory₀ r b at f j₀ memory j = f - j
+μ-loop s index pr memory₀ r b at f j₀ memory j = f - j
 
 loop-holds : tie.Need-loop-holds Inv-loop μ-loop
 loop-holds c =
@@ -27,7 +27,7 @@ actual-in-requires : tie.Need-actual-in-requires Inv-loop μ-loop
 actual-in-requires c κs =
     let pre = c .before .before .before .before .before .pre in
     let loop = c .before .before .loop in
-    rw (loop .inv .1) (pre .0)
+    (pre .0, rw (loop .inv .1) (pre .1 .0))
 
 enum-known-w : tie.Need-enum-known-w Inv-loop μ-loop
 enum-known-w c = search needs
@@ -45,7 +45,7 @@ slice-write-memory : tie.Need-slice-write-memory Inv-loop μ-loop
 slice-write-memory c =
     let pre = c .before .before .before .before .before .before .before .before .before .pre in
     let loop = c .before .before .before .before .before .before .loop in
-    let frame = pre .0 .frame in let room = pre .1 .1 in let long = loop .inv .1 in omega arith
+    let frame = pre .1 .0 .frame in let room = pre .1 .1 .1 in let long = loop .inv .1 in omega arith
 
 enum-known-k : tie.Need-enum-known-k Inv-loop μ-loop
 enum-known-k c = search needs
@@ -76,7 +76,7 @@ loop-again c =
     let loop = c .before .before .before .before .before .before .loop in
     let actual-in = c .before .before .before .actual-in in
     let w = c .before .w in
-    let turn : loop .j < args .f = omega arith in let low = pre .1 .0 in let room = pre .1 .1 in let frame = pre .0 .frame in (omega arith, simp length-set (loop .inv .1), λ k at. bound-more (loop .inv .2 k at) (actual-in .result) (args .f - (loop .j + 1)) (omega arith) (λ u T. actual-in .ensures .1 u k at T) (w .given .1) (rw (w .given .1) at (actual-in .ensures .0)) (omega arith) (omega arith) (omega arith))
+    let turn : loop .j < args .f = omega arith in let low = pre .1 .1 .0 in let room = pre .1 .1 .1 in let frame = pre .1 .0 .frame in (omega arith, simp length-set (loop .inv .1), λ k at. bound-more (loop .inv .2 k at) (actual-in .result) (args .f - (loop .j + 1)) (omega arith) (λ u T. actual-in .ensures .1 u k at T) (w .given .1) (rw (w .given .1) at (actual-in .ensures .0)) (omega arith) (omega arith) (omega arith))
 
 same-length-2 : tie.Need-same-length-2 Inv-loop μ-loop
 same-length-2 c =

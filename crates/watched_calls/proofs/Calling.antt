@@ -16,16 +16,18 @@ use Rattle.model.specs.Modes.{watched, demand}
 use Rattle.model.specs.Machine as M
 use Rattle.model.specs.Machine.{Cell, frame, state, View, view, apply, actual, actuals, plan, plan-call}
 use Rattle.model.specs.declared.Operation.the-variants.{Call}
-use Rattle.sheet.specs.Layout.{formalsAt, variablesAt, instructionAt, resultAt}
+use Rattle.sheet.specs.Layout.{proceduresOf, procedureAt, formalsAt, variablesAt, instructionAt, resultAt}
 use Rattle.sheet.specs.Decode.{operationAt}
 use Rattle.sheet.specs.Meaning.{qualOf, programOf, resultIn}
+use Rattle.index.specs.Procedures.{formals-of, variables-of, result-of}
+use Rattle.index.specs.Indexed.{ProcedureWord}
 use Rattle.words.specs.Word.{cell, slot-in, as-cell}
 use Rattle.words.specs.Sees.{Sees}
 use Rattle.words.specs.Answers.{halted, IsCell}
 use Rattle.words.specs.declared.Number.the-variants as N
 use Rattle.words.specs.declared.Moved.{Moved}
 use Rattle.words.specs.declared.Moved.the-variants as Mv
-use Rattle.binding.specs.Kinds.{moved-cell}
+use Rattle.binding.specs.Binds.{moved-cell}
 use Rattle.writers.specs.declared.Registers.{Registers}
 use Rattle.writers.specs.declared.Stepped.the-variants.{Enter, Halt}
 use Rattle.writers.specs.Memory.{object-part, frame-part, SeesIn}
@@ -36,8 +38,8 @@ use Rattle.frames.specs.Fetch.{place-in}
 use Rattle.frames.specs.Frames.{Opened}
 use Rattle.frames.proofs.Kept.{kept-here}
 use Rattle.frames.proofs.Performs.{sees}
-use Rattle.watched_step.specs.Calls.{Callee, cells-at, before, Bound, Binds}
-use Rattle.watched_step.proofs.Laws.{stopped-as, performs-exactly}
+use Rattle.watched_calls.specs.Calls.{cells-at, before, Bound, Binds}
+use Rattle.watched_calls.proofs.Laws.{stopped-as, performs-exactly}
 
 -- ---- one actual after another
 
@@ -160,18 +162,22 @@ module _ (g : Program) (v : View watched) (a b k : ℕ) where
     unfolding plan plan-call demand ensure _>>_
     plan-bound h x e = rw (kept, le-leb (g .variables k + 2) (v .room) h, e)
 
-module _ (s words : List ℕ) (r : Registers) (a b k pr : ℕ) (C : Callee s k pr) {t : ℕ} (result : t ≡ resultAt s pr) where
+-- its word has no more formals than variables
+pub formals-few : {s : List ℕ} {at w f v : ℕ} → ProcedureWord s at w → formalsAt s at ≤ variablesAt s at → f ≡ formals-of w → v ≡ variables-of w → f ≤ v
+formals-few C few is-f is-v = rw (is-f, is-v, C .formals, C .variables) few
+
+module _ (s words : List ℕ) (r : Registers) (a b k w : ℕ) (C : ProcedureWord s (procedureAt s k) w) {t : ℕ} (result : t ≡ result-of w) where
   keeps-told : {x : Bool} → not (eqb a 255) && eqb t 255 ≡ x → keeps (optional a) (programOf s .result k) ≡ not x
-  keeps-told e = rw (C .place) (keeps-is s pr a ∙ rw (← result, e))
+  keeps-told e = keeps-is s (procedureAt s k) a ∙ rw (← C .result, ← result, e)
 
   pub call-unkept : not (eqb a 255) && eqb t 255 ≡ true → (input out : List ℕ) → Performs watched s input words words out out r (Halt 18) (Call a b k)
   call-unkept e input out =
       performs-exactly s input words words out out r (Halt 18) (Call a b k) (λ z. stop wrong-kind) (λ c q. does-stop watched c words out r wrong-kind)
       (λ c t q i S. sym (plan-unkept (programOf s) (view (length words) (length out) t) a b k (keeps-told e)))
 
-  module _ (kept : not (eqb a 255) && eqb t 255 ≡ false) (v : ℕ) (many : v ≡ variablesAt s pr) where
+  module _ (kept : not (eqb a 255) && eqb t 255 ≡ false) (v : ℕ) (many : v ≡ variables-of w) where
     variables-are : programOf s .variables k ≡ v
-    variables-are = ap (variablesAt s) (C .place) ∙ sym many
+    variables-are = sym (many ∙ C .variables)
 
     pub call-full : r .base - r .used < v + 2 → (input out : List ℕ) → Performs watched s input words words out out r (Halt 17) (Call a b k)
     call-full h input out =
@@ -181,9 +187,9 @@ module _ (s words : List ℕ) (r : Registers) (a b k pr : ℕ) (C : Callee s k p
         let room = room-is watched c words out r t S in
         sym (plan-full (programOf s) (view (length words) (length out) t) a b k (keeps-told kept) (omega arith)))
 
-    module _ (room : v + 2 ≤ r .base - r .used) (f : ℕ) (few : f ≡ formalsAt s pr) where
+    module _ (room : v + 2 ≤ r .base - r .used) (f : ℕ) (few : f ≡ formals-of w) where
       formals-are : programOf s .formals k ≡ f
-      formals-are = ap (formalsAt s) (C .place) ∙ sym few
+      formals-are = sym (few ∙ C .formals)
 
       call-is : (v′ : View watched) → r .base - r .used ≡ v′ .room → (x : Res (List (Cell watched))) → actuals watched (programOf s) v′ k b 0 f ≡ x
           → plan watched (programOf s) v′ (Call a b k) ≡ (x >>= λ cs. ok (M.call k cs))
@@ -200,17 +206,16 @@ module _ (s words : List ℕ) (r : Registers) (a b k pr : ℕ) (C : Callee s k p
           ∙ halted-then watched x (λ cs. ok (M.call k cs)))
 
       pub call-goes : (words′ words″ : List ℕ) (q : Registers) (first : ℕ) → Bound s words words′ r k b (r .base - (v + 2)) f 0
-          → first ≡ instructionAt s pr 0 → Opened watched words′ words″ r q a k first v f → operationAt s (place-in r) ≡ Call a b k
+          → first ≡ instructionAt s (procedureAt s k) 0 → k < proceduresOf s → k < 64
+          → Opened watched words′ words″ r q a k first v f → operationAt s (place-in r) ≡ Call a b k
           → (input out : List ℕ) → Performs watched s input words words″ out out r (Enter q) (Call a b k)
       unfolding _>>=_ apply
-      call-goes words′ words″ q first B starts P here input out c (state (frame p i vs) fs os left put) same from S =
+      call-goes words′ words″ q first B starts known small P here input out c (state (frame p i vs) fs os left put) same from S =
           let t = state (frame p i vs) fs os left put in
           let seen = view (length words) (length out) t in
-          let at = r .base - (v + 2) in
-          let cs = cells-at s words′ at f in
+          let cs = cells-at s words′ (r .base - (v + 2)) f in
           let is : plan watched (programOf s) seen (Call a b k) ≡ ok (M.call k cs) =
           call-is seen (room-is watched c words out r t S) (ok cs) (bound-all B seen (sees watched c s words out r t same S)) in
-          let place = C .place in
-          rw (is, place, ← many, ← few)
-          (P c p i vs cs fs os left put out (gap-kept S words′ (B .gap)) (kept-here S a b k (rw same here)) (rw same (C .known)) (C .small)
-          (rw (same, place) starts) (rw (same, place) many) (rw same (B .cells)))
+          rw (is, variables-are, formals-are)
+          (P c p i vs cs fs os left put out (gap-kept S words′ (B .gap)) (kept-here S a b k (rw same here)) (rw same known) small
+          (rw same starts) (rw same (sym variables-are)) (rw same (B .cells)))

@@ -1,11 +1,11 @@
 -- The declared type is that of the variable.
 use native.Mathlib.Omega.{arith}
-use borrow.Author.Needs.{needs}
 use mathlib.Core.Path.{sym}
 use lib.Seq.{length-take-le}
-use Rattle.sheet.specs.Meaning.{innerIn}
-use Rattle.watched_step.proofs.calls.bind_kept.Statement.{statement}
-use Rattle.watched_step.proofs.calls.bind_kept.Tie as tie
+use borrow.Author.Needs.{needs}
+use Rattle.binding.proofs.Laws.{word-of-sheet}
+use Rattle.watched_calls.proofs.bind_kept.Statement.{statement}
+use Rattle.watched_calls.proofs.bind_kept.Tie as tie
 
 slice-aggregate-bind-word : tie.Need-slice-aggregate-bind-word
 slice-aggregate-bind-word c = sym (length-take-le _ _ (omega arith))
@@ -17,11 +17,8 @@ bind-word-requires : tie.Need-bind-word-requires
 bind-word-requires c κs = search needs
 
 returns : tie.Need-returns
-unfolding innerIn
 returns c =
-    let inner-of = c .before .inner-of in
-    let bind-word = c .bind-word in
-    (bind-word .ensures .0, λ g v c heads is. rw (← inner-of .ensures) (bind-word .ensures .1 g v c heads is))
+    rw (c .before .inner-of .ensures) at (word-of-sheet (c .before .before .before .before .before .pre .0) (c .bind-word .ensures))
 
 pub bind-kept-spec : {M : Type 1} → statement M
 bind-kept-spec =

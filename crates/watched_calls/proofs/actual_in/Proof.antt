@@ -1,15 +1,15 @@
 -- The word is that of the variable, and the objects' part has the heads that the view sees.
 use native.Mathlib.Omega.{arith}
-use borrow.Author.Needs.{needs}
 use mathlib.Core.Path.{sym, ap, _∙_}
-use denote.Ref.{now}
 use lib.Seq.{length-take-le}
+use borrow.Author.Needs.{needs}
+use denote.Ref.{now}
 use Rattle.model.specs.Modes.{watched}
 use Rattle.sheet.specs.Meaning.{qualOf}
 use Rattle.words.specs.Word.{slot-in}
 use Rattle.frames.proofs.Performs.{sees-cut}
-use Rattle.watched_step.proofs.calls.actual_in.Statement.{statement}
-use Rattle.watched_step.proofs.calls.actual_in.Tie as tie
+use Rattle.watched_calls.proofs.actual_in.Statement.{statement}
+use Rattle.watched_calls.proofs.actual_in.Tie as tie
 
 add-end : tie.Need-add-end
 add-end c = search needs
@@ -40,10 +40,10 @@ actual-word-requires c κs = search needs
 
 returns : tie.Need-returns
 returns c =
+    let actual-word = c .actual-word in
     let args = c .before .before .before .before .before .before .before .args in
     let read = c .before .before .read in
-    let actual-word = c .actual-word in
-    (actual-word .ensures .0, λ v k at S. actual-word .ensures .1 v k (args .b) (S .head) at (ap (slot-in watched (qualOf (now (args .s)))) (read .ensures) ∙ sees-cut watched (qualOf (now (args .s))) v (now (args .memory)) (args .r) S .variable _))
+    (actual-word .ensures .fine, λ v k at S. actual-word .ensures .moves v k (args .b) (S .head) at (ap (slot-in watched (qualOf (now (args .s)))) (read .ensures) ∙ sees-cut watched (qualOf (now (args .s))) v (now (args .memory)) (args .r) S .variable _))
 
 pub actual-in-spec : {M : Type 1} → statement M
 actual-in-spec =

@@ -1,12 +1,12 @@
 -- Main's return, a result that is dropped, and one that is kept and is not there.
 use mathlib.Core.Option.{none}
+use borrow.Author.Needs.{needs}
 use denote.Ref.{now}
 use Rattle.model.specs.Modes.{watched}
 use Rattle.frames.proofs.Returning.{returns-over, returns-dropped}
-use Rattle.watched_step.proofs.Returning.{returns-lacking}
-use borrow.Author.Needs.{needs}
-use Rattle.watched_step.proofs.calls.resume_without.Statement.{statement}
-use Rattle.watched_step.proofs.calls.resume_without.Tie as tie
+use Rattle.watched_calls.proofs.Returning.{returns-lacking}
+use Rattle.watched_calls.proofs.resume_without.Statement.{statement}
+use Rattle.watched_calls.proofs.resume_without.Tie as tie
 
 add-if1 : tie.Need-add-if1
 add-if1 c = search needs

@@ -1,0 +1,39 @@
+-- An operation of the watched machine does what is planned. Nothing here leaves room for a stuck definition.
+use Prim.Native.Nat.{ℕ}
+use mathlib.Core.Path.{_≡_, subst}
+use mathlib.Core.List.{List}
+use lib.ListN.{length}
+use Rattle.model.specs.Outcome.{Res, ok, _>>=_}
+use Rattle.model.specs.Modes.{watched}
+use Rattle.model.specs.Machine.{State, View, Effect, view, plan, apply}
+use Rattle.model.specs.declared.Operation.{Operation}
+use Rattle.sheet.specs.Layout.{procedureAt}
+use Rattle.sheet.specs.Meaning.{programOf}
+use Rattle.words.specs.Answers.{halted}
+use Rattle.writers.specs.declared.Registers.{Registers}
+use Rattle.writers.specs.declared.Stepped.{Stepped}
+use Rattle.writers.specs.declared.Stepped.the-variants.{Halt}
+use Rattle.writers.specs.Memory.{Given, StandsFor}
+use Rattle.writers.specs.Steps.{After, Does}
+use Rattle.writers.proofs.Effects.{halted-then, halted-after}
+use Rattle.frames.specs.Performs.{performed, Performs}
+use Rattle.frames.proofs.Performs.{Running}
+use Rattle.watched_calls.specs.Calls.{PlaceOf}
+
+pub at-place : (s : List ℕ) (r : Registers) (pr : ℕ) (v : View watched) → PlaceOf s r pr → Running s r v → procedureAt s (v .procedure) ≡ pr
+at-place s r pr v A R = rw (R .procedure) (A (rw (← R .procedure) (R .known)))
+
+-- a stop that was planned
+pub stopped-as : (c : Given) (words out s : List ℕ) (r : Registers) (t : State watched) → StandsFor watched c words out r t
+    → (k : ℕ) (e : Res (Effect watched)) → e ≡ halted watched k → After watched c words out out r t (Halt k) (performed s t e)
+stopped-as c words out s r t S k e is = rw (is, halted-then watched k) (halted-after watched c words out r t S k)
+
+module _ (s input words words′ before out : List ℕ) (r : Registers) (o : Stepped) (op : Operation) (e : List ℕ → Res (Effect watched))
+    (does : (c : Given) → c .sheet ≡ s → Does watched c words words′ before out r o (e (c .sheet))) where
+  pub performs-exactly :
+      ((c : Given) (t : State watched) → c .sheet ≡ s → c .input ≡ input → StandsFor watched c words before r t
+      → e s ≡ plan watched (programOf s) (view (length words) (length before) t) op)
+      → Performs watched s input words words′ before out r o op
+  performs-exactly planned c t q i S =
+      subst (λ (f : Res (Effect watched)). After watched c words′ before out r t o (f >>= λ x. ok (apply (programOf s) t x))) (planned c t q i S)
+      (subst (λ (z : List ℕ). After watched c words′ before out r t o (e z >>= λ x. ok (apply (programOf z) t x))) q (does c q t S))

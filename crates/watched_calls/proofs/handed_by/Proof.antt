@@ -1,0 +1,119 @@
+-- 18 first, then what the result asks for.
+use native.Mathlib.Omega.{arith}
+use mathlib.Core.Path.{sym, ap, _∙_}
+use lib.Seq.{length-take-le}
+use borrow.Author.Needs.{needs}
+use denote.Ref.{now}
+use Rattle.model.specs.Modes.{watched}
+use Rattle.sheet.specs.Layout.{resultAt}
+use Rattle.sheet.specs.Meaning.{qualOf}
+use Rattle.words.specs.Word.{slot-in}
+use Rattle.frames.proofs.Performs.{sees-cut}
+use Rattle.watched_calls.proofs.Returning.{hands-nothing, hands-too-little, hands-too-much, hands-word, hands-halt}
+use Rattle.watched_calls.proofs.handed_by.Statement.{statement}
+use Rattle.watched_calls.proofs.handed_by.Tie as tie
+
+field-requires : tie.Need-field-requires
+field-requires c κs = search needs
+
+returns : tie.Need-returns
+unfolding resultAt
+returns c =
+    let args = c .before .before .before .before .before .args in
+    let field = c .before .before .field in
+    let first-test = c .before .if1 in
+    let second-test = c .if2 in
+    (tt, λ v at S. hands-nothing (now (args .s)) v (args .pr) (args .a) at (field .ensures) (first-test .taken) (second-test .taken))
+
+returns-2 : tie.Need-returns-2
+unfolding resultAt
+returns-2 c =
+    let args = c .before .before .before .before .before .args in
+    let field = c .before .before .field in
+    let first-test = c .before .if1 in
+    let second-test = c .if2 in
+    (tt, λ v at S. hands-too-little (now (args .s)) v (args .pr) (args .a) at (field .ensures) (first-test .taken) (second-test .left))
+
+returns-3 : tie.Need-returns-3
+unfolding resultAt
+returns-3 c =
+    let args = c .before .before .before .before .before .args in
+    let field = c .before .before .field in
+    let first-test = c .before .if1 in
+    let third-test = c .if3 in
+    (tt, λ v at S. hands-too-much (now (args .s)) v (args .pr) (args .a) at (field .ensures) (first-test .left) (third-test .taken))
+
+add-end : tie.Need-add-end
+add-end c = search needs
+
+mul-read : tie.Need-mul-read
+mul-read c = search needs
+
+sub-read : tie.Need-sub-read
+sub-read c = search needs
+
+part-read-start : tie.Need-part-read-start
+part-read-start c = search needs
+
+part-read-end : tie.Need-part-read-end
+part-read-end c = search needs
+
+read-requires : tie.Need-read-requires
+read-requires c κs = search needs
+
+slice-aggregate-result-word : tie.Need-slice-aggregate-result-word
+slice-aggregate-result-word c = sym (length-take-le _ _ (omega arith))
+
+result-word-requires : tie.Need-result-word-requires
+result-word-requires c κs = search needs
+
+enum-known-x : tie.Need-enum-known-x
+enum-known-x c = search needs
+
+enum-known-k : tie.Need-enum-known-k
+enum-known-k c = search needs
+
+returns-4 : tie.Need-returns-4
+unfolding resultAt
+returns-4 c =
+    let known = c .before .x in
+    let result-word = c .before .before .before .result-word in
+    let args = c .before .before .before .before .before .before .before .before .before .before .before .before .before .args in
+    let field = c .before .before .before .before .before .before .before .before .before .before .field in
+    let first-test = c .before .before .before .before .before .before .before .before .before .if1 in
+    let third-test = c .before .before .before .before .before .before .before .before .if3 in
+    let read = c .before .before .before .before .before .read in
+    (rw (known .given .1) at (result-word .ensures .fine), λ v at S. hands-word (now (args .s)) v (args .pr) (args .a) at (field .ensures) (first-test .left) (third-test .left) (result-word .result) (result-word .ensures .moves v (args .a) (S .head) at (ap (slot-in watched (qualOf (now (args .s)))) (read .ensures) ∙ sees-cut watched (qualOf (now (args .s))) v (now (args .memory)) (args .r) S .variable _)) (known .given .1))
+
+returns-5 : tie.Need-returns-5
+unfolding resultAt
+returns-5 c =
+    let args = c .before .before .before .before .before .before .before .before .before .before .before .before .before .args in
+    let field = c .before .before .before .before .before .before .before .before .before .before .field in
+    let first-test = c .before .before .before .before .before .before .before .before .before .if1 in
+    let third-test = c .before .before .before .before .before .before .before .before .if3 in
+    let result-word = c .before .before .before .result-word in
+    let read = c .before .before .before .before .before .read in
+    let known = c .before .k in
+    (tt, λ v at S. hands-halt (now (args .s)) v (args .pr) (args .a) at (field .ensures) (first-test .left) (third-test .left) (result-word .result) (result-word .ensures .moves v (args .a) (S .head) at (ap (slot-in watched (qualOf (now (args .s)))) (read .ensures) ∙ sees-cut watched (qualOf (now (args .s))) v (now (args .memory)) (args .r) S .variable _)) (known .given .1))
+
+pub handed-by-spec : {M : Type 1} → statement M
+handed-by-spec =
+    tie.close
+    (tie.spec
+    field-requires
+    returns
+    returns-2
+    returns-3
+    add-end
+    mul-read
+    sub-read
+    part-read-start
+    part-read-end
+    read-requires
+    slice-aggregate-result-word
+    result-word-requires
+    enum-known-x
+    enum-known-k
+    returns-4
+    returns-5)
