@@ -40,7 +40,7 @@ counted-stands m c words out r q (state (frame p i vs) fs os input put) S =
       next = S .next;
       first = S .first;
       variables = S .variables;
-      sane = record { room = S .sane .room; frame = S .sane .frame; small = S .sane .small; procedure = S .sane .procedure };
+      sane = record { room = S .sane .room; frame = S .sane .frame; small = S .sane .small; procedure = S .sane .procedure; variables = S .sane .variables };
       running = S .running;
       waiting = S .waiting;
       objects = S .objects;

@@ -14,29 +14,29 @@ use denote.Ref.{RefT, ShrRef}
 use denote.Slice.{sliceVal, ShrSlice, MutSlice}
 use Rattle.writers.proofs.Registers as T
 
--- the types of the registers and of the table
+-- the types of the registers and of the index
 abbrev pub R : RattleType
 R = T.the-row
 
-abbrev pub Table : RattleType
-Table = Array u32 65
+abbrev pub Index : RattleType
+Index = Array u64 129
 
--- the machine values of a slice and of the table
+-- the machine values of a slice and of the index
 abbrev pub vs-of : RefT (List ℕ) → Val
 vs-of x = sliceVal (x .ptr) (length (x .now))
 
-abbrev pub at-table : RefT (List ℕ) → Val
-at-table x = vptr (x .ptr .0) (x .ptr .1)
+abbrev pub at-index : RefT (List ℕ) → Val
+at-index x = vptr (x .ptr .0) (x .ptr .1)
 
--- what each `&` owns: the sheet, the part of it with the frame's instructions, the table and the input
+-- what each `&` owns: the sheet, its index, its part with the frame's instructions, and the input
 abbrev pub Sheet : Lft → RefT (List ℕ) → Fml
 Sheet κ s = ShrSlice (named 0) κ u8 .own s (vs-of s ∷ [])
 
-abbrev pub Code : Lft → RefT (List ℕ) → Fml
-Code κ code = ShrSlice (named 1) κ u8 .own code (vs-of code ∷ [])
+abbrev pub Entries : Lft → RefT (List ℕ) → Fml
+Entries κ index = ShrRef (named 1) κ Index .own index (at-index index ∷ [])
 
-abbrev pub Places : Lft → RefT (List ℕ) → Fml
-Places κ table = ShrRef (named 2) κ Table .own table (at-table table ∷ [])
+abbrev pub Code : Lft → RefT (List ℕ) → Fml
+Code κ code = ShrSlice (named 2) κ u8 .own code (vs-of code ∷ [])
 
 abbrev pub Input : Lft → RefT (List ℕ) → Fml
 Input κ input = ShrSlice (named 3) κ u32 .own input (vs-of input ∷ [])
@@ -44,7 +44,7 @@ Input κ input = ShrSlice (named 3) κ u32 .own input (vs-of input ∷ [])
 -- the types, the values, the machine values and the last values of all
 abbrev pub rows : (κ₀ κ₁ κ₂ κ₃ κ₄ κ₅ : Lft) → RattleType → List RattleType
 rows κ₀ κ₁ κ₂ κ₃ κ₄ κ₅ X =
-    ShrSlice (named 0) κ₀ u8 ∷ ShrSlice (named 1) κ₁ u8 ∷ ShrRef (named 2) κ₂ Table ∷ ShrSlice (named 3) κ₃ u32 ∷ MutSlice (named 4) κ₄ u64 ∷ MutSlice (named 5) κ₅ u32 ∷ X ∷ []
+    ShrSlice (named 0) κ₀ u8 ∷ ShrRef (named 1) κ₁ Index ∷ ShrSlice (named 2) κ₂ u8 ∷ ShrSlice (named 3) κ₃ u32 ∷ MutSlice (named 4) κ₄ u64 ∷ MutSlice (named 5) κ₅ u32 ∷ X ∷ []
 
 abbrev pub Values : Type 0 → Type 0
 Values X = RefT (List ℕ) × (RefT (List ℕ) × (RefT (List ℕ) × (RefT (List ℕ) × (RefT (List ℕ) × (RefT (List ℕ) × (X × Unit {0}))))))
@@ -52,9 +52,9 @@ Values X = RefT (List ℕ) × (RefT (List ℕ) × (RefT (List ℕ) × (RefT (Lis
 abbrev pub Machine : Type 0
 Machine = List Val × (List Val × (List Val × (List Val × (List Val × (List Val × (List Val × Unit {0}))))))
 
-abbrev pub machine : (s code table input memory output : RefT (List ℕ)) → Val → Machine
-machine s code table input memory output v =
-    (vs-of s ∷ [], (vs-of code ∷ [], (at-table table ∷ [], (vs-of input ∷ [], (vs-of memory ∷ [], (vs-of output ∷ [], (v ∷ [], tt)))))))
+abbrev pub machine : (s index code input memory output : RefT (List ℕ)) → Val → Machine
+machine s index code input memory output v =
+    (vs-of s ∷ [], (at-index index ∷ [], (vs-of code ∷ [], (vs-of input ∷ [], (vs-of memory ∷ [], (vs-of output ∷ [], (v ∷ [], tt)))))))
 
 abbrev pub Lasts : Type 0 → Type 0
 Lasts X = Unit {0} × (Unit {0} × (Unit {0} × (Unit {0} × (List ℕ × (List ℕ × (X × Unit {0}))))))

@@ -10,11 +10,12 @@ use Rattle.writers.specs.declared.Stepped.{Stepped}
 use Rattle.writers.specs.declared.Stepped.the-variants.{Go, Enter, Halt, Done}
 use Rattle.writers.specs.Memory.{Sane}
 use Rattle.frames.specs.Performs.{Loaded, Performs}
-use Rattle.frames.specs.Fetch.{Fetchable, place-in}
+use Rattle.frames.specs.Fetch.{Fetchable, CodeOf, place-in}
 
--- what a step is owed: a sheet with its table, registers inside it and inside the memory, and room to count
-pub record Ready (s table words : List ℕ) (r : Registers) : Type 0 where
-  pub loaded : Loaded s table
+-- what a step is owed: a sheet with its index, the running procedure's part of it, registers inside it and inside the memory, and room to count
+pub record Steppable (s index code words : List ℕ) (r : Registers) : Type 0 where
+  pub loaded : Loaded s index
+  pub part : CodeOf s r code
   pub sane : Sane (length words) r
   pub fetchable : Fetchable s r
   pub countable : r .steps + 1 < 2 ^ 64

@@ -1,11 +1,12 @@
 // One step of the plain machine, counted unless it stops: by value, and of registers lent by `&mut`.
+use index::Index;
 use plain_step::step::step;
 use writers::Registers;
 use writers::Stepped;
 ghost use mathlib.Core.Path.{_≡_};
 ghost use Prim.Native.Nat.{_+_, _<_, _^_};
 ghost use Rattle.model.specs.Modes.{plain};
-ghost use Rattle.lent_step.specs.Counts.{Ready, TurnIs, counted, turned, after-turn};
+ghost use Rattle.lent_step.specs.Counts.{Steppable, TurnIs, counted, turned, after-turn};
 
 // The registers q, one step after r.
 pub fn count(r: Registers, q: Registers) -> Registers
@@ -46,34 +47,34 @@ fn after_step(r: Registers, o: Stepped) -> Registers
 // A step, by value.
 fn step_counted(
     s: &[u8],
+    index: &Index,
     code: &[u8],
-    table: &[u32; 65],
     input: &[u32],
     memory: &mut [u64],
     output: &mut [u32],
     r: Registers,
 ) -> Stepped
-    requires { ⌜ Ready (now s) (now table) (now memory) r ⌝ }
+    requires { ⌜ Steppable (now s) (now index) (now code) (now memory) r ⌝ }
     ensures { λ o. ⌜ TurnIs plain (now (s .entry)) (now (input .entry)) (now (memory .entry)) (now (memory .exit)) (now (output .entry)) (now (output .exit)) r o ⌝ }
 {
-    let o = step(s, table, input, memory, output, r);
+    let o = step(s, index, code, input, memory, output, r);
     count_step(r, o)
 }
 
 // A step of the lent registers.
 pub fn step_lent(
     s: &[u8],
+    index: &Index,
     code: &[u8],
-    table: &[u32; 65],
     input: &[u32],
     memory: &mut [u64],
     output: &mut [u32],
     r: &mut Registers,
 ) -> Stepped
-    requires { ⌜ Ready (now s) (now table) (now memory) (now r) ⌝ }
+    requires { ⌜ Steppable (now s) (now index) (now code) (now memory) (now r) ⌝ }
     ensures { λ o. ⌜ TurnIs plain (now (s .entry)) (now (input .entry)) (now (memory .entry)) (now (memory .exit)) (now (output .entry)) (now (output .exit)) (now (r .entry)) o × (now (r .exit) ≡ after-turn (now (r .entry)) o) ⌝ }
 {
-    let o = step_counted(s, code, table, input, memory, output, *r);
+    let o = step_counted(s, index, code, input, memory, output, *r);
     *r = after_step(*r, o);
     o
 }
@@ -81,16 +82,16 @@ pub fn step_lent(
 // The same on registers by value, which a covered loop can call.
 pub fn step_by(
     s: &[u8],
+    index: &Index,
     code: &[u8],
-    table: &[u32; 65],
     input: &[u32],
     memory: &mut [u64],
     output: &mut [u32],
     r: Registers,
 ) -> Stepped
-    requires { ⌜ Ready (now s) (now table) (now memory) r ⌝ }
+    requires { ⌜ Steppable (now s) (now index) (now code) (now memory) r ⌝ }
     ensures { λ o. ⌜ TurnIs plain (now (s .entry)) (now (input .entry)) (now (memory .entry)) (now (memory .exit)) (now (output .entry)) (now (output .exit)) r o ⌝ }
 {
     let mut q = r;
-    step_lent(s, code, table, input, memory, output, &mut q)
+    step_lent(s, index, code, input, memory, output, &mut q)
 }

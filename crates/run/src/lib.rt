@@ -1,19 +1,19 @@
 // A run of any bytes: check them, then a machine in the lent memory.
-use checking::check;
+use checking::check_indexed;
 use form::calls::well_formed;
+use index::Index;
+use index::make::indexed;
 use model::Verdict;
 use run_by_frames::Ended;
 use run_by_frames::run::run_in;
-use sheet::places::places;
 use words::clear;
 ghost use mathlib.Core.Path.{_≡_};
 ghost use mathlib.Core.Option.{some};
 ghost use Prim.Native.Nat.{_≤_};
 ghost use lib.ListN.{length};
 ghost use Rattle.model.specs.Modes.{plain, watched};
-ghost use Rattle.model.specs.Refusal.{verdict};
 ghost use Rattle.model.specs.declared.Verdict.the-variants.{Accepted};
-ghost use Rattle.form.specs.WellFormed.{form-tests};
+ghost use Rattle.frames.specs.Performs.{Loaded};
 ghost use Rattle.run_by_frames.specs.Turn.{mode-of, Never-stuck};
 ghost use Rattle.run.specs.Run.{answered, refused, stopped-at, end, answer-by, answer};
 
@@ -56,21 +56,21 @@ fn stop(e: Ended) -> Reply
 // The run of a sheet that is not refused: 10 and nothing touched, or the machine's stop. Each library sees the flag as a constant.
 fn run_lent(
     sheet: &[u8],
+    index: &Index,
     input: &[u32],
     fuel: u64,
     memory: &mut [u64],
     output: &mut [u32],
     watch: bool,
 ) -> Reply
-    requires { ⌜ verdict (form-tests (now sheet)) ≡ Accepted ⌝ }
+    requires { ⌜ Loaded (now sheet) (now index) ⌝ }
     requires { ⌜ (length (now memory) ≤ 65536 → Never-stuck (end (mode-of watch) (now sheet) (now input) fuel (now memory) (now output))) ⌝ }
     ensures { λ r. ⌜ answer-by (mode-of watch) (now (sheet .entry)) (now (input .entry)) fuel (now (memory .entry)) (now (output .entry)) Accepted ≡ some (answered r (now (memory .exit)) (now (output .exit))) ⌝ }
 {
     if 65536 < memory.len() {
         return refusal(10, 0);
     }
-    let table = places(sheet);
-    let e = run_in(sheet, &table, input, fuel, memory, output, watch);
+    let e = run_in(sheet, index, input, fuel, memory, output, watch);
     clear(memory);
     stop(e)
 }
@@ -79,9 +79,10 @@ fn run_lent(
 pub fn run(sheet: &[u8], input: &[u32], fuel: u64, memory: &mut [u64], output: &mut [u32]) -> Reply
     ensures { λ r. ⌜ answer plain (now (sheet .entry)) (now (input .entry)) fuel (now (memory .entry)) (now (output .entry)) ≡ some (answered r (now (memory .exit)) (now (output .exit))) ⌝ }
 {
-    match check(sheet) {
+    let index = indexed(sheet);
+    match check_indexed(sheet, &index) {
         Verdict::Refused(number, place) => refusal(number, place),
-        Verdict::Accepted => run_lent(sheet, input, fuel, memory, output, false),
+        Verdict::Accepted => run_lent(sheet, &index, input, fuel, memory, output, false),
     }
 }
 
@@ -95,9 +96,9 @@ pub fn watch(
 ) -> Reply
     ensures { λ r. ⌜ answer watched (now (sheet .entry)) (now (input .entry)) fuel (now (memory .entry)) (now (output .entry)) ≡ some (answered r (now (memory .exit)) (now (output .exit))) ⌝ }
 {
-    let table = places(sheet);
-    match well_formed(sheet, &table) {
+    let index = indexed(sheet);
+    match well_formed(sheet, &index) {
         Verdict::Refused(number, place) => refusal(number, place),
-        Verdict::Accepted => run_lent(sheet, input, fuel, memory, output, true),
+        Verdict::Accepted => run_lent(sheet, &index, input, fuel, memory, output, true),
     }
 }

@@ -5,7 +5,7 @@ use native.Mathlib.Numerals.{add-one}
 use mathlib.Core.Path.{_≡_, refl, sym, ap, subst, _∙_}
 use mathlib.Core.List.{List, []}
 use borrow.Author.Tests.{le-leb, lt-leb}
-use lib.ListN.{length}
+use lib.ListN.{length, drop}
 use Rattle.model.specs.Outcome.{Stop, done, fuel-spent, memory-full, stop-number, Res, ok, stop, stuck}
 use Rattle.model.specs.Refusal.{verdict}
 use Rattle.model.specs.Program.{Program}
@@ -28,9 +28,9 @@ use Rattle.writers.specs.declared.Stepped.the-variants as S
 use Rattle.writers.specs.Memory.{Given, Sane, StandsFor}
 use Rattle.writers.specs.Steps.{After, onward}
 use Rattle.frames.specs.Performs.{Loaded, performed}
-use Rattle.frames.specs.Fetch.{place-in, Fetchable}
+use Rattle.frames.specs.Fetch.{place-in, Fetchable, CodeOf}
 use Rattle.frames.proofs.Kept.{place-is}
-use Rattle.lent_step.specs.Counts.{Ready, TurnIs, counted}
+use Rattle.lent_step.specs.Counts.{Steppable, TurnIs, counted}
 use Rattle.lent_step.proofs.Laws.{same-step, counted-stands, turned-go, turned-enter, turned-halt, turned-done}
 use Rattle.run_by_frames.specs.declared.Ended.{Ended}
 use Rattle.run_by_frames.specs.Reply.{EndedIs, ended}
@@ -178,10 +178,13 @@ kept-with start q =
       steps = q .steps;
     }
 
+pub same-code : (s : List ℕ) (start r : Registers) (code : List ℕ) → r ≡ kept-with start r → CodeOf s start code → CodeOf s r code
+same-code s start r code e part = part ∙ ap (λ (x : Registers). drop (x .first) s) (sym e)
+
 same-frame : (start r p : Registers) → r ≡ kept-with start r → p ≡ onward r (p .next) (p .used) (p .taken) (p .put) → counted r p ≡ kept-with start (counted r p)
 same-frame start r p e f = ap (counted r) f ∙ ap (λ (x : Registers). counted r (onward x (p .next) (p .used) (p .taken) (p .put))) e
 
-module _ (m : Mode) (s table input : List ℕ) (loaded : Loaded s table) (until : ℕ) (d : RunOf s input until)
+module _ (m : Mode) (s index input : List ℕ) (loaded : Loaded s index) (until : ℕ) (d : RunOf s input until)
     (memory : ℕ) (words out : List ℕ) (r : Registers) (G : Going m (d .given) memory (d .fuel) words out r) (h : r .steps < until) where
   abbrev c : Given
   c = d .given
@@ -192,10 +195,11 @@ module _ (m : Mode) (s table input : List ℕ) (loaded : Loaded s table) (until 
   paid-for : r .steps < d .fuel
   paid-for = omega (arith, d .enough)
 
-  pub ready : until < 2 ^ 64 → Ready s table words r
-  ready f =
+  pub ready : until < 2 ^ 64 → (code : List ℕ) → CodeOf s r code → Steppable s index code words r
+  ready f code part =
       record {
         loaded = loaded;
+        part = part;
         sane = sane m c words out r (G .now) (G .stands);
         fetchable = subst (λ (z : List ℕ). Fetchable z r) (d .same-sheet) (fetchable m c words out r well (G .now) (G .stands) (G .inside));
         countable = omega (arith, h, f);
@@ -261,14 +265,14 @@ module _ (m : Mode) (s table input : List ℕ) (loaded : Loaded s table) (until 
           (refl, reaches (b .0) (entered m c words out r words′ out′ (G .now) (b .0) _ never (rw (b .1 .0) at taken)))
 
 -- the same of every run that came to the frame's start
-module _ {m : Mode} {s table input : List ℕ} (loaded : Loaded s table) {until : ℕ} {words₀ out₀ words out : List ℕ} {start r : Registers}
+module _ {m : Mode} {s index input : List ℕ} (loaded : Loaded s index) {until : ℕ} {words₀ out₀ words out : List ℕ} {start r : Registers}
     (K : Kept m s input until (length words₀) words₀ out₀ start words out r) (B : Begun m s input until words₀ out₀ start) (h : r .steps < until)
     {words′ out′ : List ℕ} {o : Stepped} (did : TurnIs m s input words words′ out out′ r o) (lw : length words′ ≡ length words) (lo : length out′ ≡ length out) where
   pub keeps-on : (q : Registers) → r ≡ kept-with start r → o ≡ S.Go q
       → (q .steps ≡ r .steps + 1) × Kept m s input until (length words₀) words₀ out₀ start words′ out′ (kept-with start q)
   keeps-on q e is = (
-    goes-on m s table input loaded until (B .some-run) (length words₀) words out r (begun-kept K B) h words′ out′ o did lw lo start q e is .0,
-    λ d G. goes-on m s table input loaded until d (length words₀) words out r (K d G) h words′ out′ o did lw lo start q e is .1,
+    goes-on m s index input loaded until (B .some-run) (length words₀) words out r (begun-kept K B) h words′ out′ o did lw lo start q e is .0,
+    λ d G. goes-on m s index input loaded until d (length words₀) words out r (K d G) h words′ out′ o did lw lo start q e is .1,
   )
 
 -- ---- one frame

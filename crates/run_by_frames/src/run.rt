@@ -2,10 +2,14 @@
 use crate::Ended;
 use crate::Halted;
 use crate::Paused;
+use frames::instructions_of;
+use index::Index;
+use index::procedures::place_of;
+use index::procedures::procedure_word;
+use index::procedures::variables_in;
 use lent_step::count;
 use lent_step::count_step;
 use lent_step::step_by;
-use sheet::bytes::byte;
 use sheet::places::instruction_at;
 use watched_step::step::guarded_step;
 use words::clear;
@@ -21,13 +25,14 @@ ghost use Rattle.sheet.specs.Layout.{variablesAt, procedureAt};
 ghost use Rattle.sheet.specs.Meaning.{programOf};
 ghost use Rattle.writers.specs.Memory.{StandsFor};
 ghost use Rattle.frames.specs.Performs.{Loaded};
-ghost use Rattle.lent_step.specs.Counts.{Ready, TurnIs};
+ghost use Rattle.frames.specs.Fetch.{CodeOf};
+ghost use Rattle.lent_step.specs.Counts.{Steppable, TurnIs};
 ghost use Rattle.run_by_frames.specs.Reply.{EndedIs};
 ghost use Rattle.run_by_frames.specs.Turn.{mode-of, Never-stuck, Begun, FrameRuns, RunsUntil};
 
 // Main's frame, at the end of the memory; no frame waits for it.
-fn open_main(s: &[u8], table: &[u32; 65], memory: &mut [u64], v: usize) -> Registers
-    requires { ⌜ Loaded (now s) (now table) ⌝ }
+fn open_main(s: &[u8], index: &Index, memory: &mut [u64], v: usize) -> Registers
+    requires { ⌜ Loaded (now s) (now index) ⌝ }
     requires { ⌜ (v ≡ variablesAt (now s) (procedureAt (now s) 0)) × (v < 256) ⌝ }
     requires { ⌜ (v + 2 ≤ length (now memory)) × (length (now memory) ≤ 65536) ⌝ }
     ensures { λ r. ⌜ r .steps ≡ 0 ⌝ }
@@ -39,7 +44,7 @@ fn open_main(s: &[u8], table: &[u32; 65], memory: &mut [u64], v: usize) -> Regis
     Registers {
         procedure: 0,
         next: 0,
-        first: instruction_at(s, table[0], 0),
+        first: instruction_at(s, place_of(index, 0), 0),
         variables: v,
         base: at,
         used: 0,
@@ -64,29 +69,29 @@ fn ended(number: u8, r: Registers) -> Ended
 // One counted step of the watched machine, or of the plain one. Each library has the flag as a constant, so that neither pays for the other.
 fn turn(
     s: &[u8],
+    index: &Index,
     code: &[u8],
-    table: &[u32; 65],
     input: &[u32],
     memory: &mut [u64],
     output: &mut [u32],
     r: Registers,
     watch: bool,
 ) -> Stepped
-    requires { ⌜ Ready (now s) (now table) (now memory) r ⌝ }
+    requires { ⌜ Steppable (now s) (now index) (now code) (now memory) r ⌝ }
     ensures { λ o. ⌜ TurnIs (mode-of watch) (now (s .entry)) (now (input .entry)) (now (memory .entry)) (now (memory .exit)) (now (output .entry)) (now (output .exit)) r o ⌝ }
 {
     if watch {
-        let o = guarded_step(s, table, input, memory, output, r);
+        let o = guarded_step(s, index, code, input, memory, output, r);
         return count_step(r, o);
     }
-    step_by(s, code, table, input, memory, output, r)
+    step_by(s, index, code, input, memory, output, r)
 }
 
 // The run of one frame: to another frame, to a number of steps, or to the end. What tells the frame does not change in it, which is what makes the loop fast.
 fn run_frame(
     s: &[u8],
+    index: &Index,
     code: &[u8],
-    table: &[u32; 65],
     input: &[u32],
     memory: &mut [u64],
     output: &mut [u32],
@@ -94,7 +99,8 @@ fn run_frame(
     until: u64,
     watch: bool,
 ) -> Paused
-    requires { ⌜ Loaded (now s) (now table) ⌝ }
+    requires { ⌜ Loaded (now s) (now index) ⌝ }
+    requires { ⌜ CodeOf (now s) start (now code) ⌝ }
     requires { ⌜ Begun (mode-of watch) (now s) (now input) until (now memory) (now output) start ⌝ }
     ensures { λ p. ⌜ FrameRuns (mode-of watch) (now (s .entry)) (now (input .entry)) until (now (memory .entry)) (now (memory .exit)) (now (output .entry)) (now (output .exit)) start p ⌝ }
 {
@@ -104,7 +110,7 @@ fn run_frame(
     let base = start.base;
     let mut r = start;
     while r.steps < until {
-        match turn(s, code, table, input, memory, output, r, watch) {
+        match turn(s, index, code, input, memory, output, r, watch) {
             Stepped::Go(q) => {
                 r = Registers {
                     procedure,
@@ -135,7 +141,7 @@ fn run_frame(
 // From registers and memory that stand where a run does, to where it stands after `until` steps, or to its end.
 pub fn run_until(
     s: &[u8],
-    table: &[u32; 65],
+    index: &Index,
     input: &[u32],
     memory: &mut [u64],
     output: &mut [u32],
@@ -143,13 +149,15 @@ pub fn run_until(
     until: u64,
     watch: bool,
 ) -> Halted
-    requires { ⌜ Loaded (now s) (now table) ⌝ }
+    requires { ⌜ Loaded (now s) (now index) ⌝ }
     requires { ⌜ Begun (mode-of watch) (now s) (now input) until (now memory) (now output) start ⌝ }
     ensures { λ h. ⌜ RunsUntil (mode-of watch) (now (s .entry)) (now (input .entry)) until (now (memory .entry)) (now (memory .exit)) (now (output .entry)) (now (output .exit)) start h ⌝ }
 {
     let mut r = start;
     loop {
-        match run_frame(s, s, table, input, memory, output, r, until, watch) {
+        let first = r.first;
+        let code = instructions_of(s, first);
+        match run_frame(s, index, code, input, memory, output, r, until, watch) {
             Paused::Enter(q) => {
                 r = q;
             }
@@ -166,20 +174,19 @@ pub fn run_until(
 // A run of a sheet that is never stuck, in a memory of at most 65,536 words, which holds nothing of account before or after.
 pub fn run_in(
     s: &[u8],
-    table: &[u32; 65],
+    index: &Index,
     input: &[u32],
     fuel: u64,
     memory: &mut [u64],
     output: &mut [u32],
     watch: bool,
 ) -> Ended
-    requires { ⌜ Loaded (now s) (now table) ⌝ }
+    requires { ⌜ Loaded (now s) (now index) ⌝ }
     requires { ⌜ length (now memory) ≤ 65536 ⌝ }
     requires { ⌜ Never-stuck (run (mode-of watch) (programOf (now s)) (length (now memory)) (length (now output)) (now input) fuel) ⌝ }
     ensures { λ e. ⌜ EndedIs e (now (output .entry)) (now (output .exit)) (run (mode-of watch) (programOf (now (s .entry))) (length (now (memory .entry))) (length (now (output .entry))) (now (input .entry)) fuel) ⌝ }
 {
-    let pr = table[0];
-    let v = byte(s, pr as usize, 4) as usize;
+    let v = variables_in(procedure_word(index, 0)) as usize;
     if memory.len() < v + 2 {
         return Ended {
             number: 17,
@@ -189,8 +196,8 @@ pub fn run_in(
             instruction: 0,
         };
     }
-    let start = open_main(s, table, memory, v);
-    match run_until(s, table, input, memory, output, start, fuel, watch) {
+    let start = open_main(s, index, memory, v);
+    match run_until(s, index, input, memory, output, start, fuel, watch) {
         Halted::Rest(r) => ended(12, r),
         Halted::End(e) => e,
     }
