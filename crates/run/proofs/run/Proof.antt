@@ -1,14 +1,18 @@
 -- What check refuses is refused; an accepted sheet is never stuck, by condition 3.
 use mathlib.Core.Path.{sym, _∙_}
 use denote.Ref.{now}
+use Rattle.form.proofs.WellFormed.{form-ready}
 use Rattle.run.specs.Run.{answer, end}
 use Rattle.run.proofs.Laws.{formed-sheet, never-stuck}
 use borrow.Author.Needs.{needs}
 use Rattle.run.proofs.run.Statement.{statement}
 use Rattle.run.proofs.run.Tie as tie
 
-check-requires : tie.Need-check-requires
-check-requires c κs = search needs
+indexed-requires : tie.Need-indexed-requires
+indexed-requires c κs = search needs
+
+check-indexed-requires : tie.Need-check-indexed-requires
+check-indexed-requires c κs = search needs
 
 enum-known-number : tie.Need-enum-known-number
 enum-known-number c = search needs
@@ -22,12 +26,14 @@ enum-told c = search needs
 run-lent-requires : tie.Need-run-lent-requires
 unfolding end
 run-lent-requires c κs =
-    let a = sym (c .before .before .before .before .check .ensures) ∙ c .before .before .enum-told .given .1 in (formed-sheet _ a, λ h. never-stuck _ a _ h _ (now (c .before .before .before .before .before .before .before .before .before .args .output)) (λ k. c .before .before .before .before .before .before .before .shared-slice-known2 .given k .fits) _)
+    let a = sym (c .before .before .before .before .before .check-indexed .ensures) ∙ c .before .before .before .enum-told .given .1 in
+    let f = formed-sheet _ a in
+    (record { formed = f; ready = form-ready _ f _ (c .before .before .before .before .before .before .before .indexed .ensures) }, λ h. never-stuck _ a _ h _ (now (c .before .before .before .before .before .before .before .before .before .before .before .before .args .output)) (λ k. c .before .before .before .before .before .before .before .before .before .before .shared-slice-known2 .given k .fits) _)
 
 returns : tie.Need-returns
 unfolding answer
 returns c =
-    let e = sym (c .before .before .before .before .check .ensures) ∙ c .before .before .number .given .1 in rw (e, c .refusal .ensures)
+    let e = sym (c .before .before .before .before .check-indexed .ensures) ∙ c .before .before .number .given .1 in rw (e, c .refusal .ensures)
 
 same-length : tie.Need-same-length
 same-length c = search needs
@@ -38,13 +44,14 @@ same-length-2 c = search needs
 returns-2 : tie.Need-returns-2
 unfolding answer
 returns-2 c =
-    let a = sym (c .before .before .before .before .before .before .before .before .before .check .ensures) ∙ c .before .before .before .before .before .before .before .enum-told .given .1 in rw a (c .before .before .before .before .run-lent .ensures)
+    let a = sym (c .before .before .before .before .before .before .before .before .before .before .check-indexed .ensures) ∙ c .before .before .before .before .before .before .before .before .enum-told .given .1 in rw a (c .before .before .before .before .run-lent .ensures)
 
 pub run-spec : {M : Type 1} → statement M
 run-spec =
     tie.close
     (tie.spec
-    check-requires
+    indexed-requires
+    check-indexed-requires
     enum-known-number
     refusal-requires
     enum-told

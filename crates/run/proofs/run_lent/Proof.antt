@@ -17,13 +17,10 @@ unfolding memory-fits
 returns c =
     let f = lt-leb _ _ (c .before .if1 .taken) in rw (f, c .refusal .ensures)
 
-places-requires : tie.Need-places-requires
-places-requires c κs = search needs
-
 run-in-requires : tie.Need-run-in-requires
 unfolding end
 run-in-requires c κs =
-    (record { formed = c .before .before .before .before .before .before .before .before .before .pre .0; places = c .before .before .before .places .ensures }, (c .before .before .before .before .if1 .left, c .before .before .before .before .before .before .before .before .before .pre .1 (c .before .before .before .before .if1 .left)))
+    (c .before .before .before .before .before .before .before .pre .0, (c .before .before .if1 .left, c .before .before .before .before .before .before .before .pre .1 (c .before .before .if1 .left)))
 
 clear-requires : tie.Need-clear-requires
 clear-requires c κs = search needs
@@ -40,7 +37,7 @@ same-length-2 c = search needs
 returns-2 : tie.Need-returns-2
 unfolding memory-fits end
 returns-2 c =
-    let f = le-leb _ _ (c .before .before .before .before .before .before .before .before .before .before .before .before .before .before .if1 .left) in
+    let f = le-leb _ _ (c .before .before .before .before .before .before .before .before .before .before .before .before .if1 .left) in
     let run-in = c .before .before .before .before .before .before .before .before .before .run-in in
     let zeros = c .before .before .before .clear .ensures ∙ ap (λ (n : ℕ). replicate n 0) (run-in .kept .1 .1 .1 .1 .0) in
     rw f (answers _ _ _ _ _ _ _ (c .stop .ensures) zeros (run-in .ensures))
@@ -51,7 +48,6 @@ run-lent-spec =
     (tie.spec
     refusal-requires
     returns
-    places-requires
     run-in-requires
     clear-requires
     stop-requires

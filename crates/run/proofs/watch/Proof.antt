@@ -1,13 +1,14 @@
 -- What is not well-formed is refused; the watched machine is never stuck.
 use mathlib.Core.Path.{sym, _∙_}
 use Rattle.model.proofs.AnyProgram.{watched-not-stuck}
+use Rattle.form.proofs.WellFormed.{form-ready}
 use Rattle.run.specs.Run.{answer, end}
 use borrow.Author.Needs.{needs}
 use Rattle.run.proofs.watch.Statement.{statement}
 use Rattle.run.proofs.watch.Tie as tie
 
-places-requires : tie.Need-places-requires
-places-requires c κs = search needs
+indexed-requires : tie.Need-indexed-requires
+indexed-requires c κs = search needs
 
 well-formed-requires : tie.Need-well-formed-requires
 well-formed-requires c κs = search needs
@@ -24,7 +25,8 @@ enum-told c = search needs
 run-lent-requires : tie.Need-run-lent-requires
 unfolding end
 run-lent-requires c κs =
-    let a = sym (c .before .before .before .before .well-formed .ensures) ∙ c .before .before .enum-told .given .1 in (a, λ h. watched-not-stuck _ _ _ _ _)
+    let f = sym (c .before .before .before .before .before .well-formed .ensures) ∙ c .before .before .before .enum-told .given .1 in
+    (record { formed = f; ready = form-ready _ f _ (c .before .before .before .before .before .before .before .indexed .ensures) }, λ h. watched-not-stuck _ _ _ _ _)
 
 returns : tie.Need-returns
 unfolding answer
@@ -40,13 +42,13 @@ same-length-2 c = search needs
 returns-2 : tie.Need-returns-2
 unfolding answer
 returns-2 c =
-    let a = sym (c .before .before .before .before .before .before .before .before .before .well-formed .ensures) ∙ c .before .before .before .before .before .before .before .enum-told .given .1 in rw a (c .before .before .before .before .run-lent .ensures)
+    let a = sym (c .before .before .before .before .before .before .before .before .before .before .well-formed .ensures) ∙ c .before .before .before .before .before .before .before .before .enum-told .given .1 in rw a (c .before .before .before .before .run-lent .ensures)
 
 pub watch-spec : {M : Type 1} → statement M
 watch-spec =
     tie.close
     (tie.spec
-    places-requires
+    indexed-requires
     well-formed-requires
     enum-known-number
     refusal-requires

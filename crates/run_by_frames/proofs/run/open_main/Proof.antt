@@ -2,7 +2,6 @@
 use Prim.Native.Nat.{ℕ, zero-le}
 use mathlib.Core.Path.{ap, _∙_}
 use Rattle.sheet.specs.Layout.{instructionAt}
-use Rattle.form.proofs.Laws.{placed}
 use Rattle.run_by_frames.proofs.Begin.{begins}
 use borrow.Author.Needs.{needs}
 use Rattle.run_by_frames.proofs.run.open_main.Statement.{statement}
@@ -29,8 +28,8 @@ part-clear-end c = search needs
 clear-requires : tie.Need-clear-requires
 clear-requires c κs = search needs
 
-element-copy-out-instruction-at : tie.Need-element-copy-out-instruction-at
-element-copy-out-instruction-at c = search needs
+place-of-requires : tie.Need-place-of-requires
+place-of-requires c κs = search needs
 
 instruction-at-requires : tie.Need-instruction-at-requires
 instruction-at-requires c κs = search needs
@@ -40,13 +39,7 @@ same-length c = search needs
 
 returns : tie.Need-returns
 returns c =
-    let args = c .before .before .before .before .before .before .before .before .args in
-    let instruction-at = c .instruction-at in
-    let pre = c .before .before .before .before .before .before .before .before .pre in
-    let clear = c .before .before .before .before .clear in
-    let s = args .s .now in
-    let first = instruction-at .ensures .0 ∙ ap (λ (at : ℕ). instructionAt s at 0) (placed s (args .table .now) (pre .0 .places) 0 zero-le zero-le) in
-    (search needs, λ m input out. begins m s (args .memory .now) _ input out (args .v) _ (pre .0 .formed) (pre .1 .0 .0) (pre .1 .0 .1) (pre .1 .1 .0) (pre .1 .1 .1) first (clear .ensures))
+    let args = c .before .before .before .before .before .before .before .before .args in let pre = c .before .before .before .before .before .before .before .before .pre in let s = args .s .now in let first = c .instruction-at .ensures .0 ∙ ap (λ (at : ℕ). instructionAt s at 0) (c .before .place-of .ensures ∙ pre .0 .ready .places 0 zero-le) in (search needs, λ m input out. begins m s (args .memory .now) _ input out (args .v) _ (pre .0 .formed) (pre .1 .0 .0) (pre .1 .0 .1) (pre .1 .1 .0) (pre .1 .1 .1) first (c .before .before .before .before .clear .ensures))
 
 pub open-main-spec : {M : Type 1} → statement M
 open-main-spec =
@@ -59,7 +52,7 @@ open-main-spec =
     part-clear-start
     part-clear-end
     clear-requires
-    element-copy-out-instruction-at
+    place-of-requires
     instruction-at-requires
     same-length
     returns)

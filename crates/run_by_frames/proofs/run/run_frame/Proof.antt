@@ -4,50 +4,50 @@ use Prim.Native.Nat.{_-_, _≤_}
 use mathlib.Core.Path.{_≡_, refl, sym, _∙_}
 use lib.ListN.{length}
 use Rattle.run_by_frames.specs.Turn.{mode-of}
-use Rattle.run_by_frames.proofs.Turn.{Kept, begun-kept, kept-with, ready, halts, completes, keeps-on, enters}
+use Rattle.run_by_frames.proofs.Turn.{Kept, begun-kept, kept-with, same-code, ready, halts, completes, keeps-on, enters}
 use native.Mathlib.Omega.{arith}
 use borrow.Author.Needs.{needs}
 use Rattle.run_by_frames.proofs.run.run_frame.Statement.{statement}
 use Rattle.run_by_frames.proofs.run.run_frame.Tie as tie
 
 abbrev Inv-loop : tie.InvT-loop
-Inv-loop s code table input memory₀ output₀ until watch procedure first variables base r₀ memory output r =
+Inv-loop s index code input memory₀ output₀ until watch procedure first variables base r₀ memory output r =
     (r₀ .steps ≤ r .steps)
     × ((r .steps ≤ until)
     × ((r ≡ kept-with r₀ r) × Kept (mode-of watch) s input until (length memory₀) memory₀ output₀ r₀ memory output r))
 
 abbrev μ-loop : tie.MeasureT-loop
-μ-loop s code table input memory₀ output₀ until watch procedure first variables base r₀ memory output r = until - r .steps
+μ-loop s index code input memory₀ output₀ until watch procedure first variables base r₀ memory output r = until - r .steps
 
 loop-holds : tie.Need-loop-holds Inv-loop μ-loop
 loop-holds c =
-    (omega arith, (c .before .before .before .before .before .pre .1 .soon, (refl, λ d G. G)))
+    (omega arith, (c .before .before .before .before .before .pre .1 .1 .soon, (refl, λ d G. G)))
 
 turn-requires : tie.Need-turn-requires Inv-loop μ-loop
 turn-requires c κs =
-    ready _ _ _ _ (c .before .before .before .before .before .before .before .before .before .before .pre .0) _ (c .before .before .before .before .before .before .before .before .before .before .pre .1 .some-run) _ _ _ _ (begun-kept (c .before .before .before .before .loop .inv .1 .1 .1) (c .before .before .before .before .before .before .before .before .before .before .pre .1)) (c .before .before .if1 .taken) (c .before .before .before .before .before .before .before .before .before .before .fits .until .fits)
+    ready _ _ _ _ (c .before .before .before .before .before .before .before .before .before .before .pre .0) _ (c .before .before .before .before .before .before .before .before .before .before .pre .1 .1 .some-run) _ _ _ _ (begun-kept (c .before .before .before .before .loop .inv .1 .1 .1) (c .before .before .before .before .before .before .before .before .before .before .pre .1 .1)) (c .before .before .if1 .taken) (c .before .before .before .before .before .before .before .before .before .before .fits .until .fits) _ (same-code _ (c .before .before .before .before .before .before .before .before .before .before .args .start) _ _ (c .before .before .before .before .loop .inv .1 .1 .0) (c .before .before .before .before .before .before .before .before .before .before .pre .1 .0))
 
 enum-known-q : tie.Need-enum-known-q Inv-loop μ-loop
 enum-known-q c = search needs
 
 loop-less : tie.Need-loop-less Inv-loop μ-loop
 loop-less c =
-    let a = keeps-on (c .before .before .before .before .before .before .before .before .before .before .before .before .before .before .before .before .before .before .pre .0) (c .before .before .before .before .before .before .before .before .before .before .before .before .loop .inv .1 .1 .1) (c .before .before .before .before .before .before .before .before .before .before .before .before .before .before .before .before .before .before .pre .1) (c .before .before .before .before .before .before .before .before .before .before .if1 .taken) (c .before .before .before .before .before .before .before .turn .ensures) (c .before .before .before .before .before .before .before .turn .kept .1 .1 .1 .1 .0) (c .before .before .before .before .before .before .before .turn .kept .1 .1 .1 .1 .1 .0) _ (c .before .before .before .before .before .before .before .before .before .before .before .before .loop .inv .1 .1 .0) (c .before .q .given .1) .0 in omega arith
+    let a = keeps-on (c .before .before .before .before .before .before .before .before .before .before .before .before .before .before .before .before .before .before .pre .0) (c .before .before .before .before .before .before .before .before .before .before .before .before .loop .inv .1 .1 .1) (c .before .before .before .before .before .before .before .before .before .before .before .before .before .before .before .before .before .before .pre .1 .1) (c .before .before .before .before .before .before .before .before .before .before .if1 .taken) (c .before .before .before .before .before .before .before .turn .ensures) (c .before .before .before .before .before .before .before .turn .kept .1 .1 .1 .1 .0) (c .before .before .before .before .before .before .before .turn .kept .1 .1 .1 .1 .1 .0) _ (c .before .before .before .before .before .before .before .before .before .before .before .before .loop .inv .1 .1 .0) (c .before .q .given .1) .0 in omega arith
 
 loop-again : tie.Need-loop-again Inv-loop μ-loop
 loop-again c =
-    let a = keeps-on (c .before .before .before .before .before .before .before .before .before .before .before .before .before .before .before .before .before .before .pre .0) (c .before .before .before .before .before .before .before .before .before .before .before .before .loop .inv .1 .1 .1) (c .before .before .before .before .before .before .before .before .before .before .before .before .before .before .before .before .before .before .pre .1) (c .before .before .before .before .before .before .before .before .before .before .if1 .taken) (c .before .before .before .before .before .before .before .turn .ensures) (c .before .before .before .before .before .before .before .turn .kept .1 .1 .1 .1 .0) (c .before .before .before .before .before .before .before .turn .kept .1 .1 .1 .1 .1 .0) _ (c .before .before .before .before .before .before .before .before .before .before .before .before .loop .inv .1 .1 .0) (c .before .q .given .1) in let e = a .0 in let h = c .before .before .before .before .before .before .before .before .before .before .before .before .loop .inv .0 in (omega arith, (omega arith, (refl, a .1)))
+    let a = keeps-on (c .before .before .before .before .before .before .before .before .before .before .before .before .before .before .before .before .before .before .pre .0) (c .before .before .before .before .before .before .before .before .before .before .before .before .loop .inv .1 .1 .1) (c .before .before .before .before .before .before .before .before .before .before .before .before .before .before .before .before .before .before .pre .1 .1) (c .before .before .before .before .before .before .before .before .before .before .if1 .taken) (c .before .before .before .before .before .before .before .turn .ensures) (c .before .before .before .before .before .before .before .turn .kept .1 .1 .1 .1 .0) (c .before .before .before .before .before .before .before .turn .kept .1 .1 .1 .1 .1 .0) _ (c .before .before .before .before .before .before .before .before .before .before .before .before .loop .inv .1 .1 .0) (c .before .q .given .1) in let e = a .0 in let h = c .before .before .before .before .before .before .before .before .before .before .before .before .loop .inv .0 in (omega arith, (omega arith, (refl, a .1)))
 
 enum-known-q-2 : tie.Need-enum-known-q-2 Inv-loop μ-loop
 enum-known-q-2 c = search needs
 
 same-length : tie.Need-same-length Inv-loop μ-loop
 same-length c =
-    c .before .before .before .before .before .before .before .turn .kept .1 .1 .1 .1 .0 ∙ begun-kept (c .before .before .before .before .before .before .before .before .before .before .before .before .loop .inv .1 .1 .1) (c .before .before .before .before .before .before .before .before .before .before .before .before .before .before .before .before .before .before .pre .1) .long
+    c .before .before .before .before .before .before .before .turn .kept .1 .1 .1 .1 .0 ∙ begun-kept (c .before .before .before .before .before .before .before .before .before .before .before .before .loop .inv .1 .1 .1) (c .before .before .before .before .before .before .before .before .before .before .before .before .before .before .before .before .before .before .pre .1 .1) .long
 
 same-length-2 : tie.Need-same-length-2 Inv-loop μ-loop
 same-length-2 c =
-    c .before .before .before .before .before .before .before .turn .kept .1 .1 .1 .1 .1 .0 ∙ begun-kept (c .before .before .before .before .before .before .before .before .before .before .before .before .loop .inv .1 .1 .1) (c .before .before .before .before .before .before .before .before .before .before .before .before .before .before .before .before .before .before .pre .1) .put-long ∙ sym (c .before .before .before .before .before .before .before .before .before .before .before .before .before .before .before .before .before .before .pre .1 .going .put-long)
+    c .before .before .before .before .before .before .before .turn .kept .1 .1 .1 .1 .1 .0 ∙ begun-kept (c .before .before .before .before .before .before .before .before .before .before .before .before .loop .inv .1 .1 .1) (c .before .before .before .before .before .before .before .before .before .before .before .before .before .before .before .before .before .before .pre .1 .1) .put-long ∙ sym (c .before .before .before .before .before .before .before .before .before .before .before .before .before .before .before .before .before .before .pre .1 .1 .going .put-long)
 
 returns : tie.Need-returns Inv-loop μ-loop
 returns c =
@@ -61,11 +61,11 @@ ended-requires c κs = search needs
 
 same-length-3 : tie.Need-same-length-3 Inv-loop μ-loop
 same-length-3 c =
-    c .before .before .before .before .before .before .before .before .turn .kept .1 .1 .1 .1 .0 ∙ begun-kept (c .before .before .before .before .before .before .before .before .before .before .before .before .before .loop .inv .1 .1 .1) (c .before .before .before .before .before .before .before .before .before .before .before .before .before .before .before .before .before .before .before .pre .1) .long
+    c .before .before .before .before .before .before .before .before .turn .kept .1 .1 .1 .1 .0 ∙ begun-kept (c .before .before .before .before .before .before .before .before .before .before .before .before .before .loop .inv .1 .1 .1) (c .before .before .before .before .before .before .before .before .before .before .before .before .before .before .before .before .before .before .before .pre .1 .1) .long
 
 same-length-4 : tie.Need-same-length-4 Inv-loop μ-loop
 same-length-4 c =
-    c .before .before .before .before .before .before .before .before .turn .kept .1 .1 .1 .1 .1 .0 ∙ begun-kept (c .before .before .before .before .before .before .before .before .before .before .before .before .before .loop .inv .1 .1 .1) (c .before .before .before .before .before .before .before .before .before .before .before .before .before .before .before .before .before .before .before .pre .1) .put-long ∙ sym (c .before .before .before .before .before .before .before .before .before .before .before .before .before .before .before .before .before .before .before .pre .1 .going .put-long)
+    c .before .before .before .before .before .before .before .before .turn .kept .1 .1 .1 .1 .1 .0 ∙ begun-kept (c .before .before .before .before .before .before .before .before .before .before .before .before .before .loop .inv .1 .1 .1) (c .before .before .before .before .before .before .before .before .before .before .before .before .before .before .before .before .before .before .before .pre .1 .1) .put-long ∙ sym (c .before .before .before .before .before .before .before .before .before .before .before .before .before .before .before .before .before .before .before .pre .1 .1 .going .put-long)
 
 returns-2 : tie.Need-returns-2 Inv-loop μ-loop
 returns-2 c =
@@ -83,11 +83,11 @@ ended-requires-2 c κs = search needs
 
 same-length-5 : tie.Need-same-length-5 Inv-loop μ-loop
 same-length-5 c =
-    c .before .before .before .before .before .before .before .before .turn .kept .1 .1 .1 .1 .0 ∙ begun-kept (c .before .before .before .before .before .before .before .before .before .before .before .before .before .loop .inv .1 .1 .1) (c .before .before .before .before .before .before .before .before .before .before .before .before .before .before .before .before .before .before .before .pre .1) .long
+    c .before .before .before .before .before .before .before .before .turn .kept .1 .1 .1 .1 .0 ∙ begun-kept (c .before .before .before .before .before .before .before .before .before .before .before .before .before .loop .inv .1 .1 .1) (c .before .before .before .before .before .before .before .before .before .before .before .before .before .before .before .before .before .before .before .pre .1 .1) .long
 
 same-length-6 : tie.Need-same-length-6 Inv-loop μ-loop
 same-length-6 c =
-    c .before .before .before .before .before .before .before .before .turn .kept .1 .1 .1 .1 .1 .0 ∙ begun-kept (c .before .before .before .before .before .before .before .before .before .before .before .before .before .loop .inv .1 .1 .1) (c .before .before .before .before .before .before .before .before .before .before .before .before .before .before .before .before .before .before .before .pre .1) .put-long ∙ sym (c .before .before .before .before .before .before .before .before .before .before .before .before .before .before .before .before .before .before .before .pre .1 .going .put-long)
+    c .before .before .before .before .before .before .before .before .turn .kept .1 .1 .1 .1 .1 .0 ∙ begun-kept (c .before .before .before .before .before .before .before .before .before .before .before .before .before .loop .inv .1 .1 .1) (c .before .before .before .before .before .before .before .before .before .before .before .before .before .before .before .before .before .before .before .pre .1 .1) .put-long ∙ sym (c .before .before .before .before .before .before .before .before .before .before .before .before .before .before .before .before .before .before .before .pre .1 .1 .going .put-long)
 
 returns-3 : tie.Need-returns-3 Inv-loop μ-loop
 returns-3 c =
@@ -95,11 +95,11 @@ returns-3 c =
 
 same-length-7 : tie.Need-same-length-7 Inv-loop μ-loop
 same-length-7 c =
-    begun-kept (c .before .before .loop .inv .1 .1 .1) (c .before .before .before .before .before .before .before .before .pre .1) .long
+    begun-kept (c .before .before .loop .inv .1 .1 .1) (c .before .before .before .before .before .before .before .before .pre .1 .1) .long
 
 same-length-8 : tie.Need-same-length-8 Inv-loop μ-loop
 same-length-8 c =
-    begun-kept (c .before .before .loop .inv .1 .1 .1) (c .before .before .before .before .before .before .before .before .pre .1) .put-long ∙ sym (c .before .before .before .before .before .before .before .before .pre .1 .going .put-long)
+    begun-kept (c .before .before .loop .inv .1 .1 .1) (c .before .before .before .before .before .before .before .before .pre .1 .1) .put-long ∙ sym (c .before .before .before .before .before .before .before .before .pre .1 .1 .going .put-long)
 
 returns-4 : tie.Need-returns-4 Inv-loop μ-loop
 returns-4 c =

@@ -1,30 +1,25 @@
--- Main's variables are counted where the table says that main stands; with room for its frame the run is that of its frames with all the fuel, and else there is none.
-use Prim.Native.Nat.{ℕ, _+_, _≤_, _<_, zero-le}
+-- Main's variables are counted in its word of the index; with room for its frame the run is that of its frames with all the fuel, and else there is none.
+use Prim.Native.Nat.{ℕ, _+_, _≤_, _<_}
 use mathlib.Core.Path.{_≡_, refl, ap, _∙_}
-use native.Mathlib.Omega.{arith}
 use lib.ListN.{length}
 use denote.Ref.{now}
 use Rattle.model.specs.Run.{opened}
-use Rattle.sheet.specs.Bytes.{byteAt}
 use Rattle.sheet.specs.Layout.{variablesAt, procedureAt}
-use Rattle.form.proofs.Laws.{placed, procedure-small}
+use Rattle.index.specs.Procedures.{variables-of}
+use Rattle.form.proofs.WellFormed.{form-small}
 use Rattle.run_by_frames.specs.Reply.{ended}
 use Rattle.run_by_frames.specs.Turn.{mode-of, Going}
 use Rattle.run_by_frames.proofs.Turn.{no-room, starts, begins-frame, begun, rested, stopped-run}
+use native.Mathlib.Omega.{arith}
 use borrow.Author.Needs.{needs}
 use Rattle.run_by_frames.proofs.run.run_in.Statement.{statement}
 use Rattle.run_by_frames.proofs.run.run_in.Tie as tie
 
-element-copy-out-pr : tie.Need-element-copy-out-pr
-element-copy-out-pr c = search needs
+procedure-word-requires : tie.Need-procedure-word-requires
+procedure-word-requires c κs = search needs
 
-cast-byte : tie.Need-cast-byte
-cast-byte c =
-    let a = c .before .before .before .before .before in
-    omega (arith, placed (a .args .s .now) (a .args .table .now) (a .pre .0 .places) 0 zero-le zero-le, procedure-small (a .args .s .now) (λ i. c .before .before .before .before .shared-slice-known .given i .fits) 0)
-
-byte-requires : tie.Need-byte-requires
-byte-requires c κs = search needs
+variables-in-requires : tie.Need-variables-in-requires
+variables-in-requires c κs = search needs
 
 cast-v : tie.Need-cast-v
 cast-v c = search needs
@@ -32,11 +27,11 @@ cast-v c = search needs
 add-if1 : tie.Need-add-if1
 add-if1 c = search needs
 
-main-variables : (c : tie.After-byte) → c .byte .result ≡ variablesAt (c .before .before .before .before .before .before .args .s .now) (procedureAt (c .before .before .before .before .before .before .args .s .now) 0)
-unfolding variablesAt
+main-variables : (c : tie.After-variables-in) → c .variables-in .result ≡ variablesAt (c .before .before .before .before .before .before .args .s .now) (procedureAt (c .before .before .before .before .before .before .args .s .now) 0)
 main-variables c =
-    let a = c .before .before .before .before .before .before in
-    c .byte .ensures ∙ ap (λ (at : ℕ). byteAt (a .args .s .now) at 4) (placed (a .args .s .now) (a .args .table .now) (a .pre .0 .places) 0 zero-le zero-le)
+    let args = c .before .before .before .before .before .before .args in
+    let loaded = c .before .before .before .before .before .before .pre .0 in
+    c .variables-in .ensures ∙ ap variables-of (c .before .procedure-word .ensures) ∙ loaded .ready .procedures 0 (form-small (args .s .now) (loaded .formed) .2) .variables
 
 returns : tie.Need-returns
 returns c =
@@ -81,7 +76,7 @@ same-length-2 c = search needs
 
 returns-2 : tie.Need-returns-2
 returns-2 c =
-    let is = c .before .before .r .given .1 in rw (c .ended .ensures, ← c .before .before .before .before .before .before .before .before .before .before .before .before .before .open-main .kept .1 .1 .0) (rested (going (c .before .before .before .before .before .before .before .before .before .before .before .before .before)) _ _ _ (c .before .before .before .before .before .before .before .before .run-until .ensures) _ is)
+    rw (c .ended .ensures, ← c .before .before .before .before .before .before .before .before .before .before .before .before .before .open-main .kept .1 .1 .0) (rested (going (c .before .before .before .before .before .before .before .before .before .before .before .before .before)) _ _ _ (c .before .before .before .before .before .before .before .before .run-until .ensures) _ (c .before .before .r .given .1))
 
 same-length-3 : tie.Need-same-length-3
 same-length-3 c = search needs
@@ -97,9 +92,8 @@ pub run-in-spec : {M : Type 1} → statement M
 run-in-spec =
     tie.close
     (tie.spec
-    element-copy-out-pr
-    cast-byte
-    byte-requires
+    procedure-word-requires
+    variables-in-requires
     cast-v
     add-if1
     returns

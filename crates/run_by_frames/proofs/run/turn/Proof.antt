@@ -4,7 +4,8 @@ use Rattle.run_by_frames.proofs.run.turn.Statement.{statement}
 use Rattle.run_by_frames.proofs.run.turn.Tie as tie
 
 guarded-step-requires : tie.Need-guarded-step-requires
-guarded-step-requires c κs = search needs
+guarded-step-requires c κs =
+    (c .before .before .before .before .before .before .before .before .pre .loaded, (c .before .before .before .before .before .before .before .before .pre .sane, (c .before .before .before .before .before .before .before .before .pre .fetchable, c .before .before .before .before .before .before .before .before .pre .part)))
 
 count-step-requires : tie.Need-count-step-requires
 count-step-requires c κs = search needs
@@ -17,7 +18,7 @@ same-length-2 c = search needs
 
 returns : tie.Need-returns
 returns c =
-    let did = c .before .before .before .before .before .guarded-step .ensures in rw (c .before .before .before .before .before .before .before .before .if1 .taken) (record { stepped = c .before .before .before .before .before .guarded-step .result; performs = did; counts = c .count-step .ensures })
+    rw (c .before .before .before .before .before .before .before .before .if1 .taken) (record { stepped = c .before .before .before .before .before .guarded-step .result; performs = c .before .before .before .before .before .guarded-step .ensures; counts = c .count-step .ensures })
 
 step-by-requires : tie.Need-step-by-requires
 step-by-requires c κs = search needs
