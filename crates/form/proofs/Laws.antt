@@ -13,8 +13,7 @@ use Rattle.model.specs.Refusal.{torn, stray-mark, bad-edition, off-scale, Tests
 use Rattle.model.specs.declared.Verdict.the-variants.{Accepted}
 use Rattle.model.proofs.Verdicts.{left-accepted, right-accepted, accepted-tests, passed-test, both-true, all-held}
 use Rattle.sheet.specs.Bytes.{byteAt, wordAt, wholeAt, Mark, mark, markedAt}
-use Rattle.sheet.specs.Layout.{hd-mark, editionOf, typesOf, qualsOf, qualAt, proceduresOf, formalsAt, variablesAt, instructionsAt, variableAt, instructionAt, codeAt, kAt, procedureAt}
-use Rattle.sheet.specs.Inner.Places.{Places}
+use Rattle.sheet.specs.Layout.{hd-mark, editionOf, typesOf, qualsOf, proceduresOf, formalsAt, variablesAt, instructionAt, codeAt, kAt, procedureAt}
 use Rattle.sheet.specs.Reader.{recordAt, pastAt, leftAt}
 use Rattle.sheet.proofs.Laws.{whole-true, record-inside, record-byte, hd-sized}
 use Rattle.limits.specs.declared.Limits.{Limits}
@@ -59,18 +58,6 @@ module _ (s : List ℕ) (end n : ℕ) (b : 8 ≤ end) (e : pastAt s (end - 8) �
   some-left z q = omega (arith, record-inside s (end - 8), e, h, z)
 
 -- ---- places
-pub placed : (s table : List ℕ) → Places s table → (k : ℕ) → k ≤ proceduresOf s → k ≤ 64 → getD table k 0 ≡ procedureAt s k
-unfolding Places
-placed s table h = h
-
--- in a list of bytes the procedures' places are small
-pub procedure-small : (s : List ℕ) → ((k : ℕ) → getD s k 0 < 256) → (p : ℕ) → procedureAt s p ≤ 5000 + 600000 * p
-unfolding procedureAt qualAt qualsOf typesOf instructionAt instructionsAt variableAt variablesAt wordAt byteAt
-procedure-small s b zero = omega (arith, b (0 + 3), b (0 + 4))
-procedure-small s b (suc p) =
-    let pr = procedureAt s p in
-    omega (arith, procedure-small s b p, b (pr + 4), b (pr + 6), b (pr + (6 + 1)))
-
 -- counted from the first instruction's place
 pub instruction-from : (s : List ℕ) (pr first i : ℕ) → first ≡ instructionAt s pr 0 → first + 8 * i ≡ instructionAt s pr i
 unfolding instructionAt

@@ -7,9 +7,8 @@ use mathlib.Core.Bool.{Bool, true, false, _&&_, cond}
 use native.Mathlib.Omega.{arith}
 use native.Mathlib.Numerals.{add-one}
 use lib.Dec.{leb, ltb, eqb}
-use lib.ListN.{length, getD, set, take, drop, length-take, length-drop}
-use lib.Seq.{getD-set-same, getD-set-other, getD-take, getD-drop, length-take-le}
-use borrow.Author.Count.{below-more}
+use lib.ListN.{length, getD, take, drop, length-take, length-drop}
+use lib.Seq.{getD-take, getD-drop, length-take-le}
 use borrow.Author.Tests.{leb-true, leb-false, le-leb, lt-leb, ltb-true, ltb-false, eqb-true}
 use Rattle.model.proofs.Verdicts.{both-true}
 use Rattle.sheet.specs.Bytes.{byteAt, wholeAt, mark, markedAt}
@@ -91,13 +90,6 @@ module _ (s : List ℕ) (at n : ℕ) (z : sizeAt s at ≡ n) (w : wholeAt s at n
       rw (z, w, e) (getD-take n (drop at s) k 0 l ∙ getD-drop at s k 0)
 
 -- ---- the places of procedures
--- a table whose first i entries are those of f, and one entry more
-pub filled-more : (f : ℕ → ℕ) (i v : ℕ) (l : List ℕ) → i < length l → v ≡ f i
-    → ((k : ℕ) → k < i → getD l k 0 ≡ f k) → (k : ℕ) → k < i + 1 → getD (set l i v) k 0 ≡ f k
-filled-more f i v l h e g =
-    below-more (λ k. getD (set l i v) k 0 ≡ f k) i
-    (λ k b. let n : k ≡ i → ⊥ = (λ q. omega arith) in getD-set-other l i k v 0 n ∙ g k b) (getD-set-same l i v 0 h ∙ e)
-
 -- the next procedure starts where the instructions of this one end
 pub procedure-next : (s : List ℕ) (i at : ℕ) → at ≡ procedureAt s i → instructionAt s at (instructionsAt s at) ≡ procedureAt s (i + 1)
 unfolding procedureAt

@@ -4,4 +4,3 @@ pub mod Reader
 pub mod Instructions
 pub mod Decode
 pub mod Meaning
-pub mod Inner

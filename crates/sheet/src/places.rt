@@ -1,10 +1,8 @@
 // Where the records of a sheet start. A procedure's place is a u32: 64 procedures of any size end far below 2^32.
 use crate::bytes::byte;
-use crate::bytes::word;
 ghost use mathlib.Core.Path.{_≡_};
 ghost use Prim.Native.Nat.{_+_, _<_};
 ghost use Rattle.sheet.specs.Layout.{typeAt, qualAt, variableAt, instructionAt};
-ghost use Rattle.sheet.specs.Inner.Places.{Places};
 
 // Where the TY of a type stands.
 pub fn type_at(t: u8) -> usize
@@ -37,21 +35,4 @@ pub fn instruction_at(s: &[u8], pr: u32, i: u16) -> usize
     ensures { λ r. ⌜ r < pr + 600000 ⌝ }
 {
     (pr as usize) + (8 + 4 * (byte(s, pr as usize, 4) as usize)) + 8 * (i as usize)
-}
-
-// The place of each procedure, and where the last one ends.
-pub fn places(s: &[u8]) -> [u32; 65]
-    ensures { λ r. ⌜ Places (now (s .entry)) r ⌝ }
-{
-    let mut table = [0u32; 65];
-    let p = byte(s, 0, 5) as usize;
-    let mut at = qual_at(s, byte(s, 0, 4)) as u32;
-    let mut i = 0;
-    while (i < p) & (i < 64) {
-        table[i] = at;
-        at = instruction_at(s, at, word(s, at as usize, 6)) as u32;
-        i += 1;
-    }
-    table[i] = at;
-    table
 }
