@@ -44,7 +44,7 @@ fn stop(e: Ended) -> Reply
     ensures { λ r. ⌜ r ≡ stopped-at (e .number) (e .steps) (e .put) (e .procedure) (e .instruction) ⌝ }
 {
     Reply {
-        number: e.number as u64,
+        number: e.number,
         place: 0,
         steps: e.steps,
         put: e.put as u64,

@@ -3,9 +3,9 @@ pub mod run; // from main's frame to the stop, or to a number of steps
 
 use writers::Registers;
 
-// How a run ended: the number of the stop, steps, words put, procedure and instruction.
+// How a run ended: the number of the stop, steps, words put, procedure and instruction. With a number of 8 bits the compiler makes the loop slower.
 pub struct Ended {
-    pub number: u8,
+    pub number: u64,
     pub steps: u64,
     pub put: usize,
     pub procedure: usize,

@@ -58,7 +58,7 @@ fn ended(number: u8, r: Registers) -> Ended
     ensures { λ e. ⌜ e ≡ record { number = number; steps = r .steps; put = r .put; procedure = r .procedure; instruction = r .next } ⌝ }
 {
     Ended {
-        number,
+        number: number as u64,
         steps: r.steps,
         put: r.put,
         procedure: r.procedure,
