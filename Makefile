@@ -58,16 +58,8 @@ demo: checker command
 test:
 	@scripts/test.sh
 
-# A copy of a library whose functions start lines of the cache: what else is linked then does not move its loops, which
-# changes their times by up to a fifth.
-aligned := $(patsubst build/%,build/aligned/%,$(libraries))
-
-build/aligned/%.a: build/%.a
-	@mkdir -p build/aligned
-	objcopy --set-section-alignment '.text.*=64' $< $@
-
-bench: $(aligned)
-	cd rust && WENNATHIG_LIB_DIR=$(CURDIR)/build/aligned cargo run --release --offline -p bench -- ../docs/bench
+bench: lib
+	cd rust && cargo run --release --offline -p bench -- ../docs/bench
 
 # What is installed, under DESTDIR (for packages) and PREFIX. `uninstall` removes these files, and no folder.
 PREFIX ?= /usr/local

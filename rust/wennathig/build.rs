@@ -11,6 +11,8 @@ fn main() {
     // Another folder may be named, to try the tests on changed libraries.
     let folder = env::var_os("WENNATHIG_LIB_DIR").map_or(beside, PathBuf::from);
     println!("cargo:rustc-link-search=native={}", folder.display());
+    // The benchmark copies them.
+    println!("cargo:folder={}", folder.display());
     for library in ["wennathig", "wennathig_watch"] {
         let archive = folder.join(format!("lib{library}.a"));
         println!("cargo:rerun-if-changed={}", archive.display());

@@ -1,6 +1,7 @@
 //! The proved check beside the second engine.
 
 use crate::count;
+use crate::places::Place;
 use crate::sheets::{largest, small, Named};
 use crate::timing::{Call, Rounds, FEW, MANY};
 use comparison::agreed;
@@ -56,8 +57,11 @@ fn table<const COUNT: usize>(
     count: fn(&str) -> Option<u64>,
 ) -> Vec<(&'static str, Rounds<2>)> {
     heading();
-    let calls = sheets.each_ref().map(|(_, sheet)| calls(sheet));
-    let all = sheets.iter().zip(Rounds::measured(rounds, calls));
+    for (_, sheet) in &sheets {
+        agreed(sheet).unwrap_or_else(|fault| panic!("{fault}"));
+    }
+    let at = |place| sheets.each_ref().map(|(_, sheet)| calls(place, sheet));
+    let all = sheets.iter().zip(Rounds::measured(rounds, at));
     let row = |((name, sheet), rounds): (&Named, Rounds<2>)| {
         show(name, sheet.len(), &rounds, count(name));
         (*name, rounds)
@@ -65,12 +69,11 @@ fn table<const COUNT: usize>(
     all.map(row).collect()
 }
 
-/// The proved check and the second engine's, which agree.
-fn calls(sheet: &[u8]) -> [Call<'_>; 2] {
-    agreed(sheet).unwrap_or_else(|fault| panic!("{fault}"));
+/// The proved check and the second engine's.
+fn calls<'a>(place: &'a Place, sheet: &'a [u8]) -> [Call<'a>; 2] {
     [
         Box::new(|| {
-            black_box(wennathig::check(black_box(sheet)));
+            black_box((place.check)(black_box(sheet), &mut [0]));
         }),
         Box::new(|| {
             black_box(reference::check(black_box(sheet)));

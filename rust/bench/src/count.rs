@@ -5,6 +5,7 @@
 //! all starting and ending, is not in the difference.
 
 use crate::engines::{Engine, LOOP_MEMORY};
+use crate::places::PLACES;
 use crate::sheets;
 use std::env;
 use std::hint::black_box;
@@ -18,9 +19,10 @@ const CHECK: &str = "check";
 /// Does the work: a number of checks, or the steps of an engine.
 pub fn work(what: &str, sheet: &str, amount: u64) {
     let sheet = sheets::named(sheet).expect("the name of a sheet");
+    let place = &PLACES[0];
     if what == CHECK {
         for _ in 0..amount {
-            black_box(wennathig::check(black_box(&sheet)));
+            black_box((place.check)(black_box(&sheet), &mut [0]));
         }
         return;
     }
@@ -28,7 +30,7 @@ pub fn work(what: &str, sheet: &str, amount: u64) {
     let engine = engines.find(|engine| engine.name() == what);
     engine
         .expect("the name of an engine")
-        .call(&sheet, amount, LOOP_MEMORY)();
+        .call(place, &sheet, amount, LOOP_MEMORY)();
 }
 
 /// Whether there is something to count with.

@@ -1,9 +1,10 @@
 //! The engines that run a sheet.
 
 use crate::interpreter::Accepted;
+use crate::places::Place;
 use crate::timing::Call;
 use std::hint::black_box;
-use wennathig::{run_into, watch_into, Machine};
+use wennathig::Machine;
 
 /// Words of memory in every run of a loop.
 pub const LOOP_MEMORY: usize = 64;
@@ -33,15 +34,21 @@ impl Engine {
     }
 
     /// A call that runs an accepted sheet for so many steps at most.
-    pub fn call(self, sheet: &[u8], steps: u64, memory_words: usize) -> Call<'_> {
+    pub fn call<'a>(
+        self,
+        place: &'a Place,
+        sheet: &'a [u8],
+        steps: u64,
+        memory_words: usize,
+    ) -> Call<'a> {
         let mut memory = vec![0; memory_words];
         let mut proved = move |machine: Machine| {
             let (sheet, memory) = (black_box(sheet), black_box(&mut memory));
             machine(sheet, &[], steps, memory, &mut [], &mut [0; 5]);
         };
         match self {
-            Engine::Run => Box::new(move || proved(run_into)),
-            Engine::Watch => Box::new(move || proved(watch_into)),
+            Engine::Run => Box::new(move || proved(place.run)),
+            Engine::Watch => Box::new(move || proved(place.watch)),
             Engine::Second => Box::new(move || {
                 let sheet = black_box(sheet);
                 black_box(reference::run(sheet, &[], steps, memory_words, &mut []));
@@ -51,7 +58,8 @@ impl Engine {
                 let mut memory = vec![0; memory_words];
                 Box::new(move || {
                     let memory = black_box(&mut memory);
-                    accepted.run_into(&[], black_box(steps), memory, &mut [], &mut [0; 5]);
+                    let steps = black_box(steps);
+                    accepted.run_into(place.plain, &[], steps, memory, &mut [], &mut [0; 5]);
                 })
             }
         }

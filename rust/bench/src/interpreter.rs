@@ -3,19 +3,38 @@
 use reference::machine::MAX_MEMORY;
 use reference::{check, Verdict};
 
-extern "C" {
-    fn bench_run(
-        sheet: *const u8,
-        reads: *const u32,
-        reads_len: usize,
-        fuel: u64,
-        memory: *mut u64,
-        memory_len: usize,
-        report: *mut u32,
-        report_len: usize,
-        reply: *mut u64,
-    ) -> u64;
+/// The interpreter in C.
+pub type Interpreter = unsafe extern "C" fn(
+    sheet: *const u8,
+    reads: *const u32,
+    reads_len: usize,
+    fuel: u64,
+    memory: *mut u64,
+    memory_len: usize,
+    report: *mut u32,
+    report_len: usize,
+    reply: *mut u64,
+) -> u64;
+
+/// Declares it under a name.
+macro_rules! interpreter {
+    ($function:ident) => {
+        extern "C" {
+            pub fn $function(
+                sheet: *const u8,
+                reads: *const u32,
+                reads_len: usize,
+                fuel: u64,
+                memory: *mut u64,
+                memory_len: usize,
+                report: *mut u32,
+                report_len: usize,
+                reply: *mut u64,
+            ) -> u64;
+        }
+    };
 }
+pub(crate) use interpreter;
 
 /// A sheet that the interpreter may be given.
 pub struct Accepted<'a>(&'a [u8]);
@@ -28,6 +47,7 @@ impl<'a> Accepted<'a> {
     /// Like [`wennathig::run_into`].
     pub fn run_into(
         &self,
+        interpreter: Interpreter,
         input: &[u32],
         fuel: u64,
         memory: &mut [u64],
@@ -39,7 +59,7 @@ impl<'a> Accepted<'a> {
         // on; the pointers are those of live slices with the lengths given,
         // and those written to are lent exclusively.
         unsafe {
-            bench_run(
+            interpreter(
                 self.0.as_ptr(),
                 input.as_ptr(),
                 input.len(),
@@ -57,6 +77,7 @@ impl<'a> Accepted<'a> {
 #[cfg(test)]
 mod tests {
     use super::Accepted;
+    use crate::places::PLACES;
     use generator::handwritten::runs::cases;
     use reference::Outcome;
 
@@ -72,7 +93,9 @@ mod tests {
             let sheet = Accepted::new(&run.sheet).expect("the sheet is run");
             let (mut memory, mut output) = (vec![7; run.memory_words], run.output.clone());
             let mut reply = [7; 5];
-            let number = sheet.run_into(&run.input, run.fuel, &mut memory, &mut output, &mut reply);
+            let (input, fuel) = (&run.input, run.fuel);
+            let plain = PLACES[made % PLACES.len()].plain;
+            let number = sheet.run_into(plain, input, fuel, &mut memory, &mut output, &mut reply);
             let found = (Outcome::from_reply(number, reply), output);
             assert_eq!(found, (Some(expected), due), "{}", case.name);
             assert!(memory.iter().all(|&word| word == 0), "{}", case.name);

@@ -9,6 +9,7 @@ mod clock;
 mod count;
 mod engines;
 mod interpreter;
+mod places;
 mod runs;
 mod sheets;
 mod timing;

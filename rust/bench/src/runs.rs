@@ -4,13 +4,13 @@
 use crate::count;
 use crate::engines::{Engine, LOOP_MEMORY};
 use crate::interpreter::Accepted;
+use crate::places::{Place, PLACES};
 use crate::sheets::loops;
 use crate::timing::{geometric_mean, Call, Rounds, Spread, FEW, MANY};
 use generator::handwritten::SMALLEST;
 use generator::loops::fetch_and_store;
 use reference::machine::MAX_MEMORY;
 use reference::Outcome;
-use wennathig::{run_into, watch_into};
 
 /// The steps of a timed run: enough that its start and its end do not count.
 const STEPS: u64 = 100_000;
@@ -38,9 +38,13 @@ pub struct Runs {
 pub fn report() -> Runs {
     let sheets = loops();
     sheets.iter().for_each(|(_, sheet)| same_outcomes(sheet));
-    let calls = sheets.each_ref().map(|(_, sheet)| calls(sheet, STEPS));
+    let at = |place| {
+        sheets
+            .each_ref()
+            .map(|(_, sheet)| calls(place, sheet, STEPS))
+    };
     let names = sheets.iter().map(|(name, _)| *name);
-    let loops: Vec<(&str, Times)> = names.zip(Rounds::measured(MANY, calls)).collect();
+    let loops: Vec<(&str, Times)> = names.zip(Rounds::measured(MANY, at)).collect();
     show_times(&loops);
     println!();
     println!("Loops: ratios of the times of a round, the median and the quartiles");
@@ -58,8 +62,8 @@ pub fn report() -> Runs {
     Runs { loops, growth }
 }
 
-fn calls(sheet: &[u8], steps: u64) -> [Call<'_>; 4] {
-    Engine::ALL.map(|engine| engine.call(sheet, steps, LOOP_MEMORY))
+fn calls<'a>(place: &'a Place, sheet: &'a [u8], steps: u64) -> [Call<'a>; 4] {
+    Engine::ALL.map(|engine| engine.call(place, sheet, steps, LOOP_MEMORY))
 }
 
 /// The spread of an engine's time over that of another.
@@ -121,7 +125,7 @@ fn against_steps() -> Vec<(u64, Times)> {
     show("steps", names(Engine::ALL));
     let sheet = fetch_and_store().encode();
     let steps = [62_500, 125_000, 250_000, 500_000, 1_000_000];
-    let all = Rounds::measured(FEW, steps.map(|steps| calls(&sheet, steps)));
+    let all = Rounds::measured(FEW, |place| steps.map(|steps| calls(place, &sheet, steps)));
     let growth: Vec<(u64, Times)> = steps.into_iter().zip(all).collect();
     for (steps, times) in &growth {
         let columns = Engine::ALL.map(|engine| times.seconds(engine as usize) * 1e6);
@@ -130,20 +134,28 @@ fn against_steps() -> Vec<(u64, Times)> {
     growth
 }
 
-/// All spend the fuel and end at the same place, whatever the fuel.
+/// All spend the fuel and end at the same instruction, whatever the fuel.
 fn same_outcomes(sheet: &[u8]) {
     let accepted = Accepted::new(sheet).expect("the loop is accepted");
     for fuel in (0..60).chain([STEPS]) {
         let expected = reference::run(sheet, &[], fuel, LOOP_MEMORY, &mut []);
         assert_eq!((expected.number(), expected.reply()[1]), (12, fuel));
-        for machine in [run_into, watch_into] {
-            let mut reply = [0; 5];
-            let number = machine(sheet, &[], fuel, &mut [7; LOOP_MEMORY], &mut [], &mut reply);
+        let same = |number, reply| {
             assert_eq!(Outcome::from_reply(number, reply), Some(expected));
+        };
+        for Place {
+            run, watch, plain, ..
+        } in PLACES
+        {
+            for machine in [run, watch] {
+                let mut reply = [0; 5];
+                let number = machine(sheet, &[], fuel, &mut [7; LOOP_MEMORY], &mut [], &mut reply);
+                same(number, reply);
+            }
+            let (memory, mut reply) = (&mut [7; LOOP_MEMORY], [0; 5]);
+            let number = accepted.run_into(*plain, &[], fuel, memory, &mut [], &mut reply);
+            same(number, reply);
         }
-        let mut reply = [0; 5];
-        let number = accepted.run_into(&[], fuel, &mut [7; LOOP_MEMORY], &mut [], &mut reply);
-        assert_eq!(Outcome::from_reply(number, reply), Some(expected));
     }
 }
 
@@ -152,8 +164,9 @@ fn start_and_end() {
     println!("Starting and ending: the smallest sheet, checked (but for C), run for one step, the memory cleared: microseconds");
     show("words of memory", names(COUNTED));
     let words = [2, 256, 4_096, MAX_MEMORY];
-    let calls = words.map(|words| COUNTED.map(|engine| engine.call(&SMALLEST, 1, words)));
-    for (words, rounds) in words.iter().zip(Rounds::measured(FEW, calls)) {
+    let at =
+        |place| words.map(|words| COUNTED.map(|engine| engine.call(place, &SMALLEST, 1, words)));
+    for (words, rounds) in words.iter().zip(Rounds::measured(FEW, at)) {
         let columns = [0, 1, 2].map(|engine| rounds.seconds(engine) * 1e6);
         show(&words.to_string(), columns.map(|time| format!("{time:.4}")));
     }

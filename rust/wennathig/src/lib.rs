@@ -3,10 +3,6 @@
 //! A call whose name ends in `_into` is the one that the host makes. The
 //! buffers hold afterwards what include/wennathig.h says.
 
-extern "C" {
-    fn wn_check(sheet: *const u8, sheet_len: usize, reply: *mut u64, reply_len: usize) -> u64;
-}
-
 /// What the proved checker says about a sheet.
 #[derive(Clone, Copy, Debug, PartialEq, Eq)]
 pub enum Verdict {
@@ -26,19 +22,41 @@ pub fn check(sheet: &[u8]) -> Verdict {
     }
 }
 
-/// Gives the number, 0 for an accepted sheet, and writes the place to the
-/// first word of the reply, if it has one.
-pub fn check_into(sheet: &[u8], reply: &mut [u64]) -> u64 {
-    // SAFETY: both pointers are those of live slices with the lengths given,
-    // and only the reply, which is lent exclusively, is written to.
-    unsafe { wn_check(sheet.as_ptr(), sheet.len(), reply.as_mut_ptr(), reply.len()) }
+/// Declares a function of C that checks, and its safe call.
+#[macro_export]
+macro_rules! checker {
+    ($(#[$about:meta])* $call:ident, $function:ident) => {
+        extern "C" {
+            fn $function(
+                sheet: *const u8,
+                sheet_len: usize,
+                reply: *mut u64,
+                reply_len: usize,
+            ) -> u64;
+        }
+
+        $(#[$about])*
+        pub fn $call(sheet: &[u8], reply: &mut [u64]) -> u64 {
+            // SAFETY: both pointers are those of live slices with the lengths
+            // given, and only the reply, which is lent exclusively, is written
+            // to.
+            unsafe { $function(sheet.as_ptr(), sheet.len(), reply.as_mut_ptr(), reply.len()) }
+        }
+    };
+}
+
+checker! {
+    /// Gives the number, 0 for an accepted sheet, and writes the place to the
+    /// first word of the reply, if it has one.
+    check_into, wn_check
 }
 
 /// [`run_into`] or [`watch_into`]: sheet, input, fuel, memory, output, reply.
 pub type Machine = fn(&[u8], &[u32], u64, &mut [u64], &mut [u32], &mut [u64]) -> u64;
 
-/// Declares a function of C and its safe call; those of the two machines have
-/// the same parameters.
+/// Declares a function of C that runs, and its safe call; those of the two
+/// machines have the same parameters.
+#[macro_export]
 macro_rules! machine {
     ($(#[$about:meta])* $call:ident, $function:ident) => {
         extern "C" {

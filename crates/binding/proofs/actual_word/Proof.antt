@@ -7,18 +7,6 @@ use Rattle.binding.proofs.Laws.{word-of-sheet, raises-of-sheet, actual-
 use Rattle.binding.proofs.actual_word.Statement.{statement}
 use Rattle.binding.proofs.actual_word.Tie as tie
 
-need-of-requires : tie.Need-need-of-requires
-need-of-requires c κs = search needs
-
-inner-of-requires : tie.Need-inner-of-requires
-inner-of-requires c κs = search needs
-
-bind-word-requires : tie.Need-bind-word-requires
-bind-word-requires c κs = search needs
-
-enum-known-x : tie.Need-enum-known-x
-enum-known-x c = search needs
-
 returns : tie.Need-returns
 returns c =
     let pre = c .before .before .before .before .before .before .before .before .before .pre in
@@ -34,15 +22,6 @@ returns c =
       fine = fine;
       moves = λ v k b heads at e. actual-same (args .s .now) v k b (args .j) at (need-of .ensures) _ (inner-of .ensures) fine (ap (moved-cell (qualOf (args .s .now))) (sym (known .given .1)) ∙ bound .moves (programOf (args .s .now)) v _ heads e) (first-test .taken);
     }
-
-field-requires : tie.Need-field-requires
-field-requires c κs = search needs
-
-raise-filled-requires : tie.Need-raise-filled-requires
-raise-filled-requires c κs = search needs
-
-enum-known-k : tie.Need-enum-known-k
-enum-known-k c = search needs
 
 returns-2 : tie.Need-returns-2
 returns-2 c =
@@ -78,13 +57,13 @@ pub actual-word-spec : {M : Type 1} → statement M
 actual-word-spec =
     tie.close
     (tie.spec
-    need-of-requires
-    inner-of-requires
-    bind-word-requires
-    enum-known-x
+    (λ c κs. search needs)
+    (λ c κs. search needs)
+    (λ c κs. search needs)
+    (λ c. search needs)
     returns
-    field-requires
-    raise-filled-requires
-    enum-known-k
+    (λ c κs. search needs)
+    (λ c κs. search needs)
+    (λ c. search needs)
     returns-2
     returns-3)

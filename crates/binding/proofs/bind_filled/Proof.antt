@@ -10,15 +10,6 @@ use Rattle.binding.proofs.Laws.{bind-integer, bind-no-integer, object-m
 use Rattle.binding.proofs.bind_filled.Statement.{statement}
 use Rattle.binding.proofs.bind_filled.Tie as tie
 
-type-word-requires : tie.Need-type-word-requires
-type-word-requires c κs = search needs
-
-tag-of-requires : tie.Need-tag-of-requires
-tag-of-requires c κs = search needs
-
-base-in-requires : tie.Need-base-in-requires
-base-in-requires c κs = search needs
-
 returns : tie.Need-returns
 returns c =
     let tag-of = c .before .before .before .tag-of in
@@ -44,30 +35,6 @@ returns-2 c =
       fine = tt;
       moves = λ g v x m heads e. bind-no-integer (args .index .now) (args .h .now) _ _ g v x m heads e (sym (tag-of .ensures) ∙ first-test .taken) (λ z. second-test .left (base-in .ensures ∙ ap base-of (type-word .ensures) ∙ z));
     }
-
-name-of-requires : tie.Need-name-of-requires
-name-of-requires c κs = search needs
-
-cast-read : tie.Need-cast-read
-cast-read c = search needs
-
-read-requires : tie.Need-read-requires
-read-requires c κs = search needs
-
-object-fits-requires : tie.Need-object-fits-requires
-object-fits-requires c κs = search needs
-
-rights-in-requires : tie.Need-rights-in-requires
-rights-in-requires c κs = search needs
-
-low-of-requires : tie.Need-low-of-requires
-low-of-requires c κs = search needs
-
-is-within-requires : tie.Need-is-within-requires
-is-within-requires c κs = search needs
-
-name-of-requires-2 : tie.Need-name-of-requires-2
-name-of-requires-2 c κs = search needs
 
 object-word-requires : tie.Need-object-word-requires
 unfolding payload
@@ -131,19 +98,19 @@ pub bind-filled-spec : {M : Type 1} → statement M
 bind-filled-spec =
     tie.close
     (tie.spec
-    type-word-requires
-    tag-of-requires
-    base-in-requires
+    (λ c κs. search needs)
+    (λ c κs. search needs)
+    (λ c κs. search needs)
     returns
     returns-2
-    name-of-requires
-    cast-read
-    read-requires
-    object-fits-requires
-    rights-in-requires
-    low-of-requires
-    is-within-requires
-    name-of-requires-2
+    (λ c κs. search needs)
+    (λ c. search needs)
+    (λ c κs. search needs)
+    (λ c κs. search needs)
+    (λ c κs. search needs)
+    (λ c κs. search needs)
+    (λ c κs. search needs)
+    (λ c κs. search needs)
     object-word-requires
     returns-3
     returns-4

@@ -5,24 +5,12 @@ use Rattle.binding.proofs.Laws.{bind-blank, bind-value}
 use Rattle.binding.proofs.bind_word.Statement.{statement}
 use Rattle.binding.proofs.bind_word.Tie as tie
 
-cell-of-requires : tie.Need-cell-of-requires
-cell-of-requires c κs = search needs
-
-enum-known-x : tie.Need-enum-known-x
-enum-known-x c = search needs
-
-enum-told : tie.Need-enum-told
-enum-told c = search needs
-
 returns : tie.Need-returns
 returns c =
     record {
       fine = tt;
       moves = λ g v d heads e. bind-blank _ g v _ (told-blank (c .before .before .cell-of .ensures) (c .enum-told .given .1)) e;
     }
-
-bind-filled-requires : tie.Need-bind-filled-requires
-bind-filled-requires c κs = search needs
 
 returns-2 : tie.Need-returns-2
 returns-2 c =
@@ -37,4 +25,4 @@ returns-2 c =
 pub bind-word-spec : {M : Type 1} → statement M
 bind-word-spec =
     tie.close
-    (tie.spec cell-of-requires enum-known-x enum-told returns bind-filled-requires returns-2)
+    (tie.spec (λ c κs. search needs) (λ c. search needs) (λ c. search needs) returns (λ c κs. search needs) returns-2)

@@ -4,24 +4,6 @@ use Rattle.binding.proofs.Laws.{own-record}
 use Rattle.binding.proofs.is_record_of.Statement.{statement}
 use Rattle.binding.proofs.is_record_of.Tie as tie
 
-name-of-requires : tie.Need-name-of-requires
-name-of-requires c κs = search needs
-
-cast-read : tie.Need-cast-read
-cast-read c = search needs
-
-read-requires : tie.Need-read-requires
-read-requires c κs = search needs
-
-tag-of-requires : tie.Need-tag-of-requires
-tag-of-requires c κs = search needs
-
-tag-of-requires-2 : tie.Need-tag-of-requires-2
-tag-of-requires-2 c κs = search needs
-
-kind-in-requires : tie.Need-kind-in-requires
-kind-in-requires c κs = search needs
-
 returns : tie.Need-returns
 returns c =
     let args = c .before .before .before .before .before .before .args in
@@ -36,10 +18,10 @@ pub is-record-of-spec : {M : Type 1} → statement M
 is-record-of-spec =
     tie.close
     (tie.spec
-    name-of-requires
-    cast-read
-    read-requires
-    tag-of-requires
-    tag-of-requires-2
-    kind-in-requires
+    (λ c κs. search needs)
+    (λ c. search needs)
+    (λ c κs. search needs)
+    (λ c κs. search needs)
+    (λ c κs. search needs)
+    (λ c κs. search needs)
     returns)

@@ -5,21 +5,6 @@ use Rattle.binding.proofs.Laws.{fits-array, fits-record, fits-nothing}
 use Rattle.binding.proofs.object_fits.Statement.{statement}
 use Rattle.binding.proofs.object_fits.Tie as tie
 
-base-in-requires : tie.Need-base-in-requires
-base-in-requires c κs = search needs
-
-kind-in-requires : tie.Need-kind-in-requires
-kind-in-requires c κs = search needs
-
-tag-of-requires : tie.Need-tag-of-requires
-tag-of-requires c κs = search needs
-
-element-in-requires : tie.Need-element-in-requires
-element-in-requires c κs = search needs
-
-equal-requires : tie.Need-equal-requires
-equal-requires c κs = search needs
-
 returns : tie.Need-returns
 returns c =
     let tag-of = c .before .before .before .tag-of in
@@ -48,11 +33,11 @@ pub object-fits-spec : {M : Type 1} → statement M
 object-fits-spec =
     tie.close
     (tie.spec
-    base-in-requires
-    kind-in-requires
-    tag-of-requires
-    element-in-requires
-    equal-requires
+    (λ c κs. search needs)
+    (λ c κs. search needs)
+    (λ c κs. search needs)
+    (λ c κs. search needs)
+    (λ c κs. search needs)
     returns
     returns-2
     returns-3)

@@ -10,18 +10,6 @@ use Rattle.binding.proofs.Laws.{raise-own, raise-bound}
 use Rattle.binding.proofs.raise_filled.Statement.{statement}
 use Rattle.binding.proofs.raise_filled.Tie as tie
 
-is-record-of-requires : tie.Need-is-record-of-requires
-is-record-of-requires c κs = search needs
-
-base-of-requires : tie.Need-base-of-requires
-base-of-requires c κs = search needs
-
-name-of-requires : tie.Need-name-of-requires
-name-of-requires c κs = search needs
-
-rights-of-requires : tie.Need-rights-of-requires
-rights-of-requires c κs = search needs
-
 object-word-requires : tie.Need-object-word-requires
 unfolding payload
 object-word-requires c κs = rw (c .before .name-of .ensures) (omega arith)
@@ -40,9 +28,6 @@ returns c =
       moves = λ v x m heads e. raise-own (qualIn (args .index .now)) (args .h .now) v _ _ _ x m heads (is-record-of .ensures _ x m e) (base-of .ensures) _ (first-test .taken) e (name-of .ensures) (rights-of .ensures) (object-word .ensures watched (qualIn (args .index .now)));
     }
 
-bind-filled-requires : tie.Need-bind-filled-requires
-bind-filled-requires c κs = search needs
-
 returns-2 : tie.Need-returns-2
 returns-2 c =
     let bind-filled = c .bind-filled in
@@ -59,11 +44,11 @@ pub raise-filled-spec : {M : Type 1} → statement M
 raise-filled-spec =
     tie.close
     (tie.spec
-    is-record-of-requires
-    base-of-requires
-    name-of-requires
-    rights-of-requires
+    (λ c κs. search needs)
+    (λ c κs. search needs)
+    (λ c κs. search needs)
+    (λ c κs. search needs)
     object-word-requires
     returns
-    bind-filled-requires
+    (λ c κs. search needs)
     returns-2)

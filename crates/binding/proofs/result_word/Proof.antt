@@ -5,12 +5,6 @@ use Rattle.binding.proofs.Laws.{filled-of-sheet, result-blank, result-n
 use Rattle.binding.proofs.result_word.Statement.{statement}
 use Rattle.binding.proofs.result_word.Tie as tie
 
-cell-of-requires : tie.Need-cell-of-requires
-cell-of-requires c κs = search needs
-
-enum-known-x : tie.Need-enum-known-x
-enum-known-x c = search needs
-
 enum-told : tie.Need-enum-told
 enum-told c = search needs
 
@@ -24,9 +18,6 @@ returns c =
       moves = λ v a heads at e. result-blank (args .s .now) v a (told-blank (cell-of .ensures) (enum-told .given .1)) e;
     }
 
-field-requires : tie.Need-field-requires
-field-requires c κs = search needs
-
 returns-2 : tie.Need-returns-2
 returns-2 c =
     let args = c .before .before .before .before .before .before .before .before .args in
@@ -38,9 +29,6 @@ returns-2 c =
       fine = tt;
       moves = λ v a heads at e. result-none (args .s .now) v a at (field .ensures) (first-test .taken) (told-filled (cell-of .ensures) (known .given .1)) e;
     }
-
-bind-filled-requires : tie.Need-bind-filled-requires
-bind-filled-requires c κs = search needs
 
 returns-3 : tie.Need-returns-3
 returns-3 c =
@@ -61,11 +49,11 @@ pub result-word-spec : {M : Type 1} → statement M
 result-word-spec =
     tie.close
     (tie.spec
-    cell-of-requires
-    enum-known-x
+    (λ c κs. search needs)
+    (λ c. search needs)
     enum-told
     returns
-    field-requires
+    (λ c κs. search needs)
     returns-2
-    bind-filled-requires
+    (λ c κs. search needs)
     returns-3)

@@ -6,21 +6,6 @@ use Rattle.call_rules.proofs.Laws.{failure-two}
 use Rattle.call_rules.proofs.call_rule.Statement.{statement}
 use Rattle.call_rules.proofs.call_rule.Tie as tie
 
-keeps-result-requires : tie.Need-keeps-result-requires
-keeps-result-requires c κs = search needs
-
-actuals-rule-requires : tie.Need-actuals-rule-requires
-actuals-rule-requires c κs = search needs
-
-kept-result-rule-requires : tie.Need-kept-result-rule-requires
-kept-result-rule-requires c κs = search needs
-
-first-of-requires : tie.Need-first-of-requires
-first-of-requires c κs = search needs
-
-require-requires : tie.Need-require-requires
-require-requires c κs = search needs
-
 returns : tie.Need-returns
 unfolding failure call-rule
 returns c =
@@ -38,9 +23,9 @@ pub call-rule-spec : {M : Type 1} → statement M
 call-rule-spec =
     tie.close
     (tie.spec
-    keeps-result-requires
-    actuals-rule-requires
-    kept-result-rule-requires
-    first-of-requires
-    require-requires
+    (λ c κs. search needs)
+    (λ c κs. search needs)
+    (λ c κs. search needs)
+    (λ c κs. search needs)
+    (λ c κs. search needs)
     returns)

@@ -6,9 +6,6 @@ use Rattle.call_rules.proofs.Laws.{keeps-tests}
 use Rattle.call_rules.proofs.keeps_result.Statement.{statement}
 use Rattle.call_rules.proofs.keeps_result.Tie as tie
 
-field-requires : tie.Need-field-requires
-field-requires c κs = search needs
-
 returns : tie.Need-returns
 unfolding resultAt
 returns c =
@@ -16,4 +13,4 @@ returns c =
     rw (c .field .ensures) (keeps-tests (innerIn (a .s .now) (a .pr)) (a .s .now) (a .to) (a .a))
 
 pub keeps-result-spec : {M : Type 1} → statement M
-keeps-result-spec = tie.close (tie.spec field-requires returns)
+keeps-result-spec = tie.close (tie.spec (λ c κs. search needs) returns)

@@ -8,9 +8,6 @@ use Rattle.sheet.specs.Meaning.{innerIn, resultIn}
 use Rattle.call_rules.proofs.kept_result_rule.Statement.{statement}
 use Rattle.call_rules.proofs.kept_result_rule.Tie as tie
 
-field-requires : tie.Need-field-requires
-field-requires c κs = search needs
-
 returns : tie.Need-returns
 unfolding failure kept-rule optional-variable optional
 returns c = rw (eq-eqb _ _ (c .if1 .taken))
@@ -18,12 +15,6 @@ returns c = rw (eq-eqb _ _ (c .if1 .taken))
 returns-2 : tie.Need-returns-2
 unfolding failure kept-rule optional-variable optional resultIn resultAt
 returns-2 c = rw (← c .before .before .field .ensures, ne-eqb _ _ (c .before .if1 .left), eq-eqb _ _ (c .if2 .taken))
-
-inner-of-requires : tie.Need-inner-of-requires
-inner-of-requires c κs = search needs
-
-movement-requires : tie.Need-movement-requires
-movement-requires c κs = search needs
 
 returns-3 : tie.Need-returns-3
 unfolding kept-rule optional-variable optional resultIn resultAt innerIn
@@ -35,4 +26,4 @@ returns-3 c =
 pub kept-result-rule-spec : {M : Type 1} → statement M
 kept-result-rule-spec =
     tie.close
-    (tie.spec field-requires returns returns-2 inner-of-requires movement-requires returns-3)
+    (tie.spec (λ c κs. search needs) returns returns-2 (λ c κs. search needs) (λ c κs. search needs) returns-3)

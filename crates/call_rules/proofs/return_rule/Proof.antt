@@ -8,9 +8,6 @@ use Rattle.sheet.specs.Meaning.{innerIn, resultIn}
 use Rattle.call_rules.proofs.return_rule.Statement.{statement}
 use Rattle.call_rules.proofs.return_rule.Tie as tie
 
-field-requires : tie.Need-field-requires
-field-requires c κs = search needs
-
 returns : tie.Need-returns
 unfolding failure return-rule optional-variable optional resultIn resultAt
 returns c = rw (← c .before .before .field .ensures, eq-eqb _ _ (c .before .if1 .taken), eq-eqb _ _ (c .if2 .taken))
@@ -23,12 +20,6 @@ returns-3 : tie.Need-returns-3
 unfolding failure return-rule optional-variable optional resultIn resultAt
 returns-3 c = rw (← c .before .before .field .ensures, ne-eqb _ _ (c .before .if1 .left), eq-eqb _ _ (c .if3 .taken))
 
-inner-of-requires : tie.Need-inner-of-requires
-inner-of-requires c κs = search needs
-
-movement-requires : tie.Need-movement-requires
-movement-requires c κs = search needs
-
 returns-4 : tie.Need-returns-4
 unfolding return-rule optional-variable optional resultIn resultAt innerIn
 returns-4 c =
@@ -40,10 +31,10 @@ pub return-rule-spec : {M : Type 1} → statement M
 return-rule-spec =
     tie.close
     (tie.spec
-    field-requires
+    (λ c κs. search needs)
     returns
     returns-2
     returns-3
-    inner-of-requires
-    movement-requires
+    (λ c κs. search needs)
+    (λ c κs. search needs)
     returns-4)

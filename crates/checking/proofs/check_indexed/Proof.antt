@@ -13,15 +13,6 @@ use Rattle.checking.specs.Check.{check-tests, check}
 use Rattle.checking.proofs.check_indexed.Statement.{statement}
 use Rattle.checking.proofs.check_indexed.Tie as tie
 
-well-formed-requires : tie.Need-well-formed-requires
-well-formed-requires c κs = search needs
-
-enum-told : tie.Need-enum-told
-enum-told c = search needs
-
-enum-told-2 : tie.Need-enum-told-2
-enum-told-2 c = search needs
-
 returns : tie.Need-returns
 unfolding check check-tests
 returns c =
@@ -48,9 +39,9 @@ pub check-indexed-spec : {M : Type 1} → statement M
 check-indexed-spec =
     tie.close
     (tie.spec
-    well-formed-requires
-    enum-told
-    enum-told-2
+    (λ c κs. search needs)
+    (λ c. search needs)
+    (λ c. search needs)
     returns
     access-requires
     returns-2)

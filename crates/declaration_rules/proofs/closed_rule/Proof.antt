@@ -5,15 +5,9 @@ use Rattle.model.specs.Rules.{closed-rule}
 use Rattle.declaration_rules.proofs.closed_rule.Statement.{statement}
 use Rattle.declaration_rules.proofs.closed_rule.Tie as tie
 
-is-closed-requires : tie.Need-is-closed-requires
-is-closed-requires c κs = search needs
-
-require-requires : tie.Need-require-requires
-require-requires c κs = search needs
-
 returns : tie.Need-returns
 unfolding failure closed-rule
 returns c = rw (c .require .ensures, c .before .is-closed .ensures)
 
 pub closed-rule-spec : {M : Type 1} → statement M
-closed-rule-spec = tie.close (tie.spec is-closed-requires require-requires returns)
+closed-rule-spec = tie.close (tie.spec (λ c κs. search needs) (λ c κs. search needs) returns)

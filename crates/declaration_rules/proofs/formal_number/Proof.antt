@@ -5,24 +5,6 @@ use Rattle.model.specs.Rules.{formal-rule}
 use Rattle.declaration_rules.proofs.formal_number.Statement.{statement}
 use Rattle.declaration_rules.proofs.formal_number.Tie as tie
 
-is-closed-requires : tie.Need-is-closed-requires
-is-closed-requires c κs = search needs
-
-is-owned-requires : tie.Need-is-owned-requires
-is-owned-requires c κs = search needs
-
-is-closed-requires-2 : tie.Need-is-closed-requires-2
-is-closed-requires-2 c κs = search needs
-
-agree-requires : tie.Need-agree-requires
-agree-requires c κs = search needs
-
-require-requires : tie.Need-require-requires
-require-requires c κs = search needs
-
-require-requires-2 : tie.Need-require-requires-2
-require-requires-2 c κs = search needs
-
 returns : tie.Need-returns
 unfolding failure formal-rule
 returns c =
@@ -32,10 +14,10 @@ pub formal-number-spec : {M : Type 1} → statement M
 formal-number-spec =
     tie.close
     (tie.spec
-    is-closed-requires
-    is-owned-requires
-    is-closed-requires-2
-    agree-requires
-    require-requires
-    require-requires-2
+    (λ c κs. search needs)
+    (λ c κs. search needs)
+    (λ c κs. search needs)
+    (λ c κs. search needs)
+    (λ c κs. search needs)
+    (λ c κs. search needs)
     returns)

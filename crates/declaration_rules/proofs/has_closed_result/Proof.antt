@@ -8,15 +8,9 @@ use Rattle.sheet.specs.Meaning.{resultIn}
 use Rattle.declaration_rules.proofs.has_closed_result.Statement.{statement}
 use Rattle.declaration_rules.proofs.has_closed_result.Tie as tie
 
-field-requires : tie.Need-field-requires
-field-requires c κs = search needs
-
 returns : tie.Need-returns
 unfolding closed-result resultIn resultAt
 returns c = rw (sym (c .before .field .ensures) ∙ c .if1 .taken)
-
-is-closed-requires : tie.Need-is-closed-requires
-is-closed-requires c κs = search needs
 
 returns-2 : tie.Need-returns-2
 unfolding closed-result resultIn resultAt
@@ -24,4 +18,4 @@ returns-2 c =
     rw (c .is-closed .ensures, c .before .before .before .before .pre .types _, ← c .before .before .field .ensures, ne-eqb _ _ (c .before .if1 .left))
 
 pub has-closed-result-spec : {M : Type 1} → statement M
-has-closed-result-spec = tie.close (tie.spec field-requires returns is-closed-requires returns-2)
+has-closed-result-spec = tie.close (tie.spec (λ c κs. search needs) returns (λ c κs. search needs) returns-2)

@@ -4,15 +4,9 @@ use Rattle.model.specs.Rules.{closed}
 use Rattle.declaration_rules.proofs.is_closed.Statement.{statement}
 use Rattle.declaration_rules.proofs.is_closed.Tie as tie
 
-rights-of-requires : tie.Need-rights-of-requires
-rights-of-requires c κs = search needs
-
-has-right-requires : tie.Need-has-right-requires
-has-right-requires c κs = search needs
-
 returns : tie.Need-returns
 unfolding closed
 returns c = rw (c .has-right .ensures, c .before .rights-of .ensures)
 
 pub is-closed-spec : {M : Type 1} → statement M
-is-closed-spec = tie.close (tie.spec rights-of-requires has-right-requires returns)
+is-closed-spec = tie.close (tie.spec (λ c κs. search needs) (λ c κs. search needs) returns)

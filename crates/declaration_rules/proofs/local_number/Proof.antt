@@ -5,15 +5,6 @@ use Rattle.model.specs.Rules.{local-rule}
 use Rattle.declaration_rules.proofs.local_number.Statement.{statement}
 use Rattle.declaration_rules.proofs.local_number.Tie as tie
 
-is-owned-requires : tie.Need-is-owned-requires
-is-owned-requires c κs = search needs
-
-is-closed-requires : tie.Need-is-closed-requires
-is-closed-requires c κs = search needs
-
-require-requires : tie.Need-require-requires
-require-requires c κs = search needs
-
 returns : tie.Need-returns
 unfolding failure local-rule
 returns c =
@@ -21,4 +12,4 @@ returns c =
 
 pub local-number-spec : {M : Type 1} → statement M
 local-number-spec =
-    tie.close (tie.spec is-owned-requires is-closed-requires require-requires returns)
+    tie.close (tie.spec (λ c κs. search needs) (λ c κs. search needs) (λ c κs. search needs) returns)

@@ -12,24 +12,6 @@ use borrow.Author.Needs.{needs}
 use Rattle.frames.proofs.call.Statement.{statement}
 use Rattle.frames.proofs.call.Tie as tie
 
-procedure-word-requires : tie.Need-procedure-word-requires
-procedure-word-requires c κs = search needs
-
-formals-in-requires : tie.Need-formals-in-requires
-formals-in-requires c κs = search needs
-
-variables-in-requires : tie.Need-variables-in-requires
-variables-in-requires c κs = search needs
-
-cast-v : tie.Need-cast-v
-cast-v c = search needs
-
-sub-if1 : tie.Need-sub-if1
-sub-if1 c = search needs
-
-add-if1 : tie.Need-add-if1
-add-if1 c = search needs
-
 returns : tie.Need-returns
 returns c =
     let args = c .before .before .before .before .before .before .before .args in
@@ -42,18 +24,6 @@ returns c =
     let P = word-is s (now (args .index)) (pre .0) (args .k) (pre .1 .1 .procedure) (procedure-word .ensures) in
     call-without-room s (now (args .memory)) (args .r) (args .a) (args .b) (args .k) _ _
     (variables-in .ensures ∙ P .variables) (formals-in .ensures ∙ P .formals) (if1 .taken)
-
-add-copy-filled : tie.Need-add-copy-filled
-add-copy-filled c = search needs
-
-add-copy-filled-2 : tie.Need-add-copy-filled-2
-add-copy-filled-2 c = search needs
-
-sub-copy-filled : tie.Need-sub-copy-filled
-sub-copy-filled c = search needs
-
-cast-copy-filled : tie.Need-cast-copy-filled
-cast-copy-filled c = search needs
 
 copy-filled-requires : tie.Need-copy-filled-requires
 copy-filled-requires c κs =
@@ -77,9 +47,6 @@ copy-filled-requires c κs =
     let frame-fits = pre .1 .0 .frame in
     (omega arith, omega arith)
 
-first-in-requires : tie.Need-first-in-requires
-first-in-requires c κs = search needs
-
 open-requires : tie.Need-open-requires
 open-requires c κs =
     let args = c .before .before .before .before .before .before .before .before .before .before .before .before .before .before .before .before .args in
@@ -95,9 +62,6 @@ open-requires c κs =
     let few : formals-in .result ≤ variables-in .result =
     rw (formals-in .ensures ∙ P .formals, variables-in .ensures ∙ P .variables) (formals-within s (now (args .index)) (pre .0) (args .k) (C .procedure)) in
     (rw (copy-filled .kept .0) (pre .1 .0), ((C .next, C .first), ((omega arith, if1 .left), few)))
-
-same-length : tie.Need-same-length
-same-length c = search needs
 
 returns-2 : tie.Need-returns-2
 returns-2 c =
@@ -127,9 +91,6 @@ returns-2 c =
     (C .here) (C .procedure) (few-procedures s (now (args .index)) (pre .0) (args .k) (C .procedure))
     (first-in .ensures ∙ first-is s (now (args .index)) (pre .0) (args .k) (C .procedure) (procedure-word .ensures))
 
-same-length-2 : tie.Need-same-length-2
-same-length-2 c = search needs
-
 returns-3 : tie.Need-returns-3
 returns-3 c =
     let args = c .before .before .before .before .before .before .before .before .before .before .before .before .before .before .args in
@@ -158,21 +119,21 @@ pub call-spec : {M : Type 1} → statement M
 call-spec =
     tie.close
     (tie.spec
-    procedure-word-requires
-    formals-in-requires
-    variables-in-requires
-    cast-v
-    sub-if1
-    add-if1
+    (λ c κs. search needs)
+    (λ c κs. search needs)
+    (λ c κs. search needs)
+    (λ c. search needs)
+    (λ c. search needs)
+    (λ c. search needs)
     returns
-    add-copy-filled
-    add-copy-filled-2
-    sub-copy-filled
-    cast-copy-filled
+    (λ c. search needs)
+    (λ c. search needs)
+    (λ c. search needs)
+    (λ c. search needs)
     copy-filled-requires
-    first-in-requires
+    (λ c κs. search needs)
     open-requires
-    same-length
+    (λ c. search needs)
     returns-2
-    same-length-2
+    (λ c. search needs)
     returns-3)

@@ -6,27 +6,6 @@ use borrow.Author.Needs.{needs}
 use Rattle.frames.proofs.give_back.Statement.{statement}
 use Rattle.frames.proofs.give_back.Tie as tie
 
-add-end : tie.Need-add-end
-add-end c = search needs
-
-mul-read : tie.Need-mul-read
-mul-read c = search needs
-
-sub-read : tie.Need-sub-read
-sub-read c = search needs
-
-part-read-start : tie.Need-part-read-start
-part-read-start c = search needs
-
-part-read-end : tie.Need-part-read-end
-part-read-end c = search needs
-
-read-requires : tie.Need-read-requires
-read-requires c κs = search needs
-
-same-length : tie.Need-same-length
-same-length c = search needs
-
 returns : tie.Need-returns
 returns c =
     let if1 = c .if1 in
@@ -35,15 +14,6 @@ returns c =
     let told = blank-told _ _ (if1 .taken) in
     λ s. gives-blank s (now (args .memory)) (args .r) (args .a) _ (read .ensures) (told .0) (told .1)
 
-add-if2 : tie.Need-add-if2
-add-if2 c = search needs
-
-add-if2-2 : tie.Need-add-if2-2
-add-if2-2 c = search needs
-
-same-length-2 : tie.Need-same-length-2
-same-length-2 c = search needs
-
 returns-2 : tie.Need-returns-2
 returns-2 c =
     let args = c .before .before .before .before .before .before .before .before .args in
@@ -51,15 +21,6 @@ returns-2 c =
     let if1 = c .before .before .if1 in
     let if2 = c .if2 in
     λ s. gives-over s (now (args .memory)) (args .r) (args .a) _ (read .ensures) (value-told _ _ (if1 .left)) (if2 .taken)
-
-waiting-requires : tie.Need-waiting-requires
-waiting-requires c κs = search needs
-
-kept-in-requires : tie.Need-kept-in-requires
-kept-in-requires c κs = search needs
-
-same-length-3 : tie.Need-same-length-3
-same-length-3 c = search needs
 
 returns-3 : tie.Need-returns-3
 returns-3 c =
@@ -72,12 +33,6 @@ returns-3 c =
     let if3 = c .if3 in
     λ s. gives-dropped s (now (args .memory)) (args .r) (args .a) _ (read .ensures) (value-told _ _ (if1 .left)) _ _ (if2 .left)
     (waiting .ensures .0 plain) (kept-in .ensures plain) (if3 .taken)
-
-keep-requires : tie.Need-keep-requires
-keep-requires c κs = search needs
-
-same-length-4 : tie.Need-same-length-4
-same-length-4 c = search needs
 
 returns-4 : tie.Need-returns-4
 returns-4 c =
@@ -96,22 +51,22 @@ pub give-back-spec : {M : Type 1} → statement M
 give-back-spec =
     tie.close
     (tie.spec
-    add-end
-    mul-read
-    sub-read
-    part-read-start
-    part-read-end
-    read-requires
-    same-length
+    (λ c. search needs)
+    (λ c. search needs)
+    (λ c. search needs)
+    (λ c. search needs)
+    (λ c. search needs)
+    (λ c κs. search needs)
+    (λ c. search needs)
     returns
-    add-if2
-    add-if2-2
-    same-length-2
+    (λ c. search needs)
+    (λ c. search needs)
+    (λ c. search needs)
     returns-2
-    waiting-requires
-    kept-in-requires
-    same-length-3
+    (λ c κs. search needs)
+    (λ c κs. search needs)
+    (λ c. search needs)
     returns-3
-    keep-requires
-    same-length-4
+    (λ c κs. search needs)
+    (λ c. search needs)
     returns-4)

@@ -7,15 +7,6 @@ use borrow.Author.Needs.{needs}
 use Rattle.frames.proofs.keep.Statement.{statement}
 use Rattle.frames.proofs.keep.Tie as tie
 
-add-write : tie.Need-add-write
-add-write c = search needs
-
-write-requires : tie.Need-write-requires
-write-requires c κs = search needs
-
-same-length : tie.Need-same-length
-same-length c = search needs
-
 returns : tie.Need-returns
 returns c =
     let args = c .before .before .before .before .before .before .before .before .args in
@@ -30,4 +21,4 @@ returns-2 c =
     λ m. keeps m (now (args .memory)) _ (args .b) (args .a) (args .w) (rw (le-ltb (args .a) (args .b .variables) (if1 .left)))
 
 pub keep-spec : {M : Type 1} → statement M
-keep-spec = tie.close (tie.spec add-write write-requires same-length returns returns-2)
+keep-spec = tie.close (tie.spec (λ c. search needs) (λ c κs. search needs) (λ c. search needs) returns returns-2)

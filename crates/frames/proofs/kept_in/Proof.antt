@@ -6,18 +6,6 @@ use borrow.Author.Needs.{needs}
 use Rattle.frames.proofs.kept_in.Statement.{statement}
 use Rattle.frames.proofs.kept_in.Tie as tie
 
-add-back-kept : tie.Need-add-back-kept
-add-back-kept c = search needs
-
-mul-back-kept : tie.Need-mul-back-kept
-mul-back-kept c = search needs
-
-shared-slice-read-back-kept : tie.Need-shared-slice-read-back-kept
-shared-slice-read-back-kept c = search needs
-
-back-kept-requires : tie.Need-back-kept-requires
-back-kept-requires c κs = search needs
-
 returns : tie.Need-returns
 returns c =
     let args = c .before .before .before .before .args in
@@ -27,4 +15,4 @@ returns c =
 pub kept-in-spec : {M : Type 1} → statement M
 kept-in-spec =
     tie.close
-    (tie.spec add-back-kept mul-back-kept shared-slice-read-back-kept back-kept-requires returns)
+    (tie.spec (λ c. search needs) (λ c. search needs) (λ c. search needs) (λ c κs. search needs) returns)

@@ -5,114 +5,6 @@ use Rattle.model.specs.Rules.{rule, callee}
 use Rattle.instruction_rules.proofs.instruction_number.Statement.{statement}
 use Rattle.instruction_rules.proofs.instruction_number.Tie as tie
 
-enum-known-operation : tie.Need-enum-known-operation
-enum-known-operation c = search needs
-
-integer-rule-requires : tie.Need-integer-rule-requires
-integer-rule-requires c κs = search needs
-
-enum-known-operation-2 : tie.Need-enum-known-operation-2
-enum-known-operation-2 c = search needs
-
-integers-rule-requires : tie.Need-integers-rule-requires
-integers-rule-requires c κs = search needs
-
-enum-known-operation-3 : tie.Need-enum-known-operation-3
-enum-known-operation-3 c = search needs
-
-integers-rule-requires-2 : tie.Need-integers-rule-requires-2
-integers-rule-requires-2 c κs = search needs
-
-enum-known-operation-4 : tie.Need-enum-known-operation-4
-enum-known-operation-4 c = search needs
-
-integers-rule-requires-3 : tie.Need-integers-rule-requires-3
-integers-rule-requires-3 c κs = search needs
-
-enum-known-operation-5 : tie.Need-enum-known-operation-5
-enum-known-operation-5 c = search needs
-
-integer-rule-requires-2 : tie.Need-integer-rule-requires-2
-integer-rule-requires-2 c κs = search needs
-
-enum-known-operation-6 : tie.Need-enum-known-operation-6
-enum-known-operation-6 c = search needs
-
-bind-rule-requires : tie.Need-bind-rule-requires
-bind-rule-requires c κs = search needs
-
-enum-known-operation-7 : tie.Need-enum-known-operation-7
-enum-known-operation-7 c = search needs
-
-integer-rule-requires-3 : tie.Need-integer-rule-requires-3
-integer-rule-requires-3 c κs = search needs
-
-enum-known-operation-8 : tie.Need-enum-known-operation-8
-enum-known-operation-8 c = search needs
-
-integer-rule-requires-4 : tie.Need-integer-rule-requires-4
-integer-rule-requires-4 c κs = search needs
-
-enum-known-operation-9 : tie.Need-enum-known-operation-9
-enum-known-operation-9 c = search needs
-
-array-rule-requires : tie.Need-array-rule-requires
-array-rule-requires c κs = search needs
-
-enum-known-operation-10 : tie.Need-enum-known-operation-10
-enum-known-operation-10 c = search needs
-
-fetch-rule-requires : tie.Need-fetch-rule-requires
-fetch-rule-requires c κs = search needs
-
-enum-known-operation-11 : tie.Need-enum-known-operation-11
-enum-known-operation-11 c = search needs
-
-store-rule-requires : tie.Need-store-rule-requires
-store-rule-requires c κs = search needs
-
-enum-known-operation-12 : tie.Need-enum-known-operation-12
-enum-known-operation-12 c = search needs
-
-size-rule-requires : tie.Need-size-rule-requires
-size-rule-requires c κs = search needs
-
-enum-known-operation-13 : tie.Need-enum-known-operation-13
-enum-known-operation-13 c = search needs
-
-record-rule-requires : tie.Need-record-rule-requires
-record-rule-requires c κs = search needs
-
-enum-known-operation-14 : tie.Need-enum-known-operation-14
-enum-known-operation-14 c = search needs
-
-get-slot-rule-requires : tie.Need-get-slot-rule-requires
-get-slot-rule-requires c κs = search needs
-
-enum-known-operation-15 : tie.Need-enum-known-operation-15
-enum-known-operation-15 c = search needs
-
-set-slot-rule-requires : tie.Need-set-slot-rule-requires
-set-slot-rule-requires c κs = search needs
-
-enum-known-operation-16 : tie.Need-enum-known-operation-16
-enum-known-operation-16 c = search needs
-
-cast-place-of : tie.Need-cast-place-of
-cast-place-of c = search needs
-
-place-of-requires : tie.Need-place-of-requires
-place-of-requires c κs = search needs
-
-call-rule-requires : tie.Need-call-rule-requires
-call-rule-requires c κs = search needs
-
-enum-known-operation-17 : tie.Need-enum-known-operation-17
-enum-known-operation-17 c = search needs
-
-return-rule-requires : tie.Need-return-rule-requires
-return-rule-requires c κs = search needs
-
 returns : tie.Need-returns
 unfolding rule
 returns c =
@@ -204,42 +96,42 @@ pub instruction-number-spec : {M : Type 1} → statement M
 instruction-number-spec =
     tie.close
     (tie.spec
-    enum-known-operation
-    integer-rule-requires
-    enum-known-operation-2
-    integers-rule-requires
-    enum-known-operation-3
-    integers-rule-requires-2
-    enum-known-operation-4
-    integers-rule-requires-3
-    enum-known-operation-5
-    integer-rule-requires-2
-    enum-known-operation-6
-    bind-rule-requires
-    enum-known-operation-7
-    integer-rule-requires-3
-    enum-known-operation-8
-    integer-rule-requires-4
-    enum-known-operation-9
-    array-rule-requires
-    enum-known-operation-10
-    fetch-rule-requires
-    enum-known-operation-11
-    store-rule-requires
-    enum-known-operation-12
-    size-rule-requires
-    enum-known-operation-13
-    record-rule-requires
-    enum-known-operation-14
-    get-slot-rule-requires
-    enum-known-operation-15
-    set-slot-rule-requires
-    enum-known-operation-16
-    cast-place-of
-    place-of-requires
-    call-rule-requires
-    enum-known-operation-17
-    return-rule-requires
+    (λ c. search needs)
+    (λ c κs. search needs)
+    (λ c. search needs)
+    (λ c κs. search needs)
+    (λ c. search needs)
+    (λ c κs. search needs)
+    (λ c. search needs)
+    (λ c κs. search needs)
+    (λ c. search needs)
+    (λ c κs. search needs)
+    (λ c. search needs)
+    (λ c κs. search needs)
+    (λ c. search needs)
+    (λ c κs. search needs)
+    (λ c. search needs)
+    (λ c κs. search needs)
+    (λ c. search needs)
+    (λ c κs. search needs)
+    (λ c. search needs)
+    (λ c κs. search needs)
+    (λ c. search needs)
+    (λ c κs. search needs)
+    (λ c. search needs)
+    (λ c κs. search needs)
+    (λ c. search needs)
+    (λ c κs. search needs)
+    (λ c. search needs)
+    (λ c κs. search needs)
+    (λ c. search needs)
+    (λ c κs. search needs)
+    (λ c. search needs)
+    (λ c. search needs)
+    (λ c κs. search needs)
+    (λ c κs. search needs)
+    (λ c. search needs)
+    (λ c κs. search needs)
     returns
     returns-2
     returns-3

@@ -8,18 +8,6 @@ step-requires c κs =
     let pre = c .before .before .before .before .before .before .before .pre in
     (pre .loaded, (pre .sane, (pre .fetchable, pre .part)))
 
-count-step-requires : tie.Need-count-step-requires
-count-step-requires c κs = search needs
-
-same-length : tie.Need-same-length
-same-length c = search needs
-
-same-length-2 : tie.Need-same-length-2
-same-length-2 c = search needs
-
-returns : tie.Need-returns
-returns c = search needs
-
 pub step-counted-spec : {M : Type 1} → statement M
 step-counted-spec =
-    tie.close (tie.spec step-requires count-step-requires same-length same-length-2 returns)
+    tie.close (tie.spec step-requires (λ c κs. search needs) (λ c. search needs) (λ c. search needs) (λ c. search needs))

@@ -4,15 +4,9 @@ use Rattle.limits.specs.Scale.{actuals-scale}
 use Rattle.limits.proofs.actuals_scale.Statement.{statement}
 use Rattle.limits.proofs.actuals_scale.Tie as tie
 
-add-pick : tie.Need-add-pick
-add-pick c = search needs
-
-pick-requires : tie.Need-pick-requires
-pick-requires c κs = search needs
-
 returns : tie.Need-returns
 unfolding actuals-scale
 returns c = rw (c .pick .ensures)
 
 pub actuals-scale-spec : {M : Type 1} → statement M
-actuals-scale-spec = tie.close (tie.spec add-pick pick-requires returns)
+actuals-scale-spec = tie.close (tie.spec (λ c. search needs) (λ c κs. search needs) returns)

@@ -4,12 +4,9 @@ use Rattle.limits.specs.Scale.{below-or-none}
 use Rattle.limits.proofs.below_or_none.Statement.{statement}
 use Rattle.limits.proofs.below_or_none.Tie as tie
 
-pick-requires : tie.Need-pick-requires
-pick-requires c κs = search needs
-
 returns : tie.Need-returns
 unfolding below-or-none
 returns c = rw (c .pick .ensures)
 
 pub below-or-none-spec : {M : Type 1} → statement M
-below-or-none-spec = tie.close (tie.spec pick-requires returns)
+below-or-none-spec = tie.close (tie.spec (λ c κs. search needs) returns)

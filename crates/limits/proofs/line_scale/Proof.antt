@@ -9,9 +9,6 @@ use borrow.Author.Needs.{needs}
 use Rattle.limits.proofs.line_scale.Statement.{statement}
 use Rattle.limits.proofs.line_scale.Tie as tie
 
-cast-slot : tie.Need-cast-slot
-cast-slot c = search needs
-
 returns : tie.Need-returns
 unfolding line-scale line-limits operand-limits constant-limits home-limits all-from line-in table
 returns c = rw (c .match .keys1)
@@ -109,7 +106,7 @@ pub line-scale-spec : {M : Type 1} → statement M
 line-scale-spec =
     tie.close
     (tie.spec
-    cast-slot
+    (λ c. search needs)
     returns
     returns-2
     returns-3

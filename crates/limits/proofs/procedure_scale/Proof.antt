@@ -6,12 +6,9 @@ use Rattle.limits.specs.Scale.{procedure-scale}
 use Rattle.limits.proofs.procedure_scale.Statement.{statement}
 use Rattle.limits.proofs.procedure_scale.Tie as tie
 
-add-result : tie.Need-add-result
-add-result c = search needs
-
 returns : tie.Need-returns
 unfolding procedure-scale all-from
 returns c = refl
 
 pub procedure-scale-spec : {M : Type 1} → statement M
-procedure-scale-spec = tie.close (tie.spec add-result returns)
+procedure-scale-spec = tie.close (tie.spec (λ c. search needs) returns)

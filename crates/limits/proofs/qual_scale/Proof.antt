@@ -5,19 +5,10 @@ use Rattle.limits.specs.Scale.{qual-scale}
 use Rattle.limits.proofs.qual_scale.Statement.{statement}
 use Rattle.limits.proofs.qual_scale.Tie as tie
 
-add-result : tie.Need-add-result
-add-result c = search needs
-
-rights-scale-requires : tie.Need-rights-scale-requires
-rights-scale-requires c κs = search needs
-
-below-or-none-requires : tie.Need-below-or-none-requires
-below-or-none-requires c κs = search needs
-
 returns : tie.Need-returns
 unfolding qual-scale all-from
 returns c = rw (c .below-or-none .ensures, c .before .rights-scale .ensures)
 
 pub qual-scale-spec : {M : Type 1} → statement M
 qual-scale-spec =
-    tie.close (tie.spec add-result rights-scale-requires below-or-none-requires returns)
+    tie.close (tie.spec (λ c. search needs) (λ c κs. search needs) (λ c κs. search needs) returns)

@@ -5,12 +5,9 @@ use Rattle.limits.specs.Scale.{variable-scale}
 use Rattle.limits.proofs.variable_scale.Statement.{statement}
 use Rattle.limits.proofs.variable_scale.Tie as tie
 
-below-or-none-requires : tie.Need-below-or-none-requires
-below-or-none-requires c κs = search needs
-
 returns : tie.Need-returns
 unfolding variable-scale all-from
 returns c = rw (c .below-or-none .ensures)
 
 pub variable-scale-spec : {M : Type 1} → statement M
-variable-scale-spec = tie.close (tie.spec below-or-none-requires returns)
+variable-scale-spec = tie.close (tie.spec (λ c κs. search needs) returns)

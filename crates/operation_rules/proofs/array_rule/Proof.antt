@@ -6,30 +6,6 @@ use Rattle.sheet.specs.Meaning.{innerIn}
 use Rattle.operation_rules.proofs.array_rule.Statement.{statement}
 use Rattle.operation_rules.proofs.array_rule.Tie as tie
 
-inner-of-requires : tie.Need-inner-of-requires
-inner-of-requires c κs = search needs
-
-inner-of-requires-2 : tie.Need-inner-of-requires-2
-inner-of-requires-2 c κs = search needs
-
-is-integer-requires : tie.Need-is-integer-requires
-is-integer-requires c κs = search needs
-
-is-array-requires : tie.Need-is-array-requires
-is-array-requires c κs = search needs
-
-rights-of-requires : tie.Need-rights-of-requires
-rights-of-requires c κs = search needs
-
-is-within-requires : tie.Need-is-within-requires
-is-within-requires c κs = search needs
-
-require-requires : tie.Need-require-requires
-require-requires c κs = search needs
-
-require-requires-2 : tie.Need-require-requires-2
-require-requires-2 c κs = search needs
-
 returns : tie.Need-returns
 unfolding failure new-array-rule innerIn
 returns c =
@@ -52,12 +28,12 @@ pub array-rule-spec : {M : Type 1} → statement M
 array-rule-spec =
     tie.close
     (tie.spec
-    inner-of-requires
-    inner-of-requires-2
-    is-integer-requires
-    is-array-requires
-    rights-of-requires
-    is-within-requires
-    require-requires
-    require-requires-2
+    (λ c κs. search needs)
+    (λ c κs. search needs)
+    (λ c κs. search needs)
+    (λ c κs. search needs)
+    (λ c κs. search needs)
+    (λ c κs. search needs)
+    (λ c κs. search needs)
+    (λ c κs. search needs)
     returns)

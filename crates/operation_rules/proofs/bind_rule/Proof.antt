@@ -4,15 +4,6 @@ use Rattle.sheet.specs.Meaning.{innerIn}
 use Rattle.operation_rules.proofs.bind_rule.Statement.{statement}
 use Rattle.operation_rules.proofs.bind_rule.Tie as tie
 
-inner-of-requires : tie.Need-inner-of-requires
-inner-of-requires c κs = search needs
-
-inner-of-requires-2 : tie.Need-inner-of-requires-2
-inner-of-requires-2 c κs = search needs
-
-movement-requires : tie.Need-movement-requires
-movement-requires c κs = search needs
-
 returns : tie.Need-returns
 unfolding innerIn
 returns c =
@@ -21,4 +12,4 @@ returns c =
 
 pub bind-rule-spec : {M : Type 1} → statement M
 bind-rule-spec =
-    tie.close (tie.spec inner-of-requires inner-of-requires-2 movement-requires returns)
+    tie.close (tie.spec (λ c κs. search needs) (λ c κs. search needs) (λ c κs. search needs) returns)

@@ -6,15 +6,6 @@ use Rattle.sheet.specs.Meaning.{innerIn}
 use Rattle.operation_rules.proofs.integer_rule.Statement.{statement}
 use Rattle.operation_rules.proofs.integer_rule.Tie as tie
 
-inner-of-requires : tie.Need-inner-of-requires
-inner-of-requires c κs = search needs
-
-is-integer-requires : tie.Need-is-integer-requires
-is-integer-requires c κs = search needs
-
-require-requires : tie.Need-require-requires
-require-requires c κs = search needs
-
 returns : tie.Need-returns
 unfolding failure integer-rule innerIn
 returns c =
@@ -23,4 +14,4 @@ returns c =
 
 pub integer-rule-spec : {M : Type 1} → statement M
 integer-rule-spec =
-    tie.close (tie.spec inner-of-requires is-integer-requires require-requires returns)
+    tie.close (tie.spec (λ c κs. search needs) (λ c κs. search needs) (λ c κs. search needs) returns)

@@ -6,27 +6,6 @@ use Rattle.sheet.specs.Meaning.{innerIn}
 use Rattle.operation_rules.proofs.integers_rule.Statement.{statement}
 use Rattle.operation_rules.proofs.integers_rule.Tie as tie
 
-inner-of-requires : tie.Need-inner-of-requires
-inner-of-requires c κs = search needs
-
-is-integer-requires : tie.Need-is-integer-requires
-is-integer-requires c κs = search needs
-
-inner-of-requires-2 : tie.Need-inner-of-requires-2
-inner-of-requires-2 c κs = search needs
-
-is-integer-requires-2 : tie.Need-is-integer-requires-2
-is-integer-requires-2 c κs = search needs
-
-inner-of-requires-3 : tie.Need-inner-of-requires-3
-inner-of-requires-3 c κs = search needs
-
-is-integer-requires-3 : tie.Need-is-integer-requires-3
-is-integer-requires-3 c κs = search needs
-
-require-requires : tie.Need-require-requires
-require-requires c κs = search needs
-
 returns : tie.Need-returns
 unfolding failure integers-rule innerIn
 returns c =
@@ -49,11 +28,11 @@ pub integers-rule-spec : {M : Type 1} → statement M
 integers-rule-spec =
     tie.close
     (tie.spec
-    inner-of-requires
-    is-integer-requires
-    inner-of-requires-2
-    is-integer-requires-2
-    inner-of-requires-3
-    is-integer-requires-3
-    require-requires
+    (λ c κs. search needs)
+    (λ c κs. search needs)
+    (λ c κs. search needs)
+    (λ c κs. search needs)
+    (λ c κs. search needs)
+    (λ c κs. search needs)
+    (λ c κs. search needs)
     returns)

@@ -6,27 +6,6 @@ use Rattle.sheet.specs.Meaning.{innerIn}
 use Rattle.operation_rules.proofs.size_rule.Statement.{statement}
 use Rattle.operation_rules.proofs.size_rule.Tie as tie
 
-inner-of-requires : tie.Need-inner-of-requires
-inner-of-requires c κs = search needs
-
-integer-rule-requires : tie.Need-integer-rule-requires
-integer-rule-requires c κs = search needs
-
-is-array-requires : tie.Need-is-array-requires
-is-array-requires c κs = search needs
-
-rights-of-requires : tie.Need-rights-of-requires
-rights-of-requires c κs = search needs
-
-has-right-requires : tie.Need-has-right-requires
-has-right-requires c κs = search needs
-
-require-requires : tie.Need-require-requires
-require-requires c κs = search needs
-
-require-requires-2 : tie.Need-require-requires-2
-require-requires-2 c κs = search needs
-
 returns : tie.Need-returns
 unfolding failure size-rule innerIn
 returns c =
@@ -47,11 +26,11 @@ pub size-rule-spec : {M : Type 1} → statement M
 size-rule-spec =
     tie.close
     (tie.spec
-    inner-of-requires
-    integer-rule-requires
-    is-array-requires
-    rights-of-requires
-    has-right-requires
-    require-requires
-    require-requires-2
+    (λ c κs. search needs)
+    (λ c κs. search needs)
+    (λ c κs. search needs)
+    (λ c κs. search needs)
+    (λ c κs. search needs)
+    (λ c κs. search needs)
+    (λ c κs. search needs)
     returns)

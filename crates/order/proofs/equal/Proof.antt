@@ -8,11 +8,5 @@ use Rattle.order.proofs.equal.Tie as tie
 returns : tie.Need-returns
 returns c = rw (c .if1 .taken) (sym (same-refl _))
 
-equal-in-requires : tie.Need-equal-in-requires
-equal-in-requires c κs = search needs
-
-returns-2 : tie.Need-returns-2
-returns-2 c = search needs
-
 pub equal-spec : {M : Type 1} → statement M
-equal-spec = tie.close (tie.spec returns equal-in-requires returns-2)
+equal-spec = tie.close (tie.spec returns (λ c κs. search needs) (λ c. search needs))

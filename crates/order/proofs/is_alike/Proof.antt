@@ -4,27 +4,6 @@ use Rattle.order.proofs.Laws.{alike-words}
 use Rattle.order.proofs.is_alike.Statement.{statement}
 use Rattle.order.proofs.is_alike.Tie as tie
 
-type-word-requires : tie.Need-type-word-requires
-type-word-requires c κs = search needs
-
-type-word-requires-2 : tie.Need-type-word-requires-2
-type-word-requires-2 c κs = search needs
-
-base-in-requires : tie.Need-base-in-requires
-base-in-requires c κs = search needs
-
-base-in-requires-2 : tie.Need-base-in-requires-2
-base-in-requires-2 c κs = search needs
-
-element-in-requires : tie.Need-element-in-requires
-element-in-requires c κs = search needs
-
-element-in-requires-2 : tie.Need-element-in-requires-2
-element-in-requires-2 c κs = search needs
-
-equal-requires : tie.Need-equal-requires
-equal-requires c κs = search needs
-
 returns : tie.Need-returns
 returns c =
     let d = c .before .before .before .before in
@@ -47,12 +26,12 @@ pub is-alike-spec : {M : Type 1} → statement M
 is-alike-spec =
     tie.close
     (tie.spec
-    type-word-requires
-    type-word-requires-2
-    base-in-requires
-    base-in-requires-2
-    element-in-requires
-    element-in-requires-2
-    equal-requires
+    (λ c κs. search needs)
+    (λ c κs. search needs)
+    (λ c κs. search needs)
+    (λ c κs. search needs)
+    (λ c κs. search needs)
+    (λ c κs. search needs)
+    (λ c κs. search needs)
     returns
     returns-2)

@@ -4,12 +4,9 @@ use Rattle.model.specs.Rules.{owned-by}
 use Rattle.order.proofs.is_owned.Statement.{statement}
 use Rattle.order.proofs.is_owned.Tie as tie
 
-base-of-requires : tie.Need-base-of-requires
-base-of-requires c κs = search needs
-
 returns : tie.Need-returns
 unfolding owned-by
 returns c = rw (c .base-of .ensures)
 
 pub is-owned-spec : {M : Type 1} → statement M
-is-owned-spec = tie.close (tie.spec base-of-requires returns)
+is-owned-spec = tie.close (tie.spec (λ c κs. search needs) returns)

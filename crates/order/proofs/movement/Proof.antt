@@ -5,14 +5,8 @@ use Rattle.order.proofs.Laws.{moves-failure}
 use Rattle.order.proofs.movement.Statement.{statement}
 use Rattle.order.proofs.movement.Tie as tie
 
-is-above-requires : tie.Need-is-above-requires
-is-above-requires c κs = search needs
-
 returns : tie.Need-returns
 returns c = rw (moves-failure _ _, sym (c .before .is-above .ensures) ∙ c .if1 .taken)
-
-is-alike-requires : tie.Need-is-alike-requires
-is-alike-requires c κs = search needs
 
 returns-2 : tie.Need-returns-2
 returns-2 c =
@@ -26,4 +20,4 @@ returns-3 c =
 
 pub movement-spec : {M : Type 1} → statement M
 movement-spec =
-    tie.close (tie.spec is-above-requires returns is-alike-requires returns-2 returns-3)
+    tie.close (tie.spec (λ c κs. search needs) returns (λ c κs. search needs) returns-2 returns-3)

@@ -7,15 +7,6 @@ use borrow.Author.Needs.{needs}
 use Rattle.plain_plan.proofs.array_size_of.Statement.{statement}
 use Rattle.plain_plan.proofs.array_size_of.Tie as tie
 
-read-requires : tie.Need-read-requires
-read-requires c κs = search needs
-
-cell-of-requires : tie.Need-cell-of-requires
-cell-of-requires c κs = search needs
-
-enum-known-x : tie.Need-enum-known-x
-enum-known-x c = search needs
-
 enum-told : tie.Need-enum-told
 enum-told c = search needs
 
@@ -26,18 +17,6 @@ returns c =
     let cell-of = c .before .before .cell-of in
     let enum-told = c .enum-told in
     λ q g v a s. due (size-blank g v a _ (blank-there s (read .ensures) (cell-of .ensures) (enum-told .given .1))) sym
-
-name-of-requires : tie.Need-name-of-requires
-name-of-requires c κs = search needs
-
-cast-read : tie.Need-cast-read
-cast-read c = search needs
-
-read-requires-2 : tie.Need-read-requires-2
-read-requires-2 c κs = search needs
-
-size-of-requires : tie.Need-size-of-requires
-size-of-requires c κs = search needs
 
 returns-2 : tie.Need-returns-2
 unfolding plan given
@@ -54,13 +33,13 @@ pub array-size-of-spec : {M : Type 1} → statement M
 array-size-of-spec =
     tie.close
     (tie.spec
-    read-requires
-    cell-of-requires
-    enum-known-x
+    (λ c κs. search needs)
+    (λ c κs. search needs)
+    (λ c. search needs)
     enum-told
     returns
-    name-of-requires
-    cast-read
-    read-requires-2
-    size-of-requires
+    (λ c κs. search needs)
+    (λ c. search needs)
+    (λ c κs. search needs)
+    (λ c κs. search needs)
     returns-2)

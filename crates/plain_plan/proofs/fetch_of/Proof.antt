@@ -9,15 +9,6 @@ use borrow.Author.Needs.{needs}
 use Rattle.plain_plan.proofs.fetch_of.Statement.{statement}
 use Rattle.plain_plan.proofs.fetch_of.Tie as tie
 
-read-requires : tie.Need-read-requires
-read-requires c κs = search needs
-
-cell-of-requires : tie.Need-cell-of-requires
-cell-of-requires c κs = search needs
-
-enum-known-x : tie.Need-enum-known-x
-enum-known-x c = search needs
-
 enum-told : tie.Need-enum-told
 enum-told c = search needs
 
@@ -29,18 +20,6 @@ returns c =
     let enum-told = c .enum-told in
     λ q g v a s. due (element-blank g v fetch-right _ _ (fetching g v a) (blank-there s (read .ensures) (cell-of .ensures) (enum-told .given .1))) (λ e. (tt, sym e))
 
-read-requires-2 : tie.Need-read-requires-2
-read-requires-2 c κs = search needs
-
-cell-of-requires-2 : tie.Need-cell-of-requires-2
-cell-of-requires-2 c κs = search needs
-
-enum-known-y : tie.Need-enum-known-y
-enum-known-y c = search needs
-
-enum-told-2 : tie.Need-enum-told-2
-enum-told-2 c = search needs
-
 returns-2 : tie.Need-returns-2
 unfolding plan plan-fetch moved-to halted
 returns-2 c =
@@ -51,36 +30,6 @@ returns-2 c =
     let cell-of2 = c .before .before .cell-of2 in
     let enum-told2 = c .enum-told2 in
     λ q g v a s. due (element-blank-index g v fetch-right _ _ (fetching g v a) (filled-there s (read .ensures) (cell-of .ensures) (x .given .1)) (blank-there s (read2 .ensures) (cell-of2 .ensures) (enum-told2 .given .1))) (λ e. (tt, sym e))
-
-name-of-requires : tie.Need-name-of-requires
-name-of-requires c κs = search needs
-
-cast-o : tie.Need-cast-o
-cast-o c = search needs
-
-low-of-requires : tie.Need-low-of-requires
-low-of-requires c κs = search needs
-
-read-requires-3 : tie.Need-read-requires-3
-read-requires-3 c κs = search needs
-
-size-of-requires : tie.Need-size-of-requires
-size-of-requires c κs = search needs
-
-add-read : tie.Need-add-read
-add-read c = search needs
-
-cast-read : tie.Need-cast-read
-cast-read c = search needs
-
-add-read-2 : tie.Need-add-read-2
-add-read-2 c = search needs
-
-read-requires-4 : tie.Need-read-requires-4
-read-requires-4 c κs = search needs
-
-filled-word-requires : tie.Need-filled-word-requires
-filled-word-requires c κs = search needs
 
 returns-3 : tie.Need-returns-3
 unfolding plan plan-fetch
@@ -120,25 +69,25 @@ pub fetch-of-spec : {M : Type 1} → statement M
 fetch-of-spec =
     tie.close
     (tie.spec
-    read-requires
-    cell-of-requires
-    enum-known-x
+    (λ c κs. search needs)
+    (λ c κs. search needs)
+    (λ c. search needs)
     enum-told
     returns
-    read-requires-2
-    cell-of-requires-2
-    enum-known-y
-    enum-told-2
+    (λ c κs. search needs)
+    (λ c κs. search needs)
+    (λ c. search needs)
+    (λ c. search needs)
     returns-2
-    name-of-requires
-    cast-o
-    low-of-requires
-    read-requires-3
-    size-of-requires
-    add-read
-    cast-read
-    add-read-2
-    read-requires-4
-    filled-word-requires
+    (λ c κs. search needs)
+    (λ c. search needs)
+    (λ c κs. search needs)
+    (λ c κs. search needs)
+    (λ c κs. search needs)
+    (λ c. search needs)
+    (λ c. search needs)
+    (λ c. search needs)
+    (λ c κs. search needs)
+    (λ c κs. search needs)
     returns-3
     returns-4)

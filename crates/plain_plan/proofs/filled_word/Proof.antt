@@ -7,12 +7,6 @@ use borrow.Author.Needs.{needs}
 use Rattle.plain_plan.proofs.filled_word.Statement.{statement}
 use Rattle.plain_plan.proofs.filled_word.Tie as tie
 
-cell-of-requires : tie.Need-cell-of-requires
-cell-of-requires c κs = search needs
-
-enum-known-x : tie.Need-enum-known-x
-enum-known-x c = search needs
-
 enum-told : tie.Need-enum-told
 enum-told c = search needs
 
@@ -30,4 +24,4 @@ returns-2 c =
     let k = told-filled {w = args .w} (cell-of .ensures) (x .given .1) in rw (ne-eqb _ 0 (k .1)) (ap To (k .0))
 
 pub filled-word-spec : {M : Type 1} → statement M
-filled-word-spec = tie.close (tie.spec cell-of-requires enum-known-x enum-told returns returns-2)
+filled-word-spec = tie.close (tie.spec (λ c κs. search needs) (λ c. search needs) enum-told returns returns-2)

@@ -9,15 +9,6 @@ use borrow.Author.Needs.{needs}
 use Rattle.plain_plan.proofs.get_of.Statement.{statement}
 use Rattle.plain_plan.proofs.get_of.Tie as tie
 
-read-requires : tie.Need-read-requires
-read-requires c κs = search needs
-
-cell-of-requires : tie.Need-cell-of-requires
-cell-of-requires c κs = search needs
-
-enum-known-x : tie.Need-enum-known-x
-enum-known-x c = search needs
-
 enum-told : tie.Need-enum-told
 enum-told c = search needs
 
@@ -29,24 +20,6 @@ returns c =
     let cell-of = c .before .before .cell-of in
     let enum-told = c .enum-told in
     λ q g v a s. due (slot-blank g v open-right (g .owner (v .procedure)) _ _ (getting g v a (args .k)) (blank-there s (read .ensures) (cell-of .ensures) (enum-told .given .1))) (λ e. (tt, sym e))
-
-name-of-requires : tie.Need-name-of-requires
-name-of-requires c κs = search needs
-
-cast-read : tie.Need-cast-read
-cast-read c = search needs
-
-add-read : tie.Need-add-read
-add-read c = search needs
-
-add-read-2 : tie.Need-add-read-2
-add-read-2 c = search needs
-
-read-requires-2 : tie.Need-read-requires-2
-read-requires-2 c κs = search needs
-
-filled-word-requires : tie.Need-filled-word-requires
-filled-word-requires c κs = search needs
 
 returns-2 : tie.Need-returns-2
 unfolding plan plan-get
@@ -64,15 +37,15 @@ pub get-of-spec : {M : Type 1} → statement M
 get-of-spec =
     tie.close
     (tie.spec
-    read-requires
-    cell-of-requires
-    enum-known-x
+    (λ c κs. search needs)
+    (λ c κs. search needs)
+    (λ c. search needs)
     enum-told
     returns
-    name-of-requires
-    cast-read
-    add-read
-    add-read-2
-    read-requires-2
-    filled-word-requires
+    (λ c κs. search needs)
+    (λ c. search needs)
+    (λ c. search needs)
+    (λ c. search needs)
+    (λ c κs. search needs)
+    (λ c κs. search needs)
     returns-2)

@@ -7,15 +7,6 @@ use borrow.Author.Needs.{needs}
 use Rattle.plain_plan.proofs.integer_at.Statement.{statement}
 use Rattle.plain_plan.proofs.integer_at.Tie as tie
 
-read-requires : tie.Need-read-requires
-read-requires c κs = search needs
-
-cell-of-requires : tie.Need-cell-of-requires
-cell-of-requires c κs = search needs
-
-enum-known-w : tie.Need-enum-known-w
-enum-known-w c = search needs
-
 enum-told : tie.Need-enum-told
 enum-told c = search needs
 
@@ -26,9 +17,6 @@ returns c =
     let cell-of = c .before .before .cell-of in
     let enum-told = c .enum-told in
     λ q g v h s. due (one-blank g v _ (blank-there s (read .ensures) (cell-of .ensures) (enum-told .given .1))) sym
-
-low-of-requires : tie.Need-low-of-requires
-low-of-requires c κs = search needs
 
 returns-2 : tie.Need-returns-2
 unfolding number-as
@@ -43,10 +31,10 @@ pub integer-at-spec : {M : Type 1} → statement M
 integer-at-spec =
     tie.close
     (tie.spec
-    read-requires
-    cell-of-requires
-    enum-known-w
+    (λ c κs. search needs)
+    (λ c κs. search needs)
+    (λ c. search needs)
     enum-told
     returns
-    low-of-requires
+    (λ c κs. search needs)
     returns-2)

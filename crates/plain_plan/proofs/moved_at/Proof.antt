@@ -8,12 +8,6 @@ use borrow.Author.Needs.{needs}
 use Rattle.plain_plan.proofs.moved_at.Statement.{statement}
 use Rattle.plain_plan.proofs.moved_at.Tie as tie
 
-read-requires : tie.Need-read-requires
-read-requires c κs = search needs
-
-filled-word-requires : tie.Need-filled-word-requires
-filled-word-requires c κs = search needs
-
 returns : tie.Need-returns
 unfolding plan
 returns c =
@@ -23,4 +17,4 @@ returns c =
     λ q g v h a s. claimed (plan plain g v (Bind a (args .x))) (moved-is q g v (declared-as plain g v a) a (s .variable (args .x)) (read .ensures) (filled-word .ensures) refl)
 
 pub moved-at-spec : {M : Type 1} → statement M
-moved-at-spec = tie.close (tie.spec read-requires filled-word-requires returns)
+moved-at-spec = tie.close (tie.spec (λ c κs. search needs) (λ c κs. search needs) returns)

@@ -10,15 +10,6 @@ use borrow.Author.Needs.{needs}
 use Rattle.plain_plan.proofs.set_at.Statement.{statement}
 use Rattle.plain_plan.proofs.set_at.Tie as tie
 
-read-requires : tie.Need-read-requires
-read-requires c κs = search needs
-
-cell-of-requires : tie.Need-cell-of-requires
-cell-of-requires c κs = search needs
-
-enum-known-x : tie.Need-enum-known-x
-enum-known-x c = search needs
-
 enum-told : tie.Need-enum-told
 enum-told c = search needs
 
@@ -31,18 +22,6 @@ returns c =
     let enum-told = c .enum-told in
     λ q g v h s. due (slot-blank g v open-right (g .owner (v .procedure)) _ (args .k) (λ o. setting g v (g .slot (g .owner (v .procedure)) (args .k)) (args .b) (o .0) (args .k)) (blank-there s (read .ensures) (cell-of .ensures) (enum-told .given .1))) (λ e. (tt, sym e))
 
-read-requires-2 : tie.Need-read-requires-2
-read-requires-2 c κs = search needs
-
-cell-of-requires-2 : tie.Need-cell-of-requires-2
-cell-of-requires-2 c κs = search needs
-
-enum-known-w : tie.Need-enum-known-w
-enum-known-w c = search needs
-
-enum-told-2 : tie.Need-enum-told-2
-enum-told-2 c = search needs
-
 returns-2 : tie.Need-returns-2
 unfolding plan plan-set stored halted
 returns-2 c =
@@ -54,9 +33,6 @@ returns-2 c =
     let cell-of2 = c .before .before .cell-of2 in
     let enum-told2 = c .enum-told2 in
     λ q g v h s. settle (slot-filled g v open-right (g .owner (v .procedure)) _ (args .k) (λ o. setting g v (g .slot (g .owner (v .procedure)) (args .k)) (args .b) (o .0) (args .k)) (filled-there s (read .ensures) (cell-of .ensures) (x .given .1)) refl) (λ there. (tt, sym (there .is ∙ setting-blank g v _ _ _ _ (blank-there s (read2 .ensures) (cell-of2 .ensures) (enum-told2 .given .1)))))
-
-name-of-requires : tie.Need-name-of-requires
-name-of-requires c κs = search needs
 
 returns-3 : tie.Need-returns-3
 unfolding plan plan-set stored
@@ -75,15 +51,15 @@ pub set-at-spec : {M : Type 1} → statement M
 set-at-spec =
     tie.close
     (tie.spec
-    read-requires
-    cell-of-requires
-    enum-known-x
+    (λ c κs. search needs)
+    (λ c κs. search needs)
+    (λ c. search needs)
     enum-told
     returns
-    read-requires-2
-    cell-of-requires-2
-    enum-known-w
-    enum-told-2
+    (λ c κs. search needs)
+    (λ c κs. search needs)
+    (λ c. search needs)
+    (λ c. search needs)
     returns-2
-    name-of-requires
+    (λ c κs. search needs)
     returns-3)

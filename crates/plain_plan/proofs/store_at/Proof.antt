@@ -10,15 +10,6 @@ use borrow.Author.Needs.{needs}
 use Rattle.plain_plan.proofs.store_at.Statement.{statement}
 use Rattle.plain_plan.proofs.store_at.Tie as tie
 
-read-requires : tie.Need-read-requires
-read-requires c κs = search needs
-
-cell-of-requires : tie.Need-cell-of-requires
-cell-of-requires c κs = search needs
-
-enum-known-x : tie.Need-enum-known-x
-enum-known-x c = search needs
-
 enum-told : tie.Need-enum-told
 enum-told c = search needs
 
@@ -31,18 +22,6 @@ returns c =
     let enum-told = c .enum-told in
     λ q g v s. due (element-blank g v store-right _ _ (λ o i. storing g v (args .c) (o .0) i) (blank-there s (read .ensures) (cell-of .ensures) (enum-told .given .1))) (λ e. (tt, sym e))
 
-read-requires-2 : tie.Need-read-requires-2
-read-requires-2 c κs = search needs
-
-cell-of-requires-2 : tie.Need-cell-of-requires-2
-cell-of-requires-2 c κs = search needs
-
-enum-known-y : tie.Need-enum-known-y
-enum-known-y c = search needs
-
-enum-told-2 : tie.Need-enum-told-2
-enum-told-2 c = search needs
-
 returns-2 : tie.Need-returns-2
 unfolding plan plan-store stored halted
 returns-2 c =
@@ -54,21 +33,6 @@ returns-2 c =
     let cell-of2 = c .before .before .cell-of2 in
     let enum-told2 = c .enum-told2 in
     λ q g v s. due (element-blank-index g v store-right _ _ (λ o i. storing g v (args .c) (o .0) i) (filled-there s (read .ensures) (cell-of .ensures) (x .given .1)) (blank-there s (read2 .ensures) (cell-of2 .ensures) (enum-told2 .given .1))) (λ e. (tt, sym e))
-
-name-of-requires : tie.Need-name-of-requires
-name-of-requires c κs = search needs
-
-low-of-requires : tie.Need-low-of-requires
-low-of-requires c κs = search needs
-
-cast-read : tie.Need-cast-read
-cast-read c = search needs
-
-read-requires-3 : tie.Need-read-requires-3
-read-requires-3 c κs = search needs
-
-size-of-requires : tie.Need-size-of-requires
-size-of-requires c κs = search needs
 
 returns-3 : tie.Need-returns-3
 unfolding plan plan-store stored halted
@@ -86,18 +50,6 @@ returns-3 c =
     let size-of = c .before .size-of in
     let if1 = c .if1 in
     λ q g v s. settle (element-past g v store-right _ _ (λ o i. storing g v (args .c) (o .0) i) s (filled-there s (read .ensures) (cell-of .ensures) (x .given .1)) (filled-there s (read2 .ensures) (cell-of2 .ensures) (y .given .1)) (name-of .ensures) (low-of .ensures) (read3 .ensures) (size-of .ensures) (if1 .taken)) (λ e. (tt, sym e))
-
-read-requires-4 : tie.Need-read-requires-4
-read-requires-4 c κs = search needs
-
-cell-of-requires-3 : tie.Need-cell-of-requires-3
-cell-of-requires-3 c κs = search needs
-
-enum-known-w : tie.Need-enum-known-w
-enum-known-w c = search needs
-
-enum-told-3 : tie.Need-enum-told-3
-enum-told-3 c = search needs
 
 returns-4 : tie.Need-returns-4
 unfolding plan plan-store stored halted
@@ -143,25 +95,25 @@ pub store-at-spec : {M : Type 1} → statement M
 store-at-spec =
     tie.close
     (tie.spec
-    read-requires
-    cell-of-requires
-    enum-known-x
+    (λ c κs. search needs)
+    (λ c κs. search needs)
+    (λ c. search needs)
     enum-told
     returns
-    read-requires-2
-    cell-of-requires-2
-    enum-known-y
-    enum-told-2
+    (λ c κs. search needs)
+    (λ c κs. search needs)
+    (λ c. search needs)
+    (λ c. search needs)
     returns-2
-    name-of-requires
-    low-of-requires
-    cast-read
-    read-requires-3
-    size-of-requires
+    (λ c κs. search needs)
+    (λ c κs. search needs)
+    (λ c. search needs)
+    (λ c κs. search needs)
+    (λ c κs. search needs)
     returns-3
-    read-requires-4
-    cell-of-requires-3
-    enum-known-w
-    enum-told-3
+    (λ c κs. search needs)
+    (λ c κs. search needs)
+    (λ c. search needs)
+    (λ c. search needs)
     returns-4
     returns-5)

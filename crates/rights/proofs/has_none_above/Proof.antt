@@ -10,15 +10,6 @@ use Rattle.model.specs.Rights.{none-above}
 use Rattle.rights.proofs.has_none_above.Statement.{statement}
 use Rattle.rights.proofs.has_none_above.Tie as tie
 
-add-result : tie.Need-add-result
-add-result c = search needs
-
-cast-result : tie.Need-cast-result
-cast-result c = search needs
-
-shr-result : tie.Need-shr-result
-shr-result c = search needs
-
 returns : tie.Need-returns
 unfolding none-above
 returns c = refl
@@ -32,4 +23,4 @@ returns-2 c =
     sym (eq-eqb _ 0 (div-eq-of-lt l))
 
 pub has-none-above-spec : {M : Type 1} → statement M
-has-none-above-spec = tie.close (tie.spec add-result cast-result shr-result returns returns-2)
+has-none-above-spec = tie.close (tie.spec (λ c. search needs) (λ c. search needs) (λ c. search needs) returns returns-2)

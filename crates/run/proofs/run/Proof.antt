@@ -8,21 +8,6 @@ use borrow.Author.Needs.{needs}
 use Rattle.run.proofs.run.Statement.{statement}
 use Rattle.run.proofs.run.Tie as tie
 
-indexed-requires : tie.Need-indexed-requires
-indexed-requires c κs = search needs
-
-check-indexed-requires : tie.Need-check-indexed-requires
-check-indexed-requires c κs = search needs
-
-enum-known-number : tie.Need-enum-known-number
-enum-known-number c = search needs
-
-refusal-requires : tie.Need-refusal-requires
-refusal-requires c κs = search needs
-
-enum-told : tie.Need-enum-told
-enum-told c = search needs
-
 run-lent-requires : tie.Need-run-lent-requires
 unfolding end
 run-lent-requires c κs =
@@ -35,12 +20,6 @@ unfolding answer
 returns c =
     let e = sym (c .before .before .before .before .check-indexed .ensures) ∙ c .before .before .number .given .1 in rw (e, c .refusal .ensures)
 
-same-length : tie.Need-same-length
-same-length c = search needs
-
-same-length-2 : tie.Need-same-length-2
-same-length-2 c = search needs
-
 returns-2 : tie.Need-returns-2
 unfolding answer
 returns-2 c =
@@ -50,13 +29,13 @@ pub run-spec : {M : Type 1} → statement M
 run-spec =
     tie.close
     (tie.spec
-    indexed-requires
-    check-indexed-requires
-    enum-known-number
-    refusal-requires
-    enum-told
+    (λ c κs. search needs)
+    (λ c κs. search needs)
+    (λ c. search needs)
+    (λ c κs. search needs)
+    (λ c. search needs)
     run-lent-requires
     returns
-    same-length
-    same-length-2
+    (λ c. search needs)
+    (λ c. search needs)
     returns-2)

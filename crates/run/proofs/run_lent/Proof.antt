@@ -9,9 +9,6 @@ use borrow.Author.Needs.{needs}
 use Rattle.run.proofs.run_lent.Statement.{statement}
 use Rattle.run.proofs.run_lent.Tie as tie
 
-refusal-requires : tie.Need-refusal-requires
-refusal-requires c κs = search needs
-
 returns : tie.Need-returns
 unfolding memory-fits
 returns c =
@@ -21,18 +18,6 @@ run-in-requires : tie.Need-run-in-requires
 unfolding end
 run-in-requires c κs =
     (c .before .before .before .before .before .before .before .pre .0, (c .before .before .if1 .left, c .before .before .before .before .before .before .before .pre .1 (c .before .before .if1 .left)))
-
-clear-requires : tie.Need-clear-requires
-clear-requires c κs = search needs
-
-stop-requires : tie.Need-stop-requires
-stop-requires c κs = search needs
-
-same-length : tie.Need-same-length
-same-length c = search needs
-
-same-length-2 : tie.Need-same-length-2
-same-length-2 c = search needs
 
 returns-2 : tie.Need-returns-2
 unfolding memory-fits end
@@ -46,11 +31,11 @@ pub run-lent-spec : {M : Type 1} → statement M
 run-lent-spec =
     tie.close
     (tie.spec
-    refusal-requires
+    (λ c κs. search needs)
     returns
     run-in-requires
-    clear-requires
-    stop-requires
-    same-length
-    same-length-2
+    (λ c κs. search needs)
+    (λ c κs. search needs)
+    (λ c. search needs)
+    (λ c. search needs)
     returns-2)

@@ -11,32 +11,8 @@ use Rattle.frames.proofs.Performs.{sees-cut}
 use Rattle.watched_calls.proofs.actual_in.Statement.{statement}
 use Rattle.watched_calls.proofs.actual_in.Tie as tie
 
-add-end : tie.Need-add-end
-add-end c = search needs
-
-mul-read : tie.Need-mul-read
-mul-read c = search needs
-
-sub-read : tie.Need-sub-read
-sub-read c = search needs
-
-part-read-start : tie.Need-part-read-start
-part-read-start c = search needs
-
-part-read-end : tie.Need-part-read-end
-part-read-end c = search needs
-
-add-read : tie.Need-add-read
-add-read c = search needs
-
-read-requires : tie.Need-read-requires
-read-requires c κs = search needs
-
 slice-aggregate-actual-word : tie.Need-slice-aggregate-actual-word
 slice-aggregate-actual-word c = sym (length-take-le _ _ (omega arith))
-
-actual-word-requires : tie.Need-actual-word-requires
-actual-word-requires c κs = search needs
 
 returns : tie.Need-returns
 returns c =
@@ -49,13 +25,13 @@ pub actual-in-spec : {M : Type 1} → statement M
 actual-in-spec =
     tie.close
     (tie.spec
-    add-end
-    mul-read
-    sub-read
-    part-read-start
-    part-read-end
-    add-read
-    read-requires
+    (λ c. search needs)
+    (λ c. search needs)
+    (λ c. search needs)
+    (λ c. search needs)
+    (λ c. search needs)
+    (λ c. search needs)
+    (λ c κs. search needs)
     slice-aggregate-actual-word
-    actual-word-requires
+    (λ c κs. search needs)
     returns)

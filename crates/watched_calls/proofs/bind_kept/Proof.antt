@@ -10,16 +10,10 @@ use Rattle.watched_calls.proofs.bind_kept.Tie as tie
 slice-aggregate-bind-word : tie.Need-slice-aggregate-bind-word
 slice-aggregate-bind-word c = sym (length-take-le _ _ (omega arith))
 
-inner-of-requires : tie.Need-inner-of-requires
-inner-of-requires c κs = search needs
-
-bind-word-requires : tie.Need-bind-word-requires
-bind-word-requires c κs = search needs
-
 returns : tie.Need-returns
 returns c =
     rw (c .before .inner-of .ensures) at (word-of-sheet (c .before .before .before .before .before .pre .0) (c .bind-word .ensures))
 
 pub bind-kept-spec : {M : Type 1} → statement M
 bind-kept-spec =
-    tie.close (tie.spec slice-aggregate-bind-word inner-of-requires bind-word-requires returns)
+    tie.close (tie.spec slice-aggregate-bind-word (λ c κs. search needs) (λ c κs. search needs) returns)

@@ -10,12 +10,6 @@ use Rattle.watched_calls.proofs.Calling.{formals-few, call-unkept, call
 use Rattle.watched_calls.proofs.call.Statement.{statement}
 use Rattle.watched_calls.proofs.call.Tie as tie
 
-procedure-word-requires : tie.Need-procedure-word-requires
-procedure-word-requires c κs = search needs
-
-result-in-requires : tie.Need-result-in-requires
-result-in-requires c κs = search needs
-
 returns : tie.Need-returns
 returns c =
     let args = c .before .before .before .before .before .args in
@@ -24,18 +18,6 @@ returns c =
     let result-in = c .before .result-in in
     let first-test = c .if1 in
     let C = word-is (now (args .s)) (now (args .index)) (pre .0) (args .k) (pre .1 .1 .procedure) (procedure-word .ensures) in call-unkept (now (args .s)) (now (args .memory)) (args .r) (args .a) (args .b) (args .k) _ C (result-in .ensures) (first-test .taken)
-
-variables-in-requires : tie.Need-variables-in-requires
-variables-in-requires c κs = search needs
-
-cast-v : tie.Need-cast-v
-cast-v c = search needs
-
-sub-if2 : tie.Need-sub-if2
-sub-if2 c = search needs
-
-add-if2 : tie.Need-add-if2
-add-if2 c = search needs
 
 returns-2 : tie.Need-returns-2
 returns-2 c =
@@ -47,18 +29,6 @@ returns-2 c =
     let variables-in = c .before .before .variables-in in
     let second-test = c .if2 in
     let C = word-is (now (args .s)) (now (args .index)) (pre .0) (args .k) (pre .1 .1 .procedure) (procedure-word .ensures) in call-full (now (args .s)) (now (args .memory)) (args .r) (args .a) (args .b) (args .k) _ C (result-in .ensures) (first-test .left) _ (variables-in .ensures) (second-test .taken)
-
-formals-in-requires : tie.Need-formals-in-requires
-formals-in-requires c κs = search needs
-
-place-in-requires : tie.Need-place-in-requires
-place-in-requires c κs = search needs
-
-add-bind-actuals : tie.Need-add-bind-actuals
-add-bind-actuals c = search needs
-
-sub-bind-actuals : tie.Need-sub-bind-actuals
-sub-bind-actuals c = search needs
 
 bind-actuals-requires : tie.Need-bind-actuals-requires
 bind-actuals-requires c κs =
@@ -73,9 +43,6 @@ bind-actuals-requires c κs =
 enum-told : tie.Need-enum-told
 enum-told c = search needs
 
-first-in-requires : tie.Need-first-in-requires
-first-in-requires c κs = search needs
-
 open-requires : tie.Need-open-requires
 open-requires c κs =
     let args = c .before .before .before .before .before .before .before .before .before .before .before .before .before .before .before .before .before .before .before .args in
@@ -87,12 +54,6 @@ open-requires c κs =
     let second-test = c .before .before .before .before .before .before .before .before .before .before .before .if2 in
     let C = word-is (now (args .s)) (now (args .index)) (pre .0) (args .k) (pre .1 .1 .procedure) (procedure-word .ensures) in
     let few = formals-few C (formals-within (now (args .s)) (now (args .index)) (pre .0) (args .k) (pre .1 .1 .procedure)) (formals-in .ensures) (variables-in .ensures) in (rw (bind-actuals .kept .1 .1 .1 .0) (pre .1 .0), ((pre .1 .1 .next, pre .1 .1 .first), ((omega arith, second-test .left), few)))
-
-enum-known-n : tie.Need-enum-known-n
-enum-known-n c = search needs
-
-same-length : tie.Need-same-length
-same-length c = search needs
 
 returns-3 : tie.Need-returns-3
 returns-3 c =
@@ -110,9 +71,6 @@ returns-3 c =
     let place-in = c .before .before .before .before .before .before .before .before .before .before .before .before .place-in in
     let first-in = c .before .before .before .first-in in
     let C = word-is (now (args .s)) (now (args .index)) (pre .0) (args .k) (pre .1 .1 .procedure) (procedure-word .ensures) in call-goes (now (args .s)) (now (args .memory)) (args .r) (args .a) (args .b) (args .k) _ C (result-in .ensures) (first-test .left) _ (variables-in .ensures) (second-test .left) _ (formals-in .ensures) (bind-actuals .last .1 .1 .1 .0) (opened .last .0) (opened .result) _ (subst (Binds _ _ _ _ _ _ _ _) (enum-told .given .1) (bind-actuals .ensures (args .k) (sym (place-in .ensures ∙ C .place)))) (first-in .ensures ∙ first-is (now (args .s)) (now (args .index)) (pre .0) (args .k) (pre .1 .1 .procedure) (procedure-word .ensures)) (pre .1 .1 .procedure) (few-procedures (now (args .s)) (now (args .index)) (pre .0) (args .k) (pre .1 .1 .procedure)) (opened .ensures watched) (pre .1 .1 .here)
-
-same-length-2 : tie.Need-same-length-2
-same-length-2 c = search needs
 
 returns-4 : tie.Need-returns-4
 returns-4 c =
@@ -133,24 +91,24 @@ pub call-spec : {M : Type 1} → statement M
 call-spec =
     tie.close
     (tie.spec
-    procedure-word-requires
-    result-in-requires
+    (λ c κs. search needs)
+    (λ c κs. search needs)
     returns
-    variables-in-requires
-    cast-v
-    sub-if2
-    add-if2
+    (λ c κs. search needs)
+    (λ c. search needs)
+    (λ c. search needs)
+    (λ c. search needs)
     returns-2
-    formals-in-requires
-    place-in-requires
-    add-bind-actuals
-    sub-bind-actuals
+    (λ c κs. search needs)
+    (λ c κs. search needs)
+    (λ c. search needs)
+    (λ c. search needs)
     bind-actuals-requires
     enum-told
-    first-in-requires
+    (λ c κs. search needs)
     open-requires
-    enum-known-n
-    same-length
+    (λ c. search needs)
+    (λ c. search needs)
     returns-3
-    same-length-2
+    (λ c. search needs)
     returns-4)

@@ -5,17 +5,8 @@ use Rattle.watched_calls.proofs.Returning.{gives-nothing, gives-word, g
 use Rattle.watched_calls.proofs.give_back.Statement.{statement}
 use Rattle.watched_calls.proofs.give_back.Tie as tie
 
-handed-by-requires : tie.Need-handed-by-requires
-handed-by-requires c κs = search needs
-
 enum-told : tie.Need-enum-told
 enum-told c = search needs
-
-resume-without-requires : tie.Need-resume-without-requires
-resume-without-requires c κs = search needs
-
-enum-known-w : tie.Need-enum-known-w
-enum-known-w c = search needs
 
 resume-with-requires : tie.Need-resume-with-requires
 resume-with-requires c κs =
@@ -23,12 +14,6 @@ resume-with-requires c κs =
     let known = c .before .before .w in
     let handed-by = c .before .before .before .before .handed-by in
     (pre .0, (pre .1 .0, rw (known .given .1) at (handed-by .ensures .0)))
-
-enum-known-k : tie.Need-enum-known-k
-enum-known-k c = search needs
-
-same-length : tie.Need-same-length
-same-length c = search needs
 
 returns : tie.Need-returns
 returns c =
@@ -39,9 +24,6 @@ returns c =
     let enum-told = c .before .before .enum-told in
     gives-nothing (now (args .s)) (now (args .memory)) (now (args .memory)) (args .r) (args .a) (args .pr) (pre .1 .1) (handed-by .result) (handed-by .ensures) (resume-without .result) (enum-told .given .1) (resume-without .ensures (now (args .s)))
 
-same-length-2 : tie.Need-same-length-2
-same-length-2 c = search needs
-
 returns-2 : tie.Need-returns-2
 returns-2 c =
     let args = c .before .before .before .before .before .before .before .before .before .before .before .args in
@@ -50,9 +32,6 @@ returns-2 c =
     let handed-by = c .before .before .before .before .before .before .before .handed-by in
     let known = c .before .before .before .before .before .w in
     gives-word (now (args .s)) (now (args .memory)) (resume-with .last .1 .1 .0) (args .r) (args .a) (args .pr) (pre .1 .1) (handed-by .result) (handed-by .ensures) (resume-with .result) (known .given .1) (resume-with .ensures)
-
-same-length-3 : tie.Need-same-length-3
-same-length-3 c = search needs
 
 returns-3 : tie.Need-returns-3
 returns-3 c =
@@ -66,15 +45,15 @@ pub give-back-spec : {M : Type 1} → statement M
 give-back-spec =
     tie.close
     (tie.spec
-    handed-by-requires
+    (λ c κs. search needs)
     enum-told
-    resume-without-requires
-    enum-known-w
+    (λ c κs. search needs)
+    (λ c. search needs)
     resume-with-requires
-    enum-known-k
-    same-length
+    (λ c. search needs)
+    (λ c. search needs)
     returns
-    same-length-2
+    (λ c. search needs)
     returns-2
-    same-length-3
+    (λ c. search needs)
     returns-3)

@@ -13,9 +13,6 @@ use Rattle.watched_calls.proofs.Returning.{hands-nothing, hands-too-lit
 use Rattle.watched_calls.proofs.handed_by.Statement.{statement}
 use Rattle.watched_calls.proofs.handed_by.Tie as tie
 
-field-requires : tie.Need-field-requires
-field-requires c κs = search needs
-
 returns : tie.Need-returns
 unfolding resultAt
 returns c =
@@ -43,35 +40,8 @@ returns-3 c =
     let third-test = c .if3 in
     (tt, λ v at S. hands-too-much (now (args .s)) v (args .pr) (args .a) at (field .ensures) (first-test .left) (third-test .taken))
 
-add-end : tie.Need-add-end
-add-end c = search needs
-
-mul-read : tie.Need-mul-read
-mul-read c = search needs
-
-sub-read : tie.Need-sub-read
-sub-read c = search needs
-
-part-read-start : tie.Need-part-read-start
-part-read-start c = search needs
-
-part-read-end : tie.Need-part-read-end
-part-read-end c = search needs
-
-read-requires : tie.Need-read-requires
-read-requires c κs = search needs
-
 slice-aggregate-result-word : tie.Need-slice-aggregate-result-word
 slice-aggregate-result-word c = sym (length-take-le _ _ (omega arith))
-
-result-word-requires : tie.Need-result-word-requires
-result-word-requires c κs = search needs
-
-enum-known-x : tie.Need-enum-known-x
-enum-known-x c = search needs
-
-enum-known-k : tie.Need-enum-known-k
-enum-known-k c = search needs
 
 returns-4 : tie.Need-returns-4
 unfolding resultAt
@@ -101,19 +71,19 @@ pub handed-by-spec : {M : Type 1} → statement M
 handed-by-spec =
     tie.close
     (tie.spec
-    field-requires
+    (λ c κs. search needs)
     returns
     returns-2
     returns-3
-    add-end
-    mul-read
-    sub-read
-    part-read-start
-    part-read-end
-    read-requires
+    (λ c. search needs)
+    (λ c. search needs)
+    (λ c. search needs)
+    (λ c. search needs)
+    (λ c. search needs)
+    (λ c κs. search needs)
     slice-aggregate-result-word
-    result-word-requires
-    enum-known-x
-    enum-known-k
+    (λ c κs. search needs)
+    (λ c. search needs)
+    (λ c. search needs)
     returns-4
     returns-5)

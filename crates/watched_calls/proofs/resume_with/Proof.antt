@@ -7,26 +7,11 @@ use Rattle.watched_calls.proofs.Returning.{returns-kept, returns-refuse
 use Rattle.watched_calls.proofs.resume_with.Statement.{statement}
 use Rattle.watched_calls.proofs.resume_with.Tie as tie
 
-add-if1 : tie.Need-add-if1
-add-if1 c = search needs
-
-add-if1-2 : tie.Need-add-if1-2
-add-if1-2 c = search needs
-
 returns : tie.Need-returns
 returns c =
     let args = c .before .before .before .before .before .args in
     let first-test = c .if1 in
     returns-over watched (now (args .s)) (now (args .memory)) (args .r) _ (first-test .taken)
-
-waiting-requires : tie.Need-waiting-requires
-waiting-requires c κs = search needs
-
-kept-in-requires : tie.Need-kept-in-requires
-kept-in-requires c κs = search needs
-
-same-length : tie.Need-same-length
-same-length c = search needs
 
 returns-2 : tie.Need-returns-2
 returns-2 c =
@@ -36,24 +21,6 @@ returns-2 c =
     let waiting = c .before .before .before .waiting in
     let second-test = c .if2 in
     returns-dropped watched (now (args .s)) (now (args .memory)) (args .r) (kept-in .result) (first-test .left) (kept-in .ensures watched) (waiting .result) (waiting .ensures .0 watched) (second-test .taken) _
-
-place-of-requires : tie.Need-place-of-requires
-place-of-requires c κs = search needs
-
-bind-kept-requires : tie.Need-bind-kept-requires
-bind-kept-requires c κs = search needs
-
-enum-known-x : tie.Need-enum-known-x
-enum-known-x c = search needs
-
-keep-requires : tie.Need-keep-requires
-keep-requires c κs = search needs
-
-enum-known-k : tie.Need-enum-known-k
-enum-known-k c = search needs
-
-same-length-2 : tie.Need-same-length-2
-same-length-2 c = search needs
 
 returns-3 : tie.Need-returns-3
 returns-3 c =
@@ -68,9 +35,6 @@ returns-3 c =
     let known = c .before .before .before .before .before .x in
     let keep = c .before .before .keep in
     returns-kept (now (args .s)) (now (args .memory)) (args .r) (kept-in .result) (first-test .left) (kept-in .ensures watched) (second-test .left) (waiting .result) (waiting .ensures .0 watched) (now (args .index)) (pre .0) (args .w) _ (pre .1 .1) (bind-kept .result) (place-of .ensures) (bind-kept .ensures) (known .given .1) (keep .last .0) (keep .ensures watched)
-
-same-length-3 : tie.Need-same-length-3
-same-length-3 c = search needs
 
 returns-4 : tie.Need-returns-4
 returns-4 c =
@@ -89,19 +53,19 @@ pub resume-with-spec : {M : Type 1} → statement M
 resume-with-spec =
     tie.close
     (tie.spec
-    add-if1
-    add-if1-2
+    (λ c. search needs)
+    (λ c. search needs)
     returns
-    waiting-requires
-    kept-in-requires
-    same-length
+    (λ c κs. search needs)
+    (λ c κs. search needs)
+    (λ c. search needs)
     returns-2
-    place-of-requires
-    bind-kept-requires
-    enum-known-x
-    keep-requires
-    enum-known-k
-    same-length-2
+    (λ c κs. search needs)
+    (λ c κs. search needs)
+    (λ c. search needs)
+    (λ c κs. search needs)
+    (λ c. search needs)
+    (λ c. search needs)
     returns-3
-    same-length-3
+    (λ c. search needs)
     returns-4)

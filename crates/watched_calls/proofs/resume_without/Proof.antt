@@ -8,23 +8,11 @@ use Rattle.watched_calls.proofs.Returning.{returns-lacking}
 use Rattle.watched_calls.proofs.resume_without.Statement.{statement}
 use Rattle.watched_calls.proofs.resume_without.Tie as tie
 
-add-if1 : tie.Need-add-if1
-add-if1 c = search needs
-
-add-if1-2 : tie.Need-add-if1-2
-add-if1-2 c = search needs
-
 returns : tie.Need-returns
 returns c =
     let args = c .before .before .before .before .args in
     let if1 = c .if1 in
     λ s. returns-over watched s (now (args .memory)) (args .r) none (if1 .taken)
-
-kept-in-requires : tie.Need-kept-in-requires
-kept-in-requires c κs = search needs
-
-waiting-requires : tie.Need-waiting-requires
-waiting-requires c κs = search needs
 
 returns-2 : tie.Need-returns-2
 returns-2 c =
@@ -46,4 +34,4 @@ returns-3 c =
 pub resume-without-spec : {M : Type 1} → statement M
 resume-without-spec =
     tie.close
-    (tie.spec add-if1 add-if1-2 returns kept-in-requires waiting-requires returns-2 returns-3)
+    (tie.spec (λ c. search needs) (λ c. search needs) returns (λ c κs. search needs) (λ c κs. search needs) returns-2 returns-3)

@@ -6,21 +6,6 @@ use Rattle.watched_plan.proofs.Laws.{computed, not-computed}
 use Rattle.watched_plan.proofs.add_guarded.Statement.{statement}
 use Rattle.watched_plan.proofs.add_guarded.Tie as tie
 
-two-integers-requires : tie.Need-two-integers-requires
-two-integers-requires c κs = search needs
-
-enum-known-m : tie.Need-enum-known-m
-enum-known-m c = search needs
-
-wrapping-add-u32-requires : tie.Need-wrapping-add-u32-requires
-wrapping-add-u32-requires c κs = search needs
-
-give-requires : tie.Need-give-requires
-give-requires c κs = search needs
-
-enum-known-k : tie.Need-enum-known-k
-enum-known-k c = search needs
-
 returns : tie.Need-returns
 unfolding plan plus
 returns c =
@@ -43,10 +28,10 @@ pub add-guarded-spec : {M : Type 1} → statement M
 add-guarded-spec =
     tie.close
     (tie.spec
-    two-integers-requires
-    enum-known-m
-    wrapping-add-u32-requires
-    give-requires
-    enum-known-k
+    (λ c κs. search needs)
+    (λ c. search needs)
+    (λ c κs. search needs)
+    (λ c κs. search needs)
+    (λ c. search needs)
     returns
     returns-2)

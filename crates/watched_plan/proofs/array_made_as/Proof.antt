@@ -6,18 +6,6 @@ use Rattle.watched_plan.proofs.Laws.{inner-type, made-fit, made-without
 use Rattle.watched_plan.proofs.array_made_as.Statement.{statement}
 use Rattle.watched_plan.proofs.array_made_as.Tie as tie
 
-inner-of-requires : tie.Need-inner-of-requires
-inner-of-requires c κs = search needs
-
-is-array-requires : tie.Need-is-array-requires
-is-array-requires c κs = search needs
-
-rights-of-requires : tie.Need-rights-of-requires
-rights-of-requires c κs = search needs
-
-is-within-requires : tie.Need-is-within-requires
-is-within-requires c κs = search needs
-
 returns : tie.Need-returns
 returns c =
     let args = c .before .before .before .before .before .before .before .args in
@@ -55,10 +43,10 @@ pub array-made-as-spec : {M : Type 1} → statement M
 array-made-as-spec =
     tie.close
     (tie.spec
-    inner-of-requires
-    is-array-requires
-    rights-of-requires
-    is-within-requires
+    (λ c κs. search needs)
+    (λ c κs. search needs)
+    (λ c κs. search needs)
+    (λ c κs. search needs)
     returns
     returns-2
     returns-3)

@@ -9,15 +9,6 @@ use Rattle.watched_plan.proofs.Laws.{bind-plan}
 use Rattle.watched_plan.proofs.bind_guarded.Statement.{statement}
 use Rattle.watched_plan.proofs.bind_guarded.Tie as tie
 
-inner-of-requires : tie.Need-inner-of-requires
-inner-of-requires c κs = search needs
-
-read-requires : tie.Need-read-requires
-read-requires c κs = search needs
-
-bind-word-requires : tie.Need-bind-word-requires
-bind-word-requires c κs = search needs
-
 returns : tie.Need-returns
 unfolding innerIn
 returns c =
@@ -29,4 +20,4 @@ returns c =
     let bound = word-of-sheet (pre) (bind-word .ensures) in (bound .fine, λ v at S. bind-plan _ (programOf (args .s .now)) v _ _ _ (rw (at, sym (inner-of .ensures))) (bound .moves _ v _ (S .head) (ap (slot-in watched (qualOf (args .s .now))) (read .ensures) ∙ S .variable _)))
 
 pub bind-guarded-spec : {M : Type 1} → statement M
-bind-guarded-spec = tie.close (tie.spec inner-of-requires read-requires bind-word-requires returns)
+bind-guarded-spec = tie.close (tie.spec (λ c κs. search needs) (λ c κs. search needs) (λ c κs. search needs) returns)

@@ -6,12 +6,6 @@ use Rattle.watched_plan.proofs.Laws.{inner-type}
 use Rattle.watched_plan.proofs.declared_element.Statement.{statement}
 use Rattle.watched_plan.proofs.declared_element.Tie as tie
 
-inner-of-requires : tie.Need-inner-of-requires
-inner-of-requires c κs = search needs
-
-element-of-requires : tie.Need-element-of-requires
-element-of-requires c κs = search needs
-
 returns : tie.Need-returns
 returns c =
     let pre = c .before .before .before .pre in
@@ -21,4 +15,4 @@ returns c =
     sym (pre .types _) ∙ element-of .ensures .means ∙ ap element (inner-type (args .s .now) (args .pr) (args .a) (pre) (inner-of .ensures))
 
 pub declared-element-spec : {M : Type 1} → statement M
-declared-element-spec = tie.close (tie.spec inner-of-requires element-of-requires returns)
+declared-element-spec = tie.close (tie.spec (λ c κs. search needs) (λ c κs. search needs) returns)

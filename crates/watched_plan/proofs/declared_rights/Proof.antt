@@ -6,12 +6,6 @@ use Rattle.watched_plan.proofs.Laws.{inner-type}
 use Rattle.watched_plan.proofs.declared_rights.Statement.{statement}
 use Rattle.watched_plan.proofs.declared_rights.Tie as tie
 
-inner-of-requires : tie.Need-inner-of-requires
-inner-of-requires c κs = search needs
-
-rights-of-requires : tie.Need-rights-of-requires
-rights-of-requires c κs = search needs
-
 returns : tie.Need-returns
 returns c =
     let rights-of = c .rights-of in
@@ -21,4 +15,4 @@ returns c =
     rights-of .ensures ∙ ap rights (inner-type (args .s .now) (args .pr) (args .a) (pre) (inner-of .ensures))
 
 pub declared-rights-spec : {M : Type 1} → statement M
-declared-rights-spec = tie.close (tie.spec inner-of-requires rights-of-requires returns)
+declared-rights-spec = tie.close (tie.spec (λ c κs. search needs) (λ c κs. search needs) returns)

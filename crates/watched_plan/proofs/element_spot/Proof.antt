@@ -4,15 +4,6 @@ use Rattle.watched_plan.proofs.Laws.{element-blank, element-blank-index
 use Rattle.watched_plan.proofs.element_spot.Statement.{statement}
 use Rattle.watched_plan.proofs.element_spot.Tie as tie
 
-read-requires : tie.Need-read-requires
-read-requires c κs = search needs
-
-cell-of-requires : tie.Need-cell-of-requires
-cell-of-requires c κs = search needs
-
-enum-known-x : tie.Need-enum-known-x
-enum-known-x c = search needs
-
 enum-told : tie.Need-enum-told
 enum-told c = search needs
 
@@ -26,18 +17,6 @@ returns c =
       finds = λ q g v S. element-blank g v q _ _ _ _ (blank-seen S (read .ensures) (cell-of .ensures) (enum-told .given .1));
     }
 
-read-requires-2 : tie.Need-read-requires-2
-read-requires-2 c κs = search needs
-
-cell-of-requires-2 : tie.Need-cell-of-requires-2
-cell-of-requires-2 c κs = search needs
-
-enum-known-y : tie.Need-enum-known-y
-enum-known-y c = search needs
-
-enum-told-2 : tie.Need-enum-told-2
-enum-told-2 c = search needs
-
 returns-2 : tie.Need-returns-2
 returns-2 c =
     let read = c .before .before .before .before .before .before .before .before .read in
@@ -50,9 +29,6 @@ returns-2 c =
       inside = tt;
       finds = λ q g v S. element-blank-index g v q _ _ _ _ (filled-seen S (read .ensures) (cell-of .ensures) (known .given .1)) (blank-seen S (read2 .ensures) (cell-of2 .ensures) (enum-told2 .given .1));
     }
-
-index-in-requires : tie.Need-index-in-requires
-index-in-requires c κs = search needs
 
 returns-3 : tie.Need-returns-3
 returns-3 c =
@@ -72,15 +48,15 @@ pub element-spot-spec : {M : Type 1} → statement M
 element-spot-spec =
     tie.close
     (tie.spec
-    read-requires
-    cell-of-requires
-    enum-known-x
+    (λ c κs. search needs)
+    (λ c κs. search needs)
+    (λ c. search needs)
     enum-told
     returns
-    read-requires-2
-    cell-of-requires-2
-    enum-known-y
-    enum-told-2
+    (λ c κs. search needs)
+    (λ c κs. search needs)
+    (λ c. search needs)
+    (λ c. search needs)
     returns-2
-    index-in-requires
+    (λ c κs. search needs)
     returns-3)

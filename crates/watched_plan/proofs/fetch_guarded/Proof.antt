@@ -7,36 +7,6 @@ use Rattle.watched_plan.proofs.Laws.{fetch-at, fetch-halt}
 use Rattle.watched_plan.proofs.fetch_guarded.Statement.{statement}
 use Rattle.watched_plan.proofs.fetch_guarded.Tie as tie
 
-element-spot-requires : tie.Need-element-spot-requires
-element-spot-requires c κs = search needs
-
-enum-known-o : tie.Need-enum-known-o
-enum-known-o c = search needs
-
-cast-read : tie.Need-cast-read
-cast-read c = search needs
-
-add-read : tie.Need-add-read
-add-read c = search needs
-
-cast-read-2 : tie.Need-cast-read-2
-cast-read-2 c = search needs
-
-add-read-2 : tie.Need-add-read-2
-add-read-2 c = search needs
-
-read-requires : tie.Need-read-requires
-read-requires c κs = search needs
-
-inner-of-requires : tie.Need-inner-of-requires
-inner-of-requires c κs = search needs
-
-bind-word-requires : tie.Need-bind-word-requires
-bind-word-requires c κs = search needs
-
-enum-known-k : tie.Need-enum-known-k
-enum-known-k c = search needs
-
 returns : tie.Need-returns
 unfolding innerIn
 returns c =
@@ -60,15 +30,15 @@ pub fetch-guarded-spec : {M : Type 1} → statement M
 fetch-guarded-spec =
     tie.close
     (tie.spec
-    element-spot-requires
-    enum-known-o
-    cast-read
-    add-read
-    cast-read-2
-    add-read-2
-    read-requires
-    inner-of-requires
-    bind-word-requires
-    enum-known-k
+    (λ c κs. search needs)
+    (λ c. search needs)
+    (λ c. search needs)
+    (λ c. search needs)
+    (λ c. search needs)
+    (λ c. search needs)
+    (λ c κs. search needs)
+    (λ c κs. search needs)
+    (λ c κs. search needs)
+    (λ c. search needs)
     returns
     returns-2)

@@ -8,39 +8,6 @@ use Rattle.watched_plan.proofs.Laws.{get-at, get-halt}
 use Rattle.watched_plan.proofs.get_guarded.Statement.{statement}
 use Rattle.watched_plan.proofs.get_guarded.Tie as tie
 
-field-requires : tie.Need-field-requires
-field-requires c κs = search needs
-
-slot-spot-requires : tie.Need-slot-spot-requires
-slot-spot-requires c κs = search needs
-
-enum-known-o : tie.Need-enum-known-o
-enum-known-o c = search needs
-
-cast-read : tie.Need-cast-read
-cast-read c = search needs
-
-add-read : tie.Need-add-read
-add-read c = search needs
-
-cast-read-2 : tie.Need-cast-read-2
-cast-read-2 c = search needs
-
-add-read-2 : tie.Need-add-read-2
-add-read-2 c = search needs
-
-read-requires : tie.Need-read-requires
-read-requires c κs = search needs
-
-inner-of-requires : tie.Need-inner-of-requires
-inner-of-requires c κs = search needs
-
-bind-word-requires : tie.Need-bind-word-requires
-bind-word-requires c κs = search needs
-
-enum-known-n : tie.Need-enum-known-n
-enum-known-n c = search needs
-
 returns : tie.Need-returns
 unfolding innerIn ownerAt
 returns c =
@@ -67,16 +34,16 @@ pub get-guarded-spec : {M : Type 1} → statement M
 get-guarded-spec =
     tie.close
     (tie.spec
-    field-requires
-    slot-spot-requires
-    enum-known-o
-    cast-read
-    add-read
-    cast-read-2
-    add-read-2
-    read-requires
-    inner-of-requires
-    bind-word-requires
-    enum-known-n
+    (λ c κs. search needs)
+    (λ c κs. search needs)
+    (λ c. search needs)
+    (λ c. search needs)
+    (λ c. search needs)
+    (λ c. search needs)
+    (λ c. search needs)
+    (λ c κs. search needs)
+    (λ c κs. search needs)
+    (λ c κs. search needs)
+    (λ c. search needs)
     returns
     returns-2)

@@ -6,9 +6,6 @@ use Rattle.watched_plan.proofs.Laws.{gives-integer, gives-misfit}
 use Rattle.watched_plan.proofs.give.Statement.{statement}
 use Rattle.watched_plan.proofs.give.Tie as tie
 
-takes-integer-requires : tie.Need-takes-integer-requires
-takes-integer-requires c κs = search needs
-
 returns : tie.Need-returns
 returns c =
     λ v at. gives-integer (programOf (c .before .before .before .args .s .now)) v _ _ (rw at) (sym (c .before .takes-integer .ensures) ∙ c .if1 .taken)
@@ -18,4 +15,4 @@ returns-2 c =
     λ v at. gives-misfit (programOf (c .before .before .before .args .s .now)) v _ _ (rw at) (sym (c .before .takes-integer .ensures) ∙ c .if1 .left)
 
 pub give-spec : {M : Type 1} → statement M
-give-spec = tie.close (tie.spec takes-integer-requires returns returns-2)
+give-spec = tie.close (tie.spec (λ c κs. search needs) returns returns-2)

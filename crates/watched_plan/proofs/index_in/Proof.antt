@@ -5,36 +5,6 @@ use Rattle.watched_plan.proofs.Laws.{index-misfit, index-without, index
 use Rattle.watched_plan.proofs.index_in.Statement.{statement}
 use Rattle.watched_plan.proofs.index_in.Tie as tie
 
-name-of-requires : tie.Need-name-of-requires
-name-of-requires c κs = search needs
-
-low-of-requires : tie.Need-low-of-requires
-low-of-requires c κs = search needs
-
-cast-read : tie.Need-cast-read
-cast-read c = search needs
-
-read-requires : tie.Need-read-requires
-read-requires c κs = search needs
-
-tag-of-requires : tie.Need-tag-of-requires
-tag-of-requires c κs = search needs
-
-tag-of-requires-2 : tie.Need-tag-of-requires-2
-tag-of-requires-2 c κs = search needs
-
-tag-of-requires-3 : tie.Need-tag-of-requires-3
-tag-of-requires-3 c κs = search needs
-
-low-of-requires-2 : tie.Need-low-of-requires-2
-low-of-requires-2 c κs = search needs
-
-has-right-requires : tie.Need-has-right-requires
-has-right-requires c κs = search needs
-
-size-of-requires : tie.Need-size-of-requires
-size-of-requires c κs = search needs
-
 returns : tie.Need-returns
 returns c =
     let args = c .before .before .before .before .before .before .before .before .before .before .before .before .before .args in
@@ -110,16 +80,16 @@ pub index-in-spec : {M : Type 1} → statement M
 index-in-spec =
     tie.close
     (tie.spec
-    name-of-requires
-    low-of-requires
-    cast-read
-    read-requires
-    tag-of-requires
-    tag-of-requires-2
-    tag-of-requires-3
-    low-of-requires-2
-    has-right-requires
-    size-of-requires
+    (λ c κs. search needs)
+    (λ c κs. search needs)
+    (λ c. search needs)
+    (λ c κs. search needs)
+    (λ c κs. search needs)
+    (λ c κs. search needs)
+    (λ c κs. search needs)
+    (λ c κs. search needs)
+    (λ c κs. search needs)
+    (λ c κs. search needs)
     returns
     returns-2
     returns-3

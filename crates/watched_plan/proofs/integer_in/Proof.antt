@@ -4,24 +4,9 @@ use Rattle.watched_plan.proofs.Laws.{one-blank, one-found, blank-seen, 
 use Rattle.watched_plan.proofs.integer_in.Statement.{statement}
 use Rattle.watched_plan.proofs.integer_in.Tie as tie
 
-read-requires : tie.Need-read-requires
-read-requires c κs = search needs
-
-cell-of-requires : tie.Need-cell-of-requires
-cell-of-requires c κs = search needs
-
-enum-known-w : tie.Need-enum-known-w
-enum-known-w c = search needs
-
-enum-told : tie.Need-enum-told
-enum-told c = search needs
-
 returns : tie.Need-returns
 returns c =
     λ q g v h s. one-blank g v _ (blank-seen s (c .before .before .before .read .ensures) (c .before .before .cell-of .ensures) (c .enum-told .given .1))
-
-integer-of-requires : tie.Need-integer-of-requires
-integer-of-requires c κs = search needs
 
 returns-2 : tie.Need-returns-2
 returns-2 c =
@@ -31,10 +16,10 @@ pub integer-in-spec : {M : Type 1} → statement M
 integer-in-spec =
     tie.close
     (tie.spec
-    read-requires
-    cell-of-requires
-    enum-known-w
-    enum-told
+    (λ c κs. search needs)
+    (λ c κs. search needs)
+    (λ c. search needs)
+    (λ c. search needs)
     returns
-    integer-of-requires
+    (λ c κs. search needs)
     returns-2)

@@ -5,12 +5,6 @@ use Rattle.watched_plan.proofs.Laws.{integer-is, no-integer}
 use Rattle.watched_plan.proofs.integer_of.Statement.{statement}
 use Rattle.watched_plan.proofs.integer_of.Tie as tie
 
-tag-of-requires : tie.Need-tag-of-requires
-tag-of-requires c κs = search needs
-
-low-of-requires : tie.Need-low-of-requires
-low-of-requires c κs = search needs
-
 returns : tie.Need-returns
 returns c =
     λ q x m e. integer-is q _ e (c .low-of .ensures) (sym (c .before .before .tag-of .ensures) ∙ c .before .if1 .taken)
@@ -20,4 +14,4 @@ returns-2 c =
     λ q x m e. no-integer q _ e (λ t. c .if1 .left (c .before .tag-of .ensures ∙ t))
 
 pub integer-of-spec : {M : Type 1} → statement M
-integer-of-spec = tie.close (tie.spec tag-of-requires low-of-requires returns returns-2)
+integer-of-spec = tie.close (tie.spec (λ c κs. search needs) (λ c κs. search needs) returns returns-2)

@@ -8,21 +8,6 @@ use Rattle.watched_plan.proofs.Laws.{computed, not-computed}
 use Rattle.watched_plan.proofs.less_guarded.Statement.{statement}
 use Rattle.watched_plan.proofs.less_guarded.Tie as tie
 
-two-integers-requires : tie.Need-two-integers-requires
-two-integers-requires c κs = search needs
-
-enum-known-m : tie.Need-enum-known-m
-enum-known-m c = search needs
-
-less-requires : tie.Need-less-requires
-less-requires c κs = search needs
-
-give-requires : tie.Need-give-requires
-give-requires c κs = search needs
-
-enum-known-k : tie.Need-enum-known-k
-enum-known-k c = search needs
-
 returns : tie.Need-returns
 unfolding plan
 returns c =
@@ -45,10 +30,10 @@ pub less-guarded-spec : {M : Type 1} → statement M
 less-guarded-spec =
     tie.close
     (tie.spec
-    two-integers-requires
-    enum-known-m
-    less-requires
-    give-requires
-    enum-known-k
+    (λ c κs. search needs)
+    (λ c. search needs)
+    (λ c κs. search needs)
+    (λ c κs. search needs)
+    (λ c. search needs)
     returns
     returns-2)

@@ -6,27 +6,6 @@ use Rattle.watched_plan.proofs.Laws.{inner-type, made-fit, made-without
 use Rattle.watched_plan.proofs.record_made_as.Statement.{statement}
 use Rattle.watched_plan.proofs.record_made_as.Tie as tie
 
-inner-of-requires : tie.Need-inner-of-requires
-inner-of-requires c κs = search needs
-
-field-requires : tie.Need-field-requires
-field-requires c κs = search needs
-
-is-owned-requires : tie.Need-is-owned-requires
-is-owned-requires c κs = search needs
-
-type-at-requires : tie.Need-type-at-requires
-type-at-requires c κs = search needs
-
-byte-requires : tie.Need-byte-requires
-byte-requires c κs = search needs
-
-rights-of-requires : tie.Need-rights-of-requires
-rights-of-requires c κs = search needs
-
-has-none-above-requires : tie.Need-has-none-above-requires
-has-none-above-requires c κs = search needs
-
 returns : tie.Need-returns
 unfolding ownerAt namedOf
 returns c =
@@ -74,13 +53,13 @@ pub record-made-as-spec : {M : Type 1} → statement M
 record-made-as-spec =
     tie.close
     (tie.spec
-    inner-of-requires
-    field-requires
-    is-owned-requires
-    type-at-requires
-    byte-requires
-    rights-of-requires
-    has-none-above-requires
+    (λ c κs. search needs)
+    (λ c κs. search needs)
+    (λ c κs. search needs)
+    (λ c κs. search needs)
+    (λ c κs. search needs)
+    (λ c κs. search needs)
+    (λ c κs. search needs)
     returns
     returns-2
     returns-3)

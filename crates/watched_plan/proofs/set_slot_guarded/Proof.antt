@@ -10,30 +10,6 @@ use Rattle.watched_plan.proofs.Laws.{inside-spot, set-at, set-halt}
 use Rattle.watched_plan.proofs.set_slot_guarded.Statement.{statement}
 use Rattle.watched_plan.proofs.set_slot_guarded.Tie as tie
 
-field-requires : tie.Need-field-requires
-field-requires c κs = search needs
-
-slot-spot-requires : tie.Need-slot-spot-requires
-slot-spot-requires c κs = search needs
-
-enum-known-o : tie.Need-enum-known-o
-enum-known-o c = search needs
-
-slot-of-requires : tie.Need-slot-of-requires
-slot-of-requires c κs = search needs
-
-read-requires : tie.Need-read-requires
-read-requires c κs = search needs
-
-bind-word-requires : tie.Need-bind-word-requires
-bind-word-requires c κs = search needs
-
-stored-at-requires : tie.Need-stored-at-requires
-stored-at-requires c κs = search needs
-
-enum-known-n : tie.Need-enum-known-n
-enum-known-n c = search needs
-
 returns : tie.Need-returns
 unfolding ownerAt slotIn
 returns c =
@@ -61,13 +37,13 @@ pub set-slot-guarded-spec : {M : Type 1} → statement M
 set-slot-guarded-spec =
     tie.close
     (tie.spec
-    field-requires
-    slot-spot-requires
-    enum-known-o
-    slot-of-requires
-    read-requires
-    bind-word-requires
-    stored-at-requires
-    enum-known-n
+    (λ c κs. search needs)
+    (λ c κs. search needs)
+    (λ c. search needs)
+    (λ c κs. search needs)
+    (λ c κs. search needs)
+    (λ c κs. search needs)
+    (λ c κs. search needs)
+    (λ c. search needs)
     returns
     returns-2)

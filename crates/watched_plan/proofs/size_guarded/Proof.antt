@@ -5,15 +5,6 @@ use Rattle.watched_plan.proofs.Laws.{size-blank, size-misfit, size-with
 use Rattle.watched_plan.proofs.size_guarded.Statement.{statement}
 use Rattle.watched_plan.proofs.size_guarded.Tie as tie
 
-read-requires : tie.Need-read-requires
-read-requires c κs = search needs
-
-cell-of-requires : tie.Need-cell-of-requires
-cell-of-requires c κs = search needs
-
-enum-known-x : tie.Need-enum-known-x
-enum-known-x c = search needs
-
 enum-told : tie.Need-enum-told
 enum-told c = search needs
 
@@ -24,33 +15,6 @@ returns c =
     let cell-of = c .before .before .cell-of in
     let enum-told = c .enum-told in
     λ v at S. size-blank (programOf (args .s .now)) v _ _ (blank-seen S (read .ensures) (cell-of .ensures) (enum-told .given .1))
-
-name-of-requires : tie.Need-name-of-requires
-name-of-requires c κs = search needs
-
-cast-read : tie.Need-cast-read
-cast-read c = search needs
-
-read-requires-2 : tie.Need-read-requires-2
-read-requires-2 c κs = search needs
-
-tag-of-requires : tie.Need-tag-of-requires
-tag-of-requires c κs = search needs
-
-tag-of-requires-2 : tie.Need-tag-of-requires-2
-tag-of-requires-2 c κs = search needs
-
-low-of-requires : tie.Need-low-of-requires
-low-of-requires c κs = search needs
-
-has-right-requires : tie.Need-has-right-requires
-has-right-requires c κs = search needs
-
-size-of-requires : tie.Need-size-of-requires
-size-of-requires c κs = search needs
-
-give-requires : tie.Need-give-requires
-give-requires c κs = search needs
 
 returns-2 : tie.Need-returns-2
 returns-2 c =
@@ -103,20 +67,20 @@ pub size-guarded-spec : {M : Type 1} → statement M
 size-guarded-spec =
     tie.close
     (tie.spec
-    read-requires
-    cell-of-requires
-    enum-known-x
+    (λ c κs. search needs)
+    (λ c κs. search needs)
+    (λ c. search needs)
     enum-told
     returns
-    name-of-requires
-    cast-read
-    read-requires-2
-    tag-of-requires
-    tag-of-requires-2
-    low-of-requires
-    has-right-requires
-    size-of-requires
-    give-requires
+    (λ c κs. search needs)
+    (λ c. search needs)
+    (λ c κs. search needs)
+    (λ c κs. search needs)
+    (λ c κs. search needs)
+    (λ c κs. search needs)
+    (λ c κs. search needs)
+    (λ c κs. search needs)
+    (λ c κs. search needs)
     returns-2
     returns-3
     returns-4)

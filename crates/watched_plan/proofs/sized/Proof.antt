@@ -6,24 +6,12 @@ use Rattle.watched_plan.proofs.Laws.{inner-type, size-halts, size-asked
 use Rattle.watched_plan.proofs.sized.Statement.{statement}
 use Rattle.watched_plan.proofs.sized.Tie as tie
 
-integer-in-requires : tie.Need-integer-in-requires
-integer-in-requires c κs = search needs
-
 enum-told : tie.Need-enum-told
 enum-told c = search needs
-
-enum-told-2 : tie.Need-enum-told-2
-enum-told-2 c = search needs
 
 returns : tie.Need-returns
 returns c =
     λ g v h S. size-halts g v _ _ (c .before .before .integer-in .ensures _ g v h S) (c .enum-told2 .given .1)
-
-inner-of-requires : tie.Need-inner-of-requires
-inner-of-requires c κs = search needs
-
-is-array-requires : tie.Need-is-array-requires
-is-array-requires c κs = search needs
 
 returns-2 : tie.Need-returns-2
 returns-2 c =
@@ -51,11 +39,11 @@ pub sized-spec : {M : Type 1} → statement M
 sized-spec =
     tie.close
     (tie.spec
-    integer-in-requires
+    (λ c κs. search needs)
     enum-told
-    enum-told-2
+    (λ c. search needs)
     returns
-    inner-of-requires
-    is-array-requires
+    (λ c κs. search needs)
+    (λ c κs. search needs)
     returns-2
     returns-3)

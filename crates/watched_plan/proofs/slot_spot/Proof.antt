@@ -4,15 +4,6 @@ use Rattle.watched_plan.proofs.Laws.{slot-blank, slot-found, blank-seen
 use Rattle.watched_plan.proofs.slot_spot.Statement.{statement}
 use Rattle.watched_plan.proofs.slot_spot.Tie as tie
 
-read-requires : tie.Need-read-requires
-read-requires c κs = search needs
-
-cell-of-requires : tie.Need-cell-of-requires
-cell-of-requires c κs = search needs
-
-enum-known-x : tie.Need-enum-known-x
-enum-known-x c = search needs
-
 enum-told : tie.Need-enum-told
 enum-told c = search needs
 
@@ -25,9 +16,6 @@ returns c =
       inside = tt;
       finds = λ q g v S. slot-blank g v _ _ _ (blank-seen S (read .ensures) (cell-of .ensures) (enum-told .given .1));
     }
-
-open-slot-requires : tie.Need-open-slot-requires
-open-slot-requires c κs = search needs
 
 returns-2 : tie.Need-returns-2
 returns-2 c =
@@ -44,10 +32,10 @@ pub slot-spot-spec : {M : Type 1} → statement M
 slot-spot-spec =
     tie.close
     (tie.spec
-    read-requires
-    cell-of-requires
-    enum-known-x
+    (λ c κs. search needs)
+    (λ c κs. search needs)
+    (λ c. search needs)
     enum-told
     returns
-    open-slot-requires
+    (λ c κs. search needs)
     returns-2)

@@ -9,33 +9,6 @@ use Rattle.watched_plan.proofs.Laws.{inside-spot, store-at, store-halt}
 use Rattle.watched_plan.proofs.store_guarded.Statement.{statement}
 use Rattle.watched_plan.proofs.store_guarded.Tie as tie
 
-element-spot-requires : tie.Need-element-spot-requires
-element-spot-requires c κs = search needs
-
-enum-known-o : tie.Need-enum-known-o
-enum-known-o c = search needs
-
-cast-read : tie.Need-cast-read
-cast-read c = search needs
-
-read-requires : tie.Need-read-requires
-read-requires c κs = search needs
-
-kind-in-requires : tie.Need-kind-in-requires
-kind-in-requires c κs = search needs
-
-read-requires-2 : tie.Need-read-requires-2
-read-requires-2 c κs = search needs
-
-bind-word-requires : tie.Need-bind-word-requires
-bind-word-requires c κs = search needs
-
-stored-at-requires : tie.Need-stored-at-requires
-stored-at-requires c κs = search needs
-
-enum-known-k : tie.Need-enum-known-k
-enum-known-k c = search needs
-
 returns : tie.Need-returns
 returns c =
     let stored-at = c .stored-at in
@@ -59,14 +32,14 @@ pub store-guarded-spec : {M : Type 1} → statement M
 store-guarded-spec =
     tie.close
     (tie.spec
-    element-spot-requires
-    enum-known-o
-    cast-read
-    read-requires
-    kind-in-requires
-    read-requires-2
-    bind-word-requires
-    stored-at-requires
-    enum-known-k
+    (λ c κs. search needs)
+    (λ c. search needs)
+    (λ c. search needs)
+    (λ c κs. search needs)
+    (λ c κs. search needs)
+    (λ c κs. search needs)
+    (λ c κs. search needs)
+    (λ c κs. search needs)
+    (λ c. search needs)
     returns
     returns-2)

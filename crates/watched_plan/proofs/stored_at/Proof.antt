@@ -4,12 +4,6 @@ use Rattle.watched_plan.proofs.Laws.{stored-ok, stored-to, stored-halt}
 use Rattle.watched_plan.proofs.stored_at.Statement.{statement}
 use Rattle.watched_plan.proofs.stored_at.Tie as tie
 
-enum-known-m : tie.Need-enum-known-m
-enum-known-m c = search needs
-
-enum-known-m-2 : tie.Need-enum-known-m-2
-enum-known-m-2 c = search needs
-
 returns : tie.Need-returns
 returns c =
     (λ h here fine. stored-ok h (c .before .m .given .1) here fine, λ q. stored-to q _ _ (c .before .m .given .1))
@@ -19,4 +13,4 @@ returns-2 c =
     (λ h here fine. tt, λ q. stored-halt q _ _ (c .before .m2 .given .1))
 
 pub stored-at-spec : {M : Type 1} → statement M
-stored-at-spec = tie.close (tie.spec enum-known-m enum-known-m-2 returns returns-2)
+stored-at-spec = tie.close (tie.spec (λ c. search needs) (λ c. search needs) returns returns-2)

@@ -9,21 +9,6 @@ use Rattle.watched_plan.proofs.subtract_guarded.Tie as tie
 
 -- Two integers, whose difference `give` moves on, or a stop, which stays what it is.
 
-two-integers-requires : tie.Need-two-integers-requires
-two-integers-requires c κs = search needs
-
-enum-known-m : tie.Need-enum-known-m
-enum-known-m c = search needs
-
-wrapping-sub-u32-requires : tie.Need-wrapping-sub-u32-requires
-wrapping-sub-u32-requires c κs = search needs
-
-give-requires : tie.Need-give-requires
-give-requires c κs = search needs
-
-enum-known-k : tie.Need-enum-known-k
-enum-known-k c = search needs
-
 returns : tie.Need-returns
 unfolding plan minus
 returns c =
@@ -46,10 +31,10 @@ pub subtract-guarded-spec : {M : Type 1} → statement M
 subtract-guarded-spec =
     tie.close
     (tie.spec
-    two-integers-requires
-    enum-known-m
-    wrapping-sub-u32-requires
-    give-requires
-    enum-known-k
+    (λ c κs. search needs)
+    (λ c. search needs)
+    (λ c κs. search needs)
+    (λ c κs. search needs)
+    (λ c. search needs)
     returns
     returns-2)

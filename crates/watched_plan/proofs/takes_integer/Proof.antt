@@ -6,12 +6,6 @@ use Rattle.watched_plan.proofs.Laws.{inner-type}
 use Rattle.watched_plan.proofs.takes_integer.Statement.{statement}
 use Rattle.watched_plan.proofs.takes_integer.Tie as tie
 
-inner-of-requires : tie.Need-inner-of-requires
-inner-of-requires c κs = search needs
-
-is-integer-requires : tie.Need-is-integer-requires
-is-integer-requires c κs = search needs
-
 returns : tie.Need-returns
 returns c =
     let is-integer = c .is-integer in
@@ -21,4 +15,4 @@ returns c =
     is-integer .ensures ∙ ap isInteger (inner-type (args .s .now) (args .pr) (args .a) (pre) (inner-of .ensures))
 
 pub takes-integer-spec : {M : Type 1} → statement M
-takes-integer-spec = tie.close (tie.spec inner-of-requires is-integer-requires returns)
+takes-integer-spec = tie.close (tie.spec (λ c κs. search needs) (λ c κs. search needs) returns)

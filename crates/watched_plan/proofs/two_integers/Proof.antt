@@ -4,33 +4,9 @@ use Rattle.watched_plan.proofs.Laws.{first-blank, second-blank, two-wor
 use Rattle.watched_plan.proofs.two_integers.Statement.{statement}
 use Rattle.watched_plan.proofs.two_integers.Tie as tie
 
-read-requires : tie.Need-read-requires
-read-requires c κs = search needs
-
-cell-of-requires : tie.Need-cell-of-requires
-cell-of-requires c κs = search needs
-
-enum-known-x : tie.Need-enum-known-x
-enum-known-x c = search needs
-
-enum-told : tie.Need-enum-told
-enum-told c = search needs
-
 returns : tie.Need-returns
 returns c =
     λ q g v h s. first-blank g v _ _ (blank-seen s (c .before .before .before .read .ensures) (c .before .before .cell-of .ensures) (c .enum-told .given .1))
-
-read-requires-2 : tie.Need-read-requires-2
-read-requires-2 c κs = search needs
-
-cell-of-requires-2 : tie.Need-cell-of-requires-2
-cell-of-requires-2 c κs = search needs
-
-enum-known-y : tie.Need-enum-known-y
-enum-known-y c = search needs
-
-enum-told-2 : tie.Need-enum-told-2
-enum-told-2 c = search needs
 
 returns-2 : tie.Need-returns-2
 returns-2 c =
@@ -41,18 +17,6 @@ returns-2 c =
     let cell-of2 = c .before .before .cell-of2 in
     let enum-told2 = c .enum-told2 in
     λ q g v h s. second-blank g v _ _ (filled-seen s (read .ensures) (cell-of .ensures) (x .given .1)) (blank-seen s (read2 .ensures) (cell-of2 .ensures) (enum-told2 .given .1))
-
-tag-of-requires : tie.Need-tag-of-requires
-tag-of-requires c κs = search needs
-
-tag-of-requires-2 : tie.Need-tag-of-requires-2
-tag-of-requires-2 c κs = search needs
-
-low-of-requires : tie.Need-low-of-requires
-low-of-requires c κs = search needs
-
-low-of-requires-2 : tie.Need-low-of-requires-2
-low-of-requires-2 c κs = search needs
 
 returns-3 : tie.Need-returns-3
 returns-3 c =
@@ -86,19 +50,19 @@ pub two-integers-spec : {M : Type 1} → statement M
 two-integers-spec =
     tie.close
     (tie.spec
-    read-requires
-    cell-of-requires
-    enum-known-x
-    enum-told
+    (λ c κs. search needs)
+    (λ c κs. search needs)
+    (λ c. search needs)
+    (λ c. search needs)
     returns
-    read-requires-2
-    cell-of-requires-2
-    enum-known-y
-    enum-told-2
+    (λ c κs. search needs)
+    (λ c κs. search needs)
+    (λ c. search needs)
+    (λ c. search needs)
     returns-2
-    tag-of-requires
-    tag-of-requires-2
-    low-of-requires
-    low-of-requires-2
+    (λ c κs. search needs)
+    (λ c κs. search needs)
+    (λ c κs. search needs)
+    (λ c κs. search needs)
     returns-3
     returns-4)

@@ -5,12 +5,9 @@ use borrow.Author.Needs.{needs}
 use Rattle.words.proofs.back_kept.Statement.{statement}
 use Rattle.words.proofs.back_kept.Tie as tie
 
-cast-result : tie.Need-cast-result
-cast-result c = search needs
-
 returns : tie.Need-returns
 unfolding payload
 returns c = omega arith
 
 pub back-kept-spec : {M : Type 1} → statement M
-back-kept-spec = tie.close (tie.spec cast-result returns)
+back-kept-spec = tie.close (tie.spec (λ c. search needs) returns)

@@ -5,12 +5,9 @@ use borrow.Author.Needs.{needs}
 use Rattle.words.proofs.back_procedure.Statement.{statement}
 use Rattle.words.proofs.back_procedure.Tie as tie
 
-cast-result : tie.Need-cast-result
-cast-result c = search needs
-
 returns : tie.Need-returns
 unfolding payload
 returns c = omega arith
 
 pub back-procedure-spec : {M : Type 1} → statement M
-back-procedure-spec = tie.close (tie.spec cast-result returns)
+back-procedure-spec = tie.close (tie.spec (λ c. search needs) returns)

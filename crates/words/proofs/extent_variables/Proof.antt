@@ -5,12 +5,9 @@ use borrow.Author.Needs.{needs}
 use Rattle.words.proofs.extent_variables.Statement.{statement}
 use Rattle.words.proofs.extent_variables.Tie as tie
 
-cast-result : tie.Need-cast-result
-cast-result c = search needs
-
 returns : tie.Need-returns
 unfolding payload
 returns c = omega arith
 
 pub extent-variables-spec : {M : Type 1} → statement M
-extent-variables-spec = tie.close (tie.spec cast-result returns)
+extent-variables-spec = tie.close (tie.spec (λ c. search needs) returns)

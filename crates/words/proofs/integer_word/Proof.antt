@@ -8,9 +8,6 @@ use borrow.Author.Needs.{needs}
 use Rattle.words.proofs.integer_word.Statement.{statement}
 use Rattle.words.proofs.integer_word.Tie as tie
 
-add-result : tie.Need-add-result
-add-result c = search needs
-
 returns : tie.Need-returns
 unfolding pack
 returns c m q =
@@ -18,4 +15,4 @@ returns c m q =
     rw packed (integer-packed m q _ (omega arith))
 
 pub integer-word-spec : {M : Type 1} → statement M
-integer-word-spec = tie.close (tie.spec add-result returns)
+integer-word-spec = tie.close (tie.spec (λ c. search needs) returns)

@@ -5,12 +5,9 @@ use borrow.Author.Needs.{needs}
 use Rattle.words.proofs.low_of.Statement.{statement}
 use Rattle.words.proofs.low_of.Tie as tie
 
-cast-result : tie.Need-cast-result
-cast-result c = search needs
-
 returns : tie.Need-returns
 unfolding low
 returns c = omega arith
 
 pub low-of-spec : {M : Type 1} → statement M
-low-of-spec = tie.close (tie.spec cast-result returns)
+low-of-spec = tie.close (tie.spec (λ c. search needs) returns)

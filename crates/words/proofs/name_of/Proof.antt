@@ -5,12 +5,9 @@ use borrow.Author.Needs.{needs}
 use Rattle.words.proofs.name_of.Statement.{statement}
 use Rattle.words.proofs.name_of.Tie as tie
 
-cast-result : tie.Need-cast-result
-cast-result c = search needs
-
 returns : tie.Need-returns
 unfolding payload
 returns c = omega arith
 
 pub name-of-spec : {M : Type 1} → statement M
-name-of-spec = tie.close (tie.spec cast-result returns)
+name-of-spec = tie.close (tie.spec (λ c. search needs) returns)

@@ -8,21 +8,6 @@ use borrow.Author.Needs.{needs}
 use Rattle.words.proofs.record_word.Statement.{statement}
 use Rattle.words.proofs.record_word.Tie as tie
 
-mul-result : tie.Need-mul-result
-mul-result c = search needs
-
-add-result : tie.Need-add-result
-add-result c = search needs
-
-mul-result-2 : tie.Need-mul-result-2
-mul-result-2 c = search needs
-
-add-result-2 : tie.Need-add-result-2
-add-result-2 c = search needs
-
-mul-result-3 : tie.Need-mul-result-3
-mul-result-3 c = search needs
-
 returns : tie.Need-returns
 unfolding pack
 returns c m q =
@@ -30,4 +15,4 @@ returns c m q =
     rw packed (record-packed m q _ _ (omega arith) (c .pre))
 
 pub record-word-spec : {M : Type 1} → statement M
-record-word-spec = tie.close (tie.spec mul-result add-result mul-result-2 add-result-2 mul-result-3 returns)
+record-word-spec = tie.close (tie.spec (λ c. search needs) (λ c. search needs) (λ c. search needs) (λ c. search needs) (λ c. search needs) returns)

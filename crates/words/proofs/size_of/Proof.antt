@@ -5,12 +5,9 @@ use borrow.Author.Needs.{needs}
 use Rattle.words.proofs.size_of.Statement.{statement}
 use Rattle.words.proofs.size_of.Tie as tie
 
-cast-result : tie.Need-cast-result
-cast-result c = search needs
-
 returns : tie.Need-returns
 unfolding payload
 returns c = omega arith
 
 pub size-of-spec : {M : Type 1} → statement M
-size-of-spec = tie.close (tie.spec cast-result returns)
+size-of-spec = tie.close (tie.spec (λ c. search needs) returns)

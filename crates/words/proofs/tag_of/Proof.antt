@@ -5,12 +5,9 @@ use borrow.Author.Needs.{needs}
 use Rattle.words.proofs.tag_of.Statement.{statement}
 use Rattle.words.proofs.tag_of.Tie as tie
 
-cast-result : tie.Need-cast-result
-cast-result c = search needs
-
 returns : tie.Need-returns
 unfolding tag
 returns c = omega arith
 
 pub tag-of-spec : {M : Type 1} → statement M
-tag-of-spec = tie.close (tie.spec cast-result returns)
+tag-of-spec = tie.close (tie.spec (λ c. search needs) returns)

@@ -10,32 +10,8 @@ use borrow.Author.Needs.{needs}
 use Rattle.writers.proofs.allot.Statement.{statement}
 use Rattle.writers.proofs.allot.Tie as tie
 
-add-cells : tie.Need-add-cells
-add-cells c = search needs
-
-add-end : tie.Need-add-end
-add-end c = search needs
-
-mul-memory : tie.Need-mul-memory
-mul-memory c = search needs
-
-slice-write-memory : tie.Need-slice-write-memory
-slice-write-memory c = search needs
-
-mul-clear : tie.Need-mul-clear
-mul-clear c = search needs
-
-sub-clear : tie.Need-sub-clear
-sub-clear c = search needs
-
-part-clear-start : tie.Need-part-clear-start
-part-clear-start c = search needs
-
 part-clear-end : tie.Need-part-clear-end
 part-clear-end c = simp length-set (omega arith)
-
-clear-requires : tie.Need-clear-requires
-clear-requires c κs = search needs
 
 put-variable-requires : tie.Need-put-variable-requires
 put-variable-requires c κs =
@@ -43,9 +19,6 @@ put-variable-requires c κs =
     let clear = c .before .before .before .clear in
     let fits : s .r .used + 1 + s .n ≤ length (now (s .memory)) = omega arith in
     rw (length-laid (now (s .memory)) _ (s .r .used) (s .head) (s .n) fits (clear .ensures)) (omega arith)
-
-add-t14 : tie.Need-add-t14
-add-t14 c = search needs
 
 same-length : tie.Need-same-length
 same-length c =
@@ -70,16 +43,16 @@ pub allot-spec : {M : Type 1} → statement M
 allot-spec =
     tie.close
     (tie.spec
-    add-cells
-    add-end
-    mul-memory
-    slice-write-memory
-    mul-clear
-    sub-clear
-    part-clear-start
+    (λ c. search needs)
+    (λ c. search needs)
+    (λ c. search needs)
+    (λ c. search needs)
+    (λ c. search needs)
+    (λ c. search needs)
+    (λ c. search needs)
     part-clear-end
-    clear-requires
+    (λ c κs. search needs)
     put-variable-requires
-    add-t14
+    (λ c. search needs)
     same-length
     returns)

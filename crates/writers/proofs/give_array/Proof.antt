@@ -10,36 +10,9 @@ use borrow.Author.Needs.{needs}
 use Rattle.writers.proofs.give_array.Statement.{statement}
 use Rattle.writers.proofs.give_array.Tie as tie
 
-enum-known-n : tie.Need-enum-known-n
-enum-known-n c = search needs
-
-cast-if1 : tie.Need-cast-if1
-cast-if1 c = search needs
-
-sub-if1 : tie.Need-sub-if1
-sub-if1 c = search needs
-
-cast-object-word : tie.Need-cast-object-word
-cast-object-word c = search needs
-
-object-word-requires : tie.Need-object-word-requires
-object-word-requires c κs = search needs
-
-array-word-requires : tie.Need-array-word-requires
-array-word-requires c κs = search needs
-
-allot-requires : tie.Need-allot-requires
-allot-requires c κs = search needs
-
-same-length : tie.Need-same-length
-same-length c = search needs
-
 returns : tie.Need-returns
 returns c =
     let s = c .before .before .before .before .before .before .before .before .before .before .before .before .before .args in λ g out q. let room : s .r .used + (c .before .before .before .before .before .before .before .before .before .before .n .given .0 .0 + 1) ≤ s .r .base = omega arith in rw (c .before .before .allot .ensures .0, c .before .before .before .before .before .before .before .before .before .before .n .given .1, array-plain _ _ _ q (c .before .before .before .before .before .before .before .if1 .taken)) (does-array plain g _ _ out (s .r) (s .a) _ _ _ tt room (c .before .before .before .before .before .object-word .ensures plain (qualOf (g .sheet))) (c .before .before .allot .ensures .1 plain (qualOf (g .sheet))) tt (c .before .before .before .array-word .ensures plain (qualOf (g .sheet))))
-
-enum-known-n-2 : tie.Need-enum-known-n-2
-enum-known-n-2 c = search needs
 
 returns-2 : tie.Need-returns-2
 returns-2 c =
@@ -53,15 +26,15 @@ pub give-array-spec : {M : Type 1} → statement M
 give-array-spec =
     tie.close
     (tie.spec
-    enum-known-n
-    cast-if1
-    sub-if1
-    cast-object-word
-    object-word-requires
-    array-word-requires
-    allot-requires
-    same-length
+    (λ c. search needs)
+    (λ c. search needs)
+    (λ c. search needs)
+    (λ c. search needs)
+    (λ c κs. search needs)
+    (λ c κs. search needs)
+    (λ c κs. search needs)
+    (λ c. search needs)
     returns
-    enum-known-n-2
+    (λ c. search needs)
     returns-2
     returns-3)

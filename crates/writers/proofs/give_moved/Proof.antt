@@ -7,24 +7,6 @@ use borrow.Author.Needs.{needs}
 use Rattle.writers.proofs.give_moved.Statement.{statement}
 use Rattle.writers.proofs.give_moved.Tie as tie
 
-enum-known-m : tie.Need-enum-known-m
-enum-known-m c = search needs
-
-put-variable-requires : tie.Need-put-variable-requires
-put-variable-requires c κs = search needs
-
-add-at-next : tie.Need-add-at-next
-add-at-next c = search needs
-
-at-next-requires : tie.Need-at-next-requires
-at-next-requires c κs = search needs
-
-enum-known-m-2 : tie.Need-enum-known-m-2
-enum-known-m-2 c = search needs
-
-same-length : tie.Need-same-length
-same-length c = search needs
-
 returns : tie.Need-returns
 unfolding moved-to
 returns c =
@@ -42,11 +24,11 @@ pub give-moved-spec : {M : Type 1} → statement M
 give-moved-spec =
     tie.close
     (tie.spec
-    enum-known-m
-    put-variable-requires
-    add-at-next
-    at-next-requires
-    enum-known-m-2
-    same-length
+    (λ c. search needs)
+    (λ c κs. search needs)
+    (λ c. search needs)
+    (λ c κs. search needs)
+    (λ c. search needs)
+    (λ c. search needs)
     returns
     returns-2)

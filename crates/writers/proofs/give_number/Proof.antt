@@ -9,27 +9,6 @@ use borrow.Author.Needs.{needs}
 use Rattle.writers.proofs.give_number.Statement.{statement}
 use Rattle.writers.proofs.give_number.Tie as tie
 
-enum-known-n : tie.Need-enum-known-n
-enum-known-n c = search needs
-
-integer-word-requires : tie.Need-integer-word-requires
-integer-word-requires c κs = search needs
-
-put-variable-requires : tie.Need-put-variable-requires
-put-variable-requires c κs = search needs
-
-add-at-next : tie.Need-add-at-next
-add-at-next c = search needs
-
-at-next-requires : tie.Need-at-next-requires
-at-next-requires c κs = search needs
-
-enum-known-n-2 : tie.Need-enum-known-n-2
-enum-known-n-2 c = search needs
-
-same-length : tie.Need-same-length
-same-length c = search needs
-
 returns : tie.Need-returns
 unfolding given
 returns c =
@@ -47,12 +26,12 @@ pub give-number-spec : {M : Type 1} → statement M
 give-number-spec =
     tie.close
     (tie.spec
-    enum-known-n
-    integer-word-requires
-    put-variable-requires
-    add-at-next
-    at-next-requires
-    enum-known-n-2
-    same-length
+    (λ c. search needs)
+    (λ c κs. search needs)
+    (λ c κs. search needs)
+    (λ c. search needs)
+    (λ c κs. search needs)
+    (λ c. search needs)
+    (λ c. search needs)
     returns
     returns-2)

@@ -10,27 +10,6 @@ use borrow.Author.Needs.{needs}
 use Rattle.writers.proofs.give_record.Statement.{statement}
 use Rattle.writers.proofs.give_record.Tie as tie
 
-cast-if1 : tie.Need-cast-if1
-cast-if1 c = search needs
-
-sub-if1 : tie.Need-sub-if1
-sub-if1 c = search needs
-
-cast-object-word : tie.Need-cast-object-word
-cast-object-word c = search needs
-
-object-word-requires : tie.Need-object-word-requires
-object-word-requires c κs = search needs
-
-record-word-requires : tie.Need-record-word-requires
-record-word-requires c κs = search needs
-
-allot-requires : tie.Need-allot-requires
-allot-requires c κs = search needs
-
-same-length : tie.Need-same-length
-same-length c = search needs
-
 returns : tie.Need-returns
 returns c =
     let s = c .before .before .before .before .before .before .before .before .before .before .args in λ g out q t named. let room : s .r .used + (s .slots + 1) ≤ s .r .base = omega arith in rw (c .before .before .allot .ensures .0, record-plain _ _ q t named _ (c .before .before .before .before .before .before .before .if1 .taken)) (does-record plain g _ _ out (s .r) (s .a) _ _ _ tt room (c .before .before .before .before .before .object-word .ensures plain (qualOf (g .sheet))) (c .before .before .allot .ensures .1 plain (qualOf (g .sheet))) tt (c .before .before .before .record-word .ensures plain (qualOf (g .sheet))))
@@ -43,12 +22,12 @@ pub give-record-spec : {M : Type 1} → statement M
 give-record-spec =
     tie.close
     (tie.spec
-    cast-if1
-    sub-if1
-    cast-object-word
-    object-word-requires
-    record-word-requires
-    allot-requires
-    same-length
+    (λ c. search needs)
+    (λ c. search needs)
+    (λ c. search needs)
+    (λ c κs. search needs)
+    (λ c κs. search needs)
+    (λ c κs. search needs)
+    (λ c. search needs)
     returns
     returns-2)

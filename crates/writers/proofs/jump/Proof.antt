@@ -5,25 +5,10 @@ use borrow.Author.Needs.{needs}
 use Rattle.writers.proofs.jump.Statement.{statement}
 use Rattle.writers.proofs.jump.Tie as tie
 
-enum-known-n : tie.Need-enum-known-n
-enum-known-n c = search needs
-
-at-next-requires : tie.Need-at-next-requires
-at-next-requires c κs = search needs
-
 returns : tie.Need-returns
 returns c =
     λ m g words out. rw (c .at-next .ensures, c .before .before .before .n .given .1, jumped-zero m _ _ (c .before .if1 .taken))
     (does-jump m g words out (c .before .before .before .before .before .args .r) (c .before .before .before .before .before .args .k))
-
-add-at-next : tie.Need-add-at-next
-add-at-next c = search needs
-
-at-next-requires-2 : tie.Need-at-next-requires-2
-at-next-requires-2 c κs = search needs
-
-enum-known-n-2 : tie.Need-enum-known-n-2
-enum-known-n-2 c = search needs
 
 returns-2 : tie.Need-returns-2
 returns-2 c =
@@ -38,11 +23,11 @@ pub jump-spec : {M : Type 1} → statement M
 jump-spec =
     tie.close
     (tie.spec
-    enum-known-n
-    at-next-requires
+    (λ c. search needs)
+    (λ c κs. search needs)
     returns
-    add-at-next
-    at-next-requires-2
-    enum-known-n-2
+    (λ c. search needs)
+    (λ c κs. search needs)
+    (λ c. search needs)
     returns-2
     returns-3)

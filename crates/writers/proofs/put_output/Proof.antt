@@ -6,31 +6,10 @@ use borrow.Author.Needs.{needs}
 use Rattle.writers.proofs.put_output.Statement.{statement}
 use Rattle.writers.proofs.put_output.Tie as tie
 
-enum-known-n : tie.Need-enum-known-n
-enum-known-n c = search needs
-
-mul-output : tie.Need-mul-output
-mul-output c = search needs
-
-slice-write-output : tie.Need-slice-write-output
-slice-write-output c = search needs
-
-add-t10 : tie.Need-add-t10
-add-t10 c = search needs
-
-add-t12 : tie.Need-add-t12
-add-t12 c = search needs
-
-same-length : tie.Need-same-length
-same-length c = search needs
-
 returns : tie.Need-returns
 returns c =
     λ m g words. rw (c .before .before .before .n .given .1, put-there m _ _ _ (c .before .if1 .taken))
     (does-put m g words _ (c .before .before .before .before .before .args .r) _ (c .before .if1 .taken))
-
-enum-known-n-2 : tie.Need-enum-known-n-2
-enum-known-n-2 c = search needs
 
 returns-2 : tie.Need-returns-2
 returns-2 c =
@@ -45,13 +24,13 @@ pub put-output-spec : {M : Type 1} → statement M
 put-output-spec =
     tie.close
     (tie.spec
-    enum-known-n
-    mul-output
-    slice-write-output
-    add-t10
-    add-t12
-    same-length
+    (λ c. search needs)
+    (λ c. search needs)
+    (λ c. search needs)
+    (λ c. search needs)
+    (λ c. search needs)
+    (λ c. search needs)
     returns
-    enum-known-n-2
+    (λ c. search needs)
     returns-2
     returns-3)

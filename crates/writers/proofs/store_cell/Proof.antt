@@ -13,43 +13,10 @@ use borrow.Author.Needs.{needs}
 use Rattle.writers.proofs.store_cell.Statement.{statement}
 use Rattle.writers.proofs.store_cell.Tie as tie
 
-enum-known-m : tie.Need-enum-known-m
-enum-known-m c = search needs
-
-slice-relend-prefix-write : tie.Need-slice-relend-prefix-write
-slice-relend-prefix-write c = search needs
-
 slice-aggregate-write : tie.Need-slice-aggregate-write
 slice-aggregate-write c =
     let h : c .before .before .before .before .before .args .r .used ≤ length (now (c .before .before .before .before .before .args .memory)) = omega arith in
     sym (length-take-le _ _ h)
-
-cast-write : tie.Need-cast-write
-cast-write c = search needs
-
-add-write : tie.Need-add-write
-add-write c = search needs
-
-cast-write-2 : tie.Need-cast-write-2
-cast-write-2 c = search needs
-
-add-write-2 : tie.Need-add-write-2
-add-write-2 c = search needs
-
-write-requires : tie.Need-write-requires
-write-requires c κs = search needs
-
-add-at-next : tie.Need-add-at-next
-add-at-next c = search needs
-
-at-next-requires : tie.Need-at-next-requires
-at-next-requires c κs = search needs
-
-enum-known-m-2 : tie.Need-enum-known-m-2
-enum-known-m-2 c = search needs
-
-same-length : tie.Need-same-length
-same-length c = search needs
 
 returns : tie.Need-returns
 unfolding stored
@@ -69,17 +36,17 @@ pub store-cell-spec : {M : Type 1} → statement M
 store-cell-spec =
     tie.close
     (tie.spec
-    enum-known-m
-    slice-relend-prefix-write
+    (λ c. search needs)
+    (λ c. search needs)
     slice-aggregate-write
-    cast-write
-    add-write
-    cast-write-2
-    add-write-2
-    write-requires
-    add-at-next
-    at-next-requires
-    enum-known-m-2
-    same-length
+    (λ c. search needs)
+    (λ c. search needs)
+    (λ c. search needs)
+    (λ c. search needs)
+    (λ c κs. search needs)
+    (λ c. search needs)
+    (λ c κs. search needs)
+    (λ c. search needs)
+    (λ c. search needs)
     returns
     returns-2)

@@ -10,27 +10,6 @@ use borrow.Author.Needs.{needs}
 use Rattle.writers.proofs.take_input.Statement.{statement}
 use Rattle.writers.proofs.take_input.Tie as tie
 
-mul-integer-word : tie.Need-mul-integer-word
-mul-integer-word c = search needs
-
-shared-slice-read-integer-word : tie.Need-shared-slice-read-integer-word
-shared-slice-read-integer-word c = search needs
-
-integer-word-requires : tie.Need-integer-word-requires
-integer-word-requires c κs = search needs
-
-put-variable-requires : tie.Need-put-variable-requires
-put-variable-requires c κs = search needs
-
-add-t12 : tie.Need-add-t12
-add-t12 c = search needs
-
-add-t15 : tie.Need-add-t15
-add-t15 c = search needs
-
-same-length : tie.Need-same-length
-same-length c = search needs
-
 returns : tie.Need-returns
 returns c =
     let s = c .before .before .before .before .before .before .before .before .before .before .args in
@@ -46,12 +25,12 @@ pub take-input-spec : {M : Type 1} → statement M
 take-input-spec =
     tie.close
     (tie.spec
-    mul-integer-word
-    shared-slice-read-integer-word
-    integer-word-requires
-    put-variable-requires
-    add-t12
-    add-t15
-    same-length
+    (λ c. search needs)
+    (λ c. search needs)
+    (λ c κs. search needs)
+    (λ c κs. search needs)
+    (λ c. search needs)
+    (λ c. search needs)
+    (λ c. search needs)
     returns
     returns-2)

@@ -6,35 +6,11 @@ use Rattle.model.proofs.Verdicts.{stop-here, go-on}
 use Rattle.access.proofs.passes.access.Statement.{statement}
 use Rattle.access.proofs.passes.access.Tie as tie
 
-byte-requires : tie.Need-byte-requires
-byte-requires c κs = search needs
-
-types-access-requires : tie.Need-types-access-requires
-types-access-requires c κs = search needs
-
-enum-told : tie.Need-enum-told
-enum-told c = search needs
-
-enum-told-2 : tie.Need-enum-told-2
-enum-told-2 c = search needs
-
 returns : tie.Need-returns
 unfolding access-rules typesOf
 returns c =
     let types = rw (c .before .before .before .byte .ensures) at (c .before .before .types-access .ensures) in
     stop-here _ _ _ _ _ types (c .enum-told2 .given .1)
-
-byte-requires-2 : tie.Need-byte-requires-2
-byte-requires-2 c κs = search needs
-
-quals-access-requires : tie.Need-quals-access-requires
-quals-access-requires c κs = search needs
-
-enum-told-3 : tie.Need-enum-told-3
-enum-told-3 c = search needs
-
-enum-told-4 : tie.Need-enum-told-4
-enum-told-4 c = search needs
 
 returns-2 : tie.Need-returns-2
 unfolding access-rules typesOf qualsOf
@@ -44,12 +20,6 @@ returns-2 c =
     let quals = rw (c .before .before .before .byte2 .ensures) at (c .before .before .quals-access .ensures) in
     go-on _ _ _ _ types (t .enum-told .given .1)
     (stop-here _ _ _ _ _ quals (c .enum-told4 .given .1))
-
-byte-requires-3 : tie.Need-byte-requires-3
-byte-requires-3 c κs = search needs
-
-cast-procedures-access : tie.Need-cast-procedures-access
-cast-procedures-access c = search needs
 
 procedures-access-requires : tie.Need-procedures-access-requires
 unfolding proceduresOf
@@ -72,17 +42,17 @@ pub access-spec : {M : Type 1} → statement M
 access-spec =
     tie.close
     (tie.spec
-    byte-requires
-    types-access-requires
-    enum-told
-    enum-told-2
+    (λ c κs. search needs)
+    (λ c κs. search needs)
+    (λ c. search needs)
+    (λ c. search needs)
     returns
-    byte-requires-2
-    quals-access-requires
-    enum-told-3
-    enum-told-4
+    (λ c κs. search needs)
+    (λ c κs. search needs)
+    (λ c. search needs)
+    (λ c. search needs)
     returns-2
-    byte-requires-3
-    cast-procedures-access
+    (λ c κs. search needs)
+    (λ c. search needs)
     procedures-access-requires
     returns-3)

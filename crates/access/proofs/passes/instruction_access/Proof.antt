@@ -6,18 +6,9 @@ use Rattle.sheet.specs.Decode.{instructionIn}
 use Rattle.access.proofs.passes.instruction_access.Statement.{statement}
 use Rattle.access.proofs.passes.instruction_access.Tie as tie
 
-instruction-in-requires : tie.Need-instruction-in-requires
-instruction-in-requires c κs = search needs
-
 instruction-number-requires : tie.Need-instruction-number-requires
 unfolding instructionIn
 instruction-number-requires c κs = rw (c .instruction-in .ensures) (c .before .before .pre)
-
-instruction-at-requires : tie.Need-instruction-at-requires
-instruction-at-requires c κs = search needs
-
-refused-requires : tie.Need-refused-requires
-refused-requires c κs = search needs
 
 returns : tie.Need-returns
 unfolding verdict instruction-rules instructionIn
@@ -28,8 +19,8 @@ pub instruction-access-spec : {M : Type 1} → statement M
 instruction-access-spec =
     tie.close
     (tie.spec
-    instruction-in-requires
+    (λ c κs. search needs)
     instruction-number-requires
-    instruction-at-requires
-    refused-requires
+    (λ c κs. search needs)
+    (λ c κs. search needs)
     returns)

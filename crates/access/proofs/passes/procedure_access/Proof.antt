@@ -5,28 +5,10 @@ use Rattle.model.proofs.Verdicts.{stop-here, go-on}
 use Rattle.access.proofs.passes.procedure_access.Statement.{statement}
 use Rattle.access.proofs.passes.procedure_access.Tie as tie
 
-head-access-requires : tie.Need-head-access-requires
-head-access-requires c κs = search needs
-
-enum-told : tie.Need-enum-told
-enum-told c = search needs
-
-enum-told-2 : tie.Need-enum-told-2
-enum-told-2 c = search needs
-
 returns : tie.Need-returns
 unfolding procedure-rules
 returns c =
     stop-here _ _ _ _ _ (c .before .before .head-access .ensures) (c .enum-told2 .given .1)
-
-variables-access-requires : tie.Need-variables-access-requires
-variables-access-requires c κs = search needs
-
-enum-told-3 : tie.Need-enum-told-3
-enum-told-3 c = search needs
-
-enum-told-4 : tie.Need-enum-told-4
-enum-told-4 c = search needs
 
 returns-2 : tie.Need-returns-2
 unfolding procedure-rules
@@ -35,9 +17,6 @@ returns-2 c =
     let variables = rw (c .before .before .before .before .before .before .before .pre .1 .0) at (c .before .before .variables-access .ensures) in
     go-on _ _ _ _ (d .before .before .head-access .ensures) (d .enum-told .given .1)
     (stop-here _ _ _ _ _ variables (c .enum-told4 .given .1))
-
-instructions-access-requires : tie.Need-instructions-access-requires
-instructions-access-requires c κs = search needs
 
 returns-3 : tie.Need-returns-3
 unfolding procedure-rules
@@ -53,13 +32,13 @@ pub procedure-access-spec : {M : Type 1} → statement M
 procedure-access-spec =
     tie.close
     (tie.spec
-    head-access-requires
-    enum-told
-    enum-told-2
+    (λ c κs. search needs)
+    (λ c. search needs)
+    (λ c. search needs)
     returns
-    variables-access-requires
-    enum-told-3
-    enum-told-4
+    (λ c κs. search needs)
+    (λ c. search needs)
+    (λ c. search needs)
     returns-2
-    instructions-access-requires
+    (λ c κs. search needs)
     returns-3)

@@ -5,15 +5,6 @@ use Rattle.model.specs.Rules.{qual-rules}
 use Rattle.access.proofs.passes.qual_access.Statement.{statement}
 use Rattle.access.proofs.passes.qual_access.Tie as tie
 
-element-rule-requires : tie.Need-element-rule-requires
-element-rule-requires c κs = search needs
-
-qual-at-requires : tie.Need-qual-at-requires
-qual-at-requires c κs = search needs
-
-refused-requires : tie.Need-refused-requires
-refused-requires c κs = search needs
-
 returns : tie.Need-returns
 unfolding verdict qual-rules
 returns c =
@@ -21,4 +12,4 @@ returns c =
 
 pub qual-access-spec : {M : Type 1} → statement M
 qual-access-spec =
-    tie.close (tie.spec element-rule-requires qual-at-requires refused-requires returns)
+    tie.close (tie.spec (λ c κs. search needs) (λ c κs. search needs) (λ c κs. search needs) returns)

@@ -5,22 +5,10 @@ use Rattle.access.proofs.Places.{type-rules-here}
 use Rattle.access.proofs.passes.type_access.Statement.{statement}
 use Rattle.access.proofs.passes.type_access.Tie as tie
 
-mul-at : tie.Need-mul-at
-mul-at c = search needs
-
-add-at : tie.Need-add-at
-add-at c = search needs
-
-slots-rule-requires : tie.Need-slots-rule-requires
-slots-rule-requires c κs = search needs
-
-refused-requires : tie.Need-refused-requires
-refused-requires c κs = search needs
-
 returns : tie.Need-returns
 unfolding verdict
 returns c =
     rw (c .refused .ensures, c .before .slots-rule .ensures, type-rules-here)
 
 pub type-access-spec : {M : Type 1} → statement M
-type-access-spec = tie.close (tie.spec mul-at add-at slots-rule-requires refused-requires returns)
+type-access-spec = tie.close (tie.spec (λ c. search needs) (λ c. search needs) (λ c κs. search needs) (λ c κs. search needs) returns)

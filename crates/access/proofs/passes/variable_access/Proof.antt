@@ -5,15 +5,6 @@ use Rattle.model.specs.Rules.{variable-rule, variable-rules}
 use Rattle.access.proofs.passes.variable_access.Statement.{statement}
 use Rattle.access.proofs.passes.variable_access.Tie as tie
 
-variable-number-requires : tie.Need-variable-number-requires
-variable-number-requires c κs = search needs
-
-variable-at-requires : tie.Need-variable-at-requires
-variable-at-requires c κs = search needs
-
-refused-requires : tie.Need-refused-requires
-refused-requires c κs = search needs
-
 returns : tie.Need-returns
 unfolding verdict variable-rule variable-rules
 returns c =
@@ -21,4 +12,4 @@ returns c =
 
 pub variable-access-spec : {M : Type 1} → statement M
 variable-access-spec =
-    tie.close (tie.spec variable-number-requires variable-at-requires refused-requires returns)
+    tie.close (tie.spec (λ c κs. search needs) (λ c κs. search needs) (λ c κs. search needs) returns)

@@ -10,33 +10,6 @@ use Rattle.form.proofs.Laws.{call-none, call-outside, call-inside}
 use Rattle.form.proofs.calls.call_number.Statement.{statement}
 use Rattle.form.proofs.calls.call_number.Tie as tie
 
-byte-requires : tie.Need-byte-requires
-byte-requires c κs = search needs
-
-word-requires : tie.Need-word-requires
-word-requires c κs = search needs
-
-cast-k : tie.Need-cast-k
-cast-k c = search needs
-
-byte-requires-2 : tie.Need-byte-requires-2
-byte-requires-2 c κs = search needs
-
-cast-if2 : tie.Need-cast-if2
-cast-if2 c = search needs
-
-procedure-word-requires : tie.Need-procedure-word-requires
-procedure-word-requires c κs = search needs
-
-formals-in-requires : tie.Need-formals-in-requires
-formals-in-requires c κs = search needs
-
-byte-requires-3 : tie.Need-byte-requires-3
-byte-requires-3 c κs = search needs
-
-actuals-scale-requires : tie.Need-actuals-scale-requires
-actuals-scale-requires c κs = search needs
-
 as-defined : (c : tie.After-actuals-scale) →
     let a = c .before .before .before .before .before .before .before .before .before .before .args in
     cond (c .actuals-scale .result) 0 5 ≡ failure (call-tests-at (a .s .now) (a .v) (a .at))
@@ -69,15 +42,15 @@ pub call-number-spec : {M : Type 1} → statement M
 call-number-spec =
     tie.close
     (tie.spec
-    byte-requires
-    word-requires
-    cast-k
-    byte-requires-2
-    cast-if2
-    procedure-word-requires
-    formals-in-requires
-    byte-requires-3
-    actuals-scale-requires
+    (λ c κs. search needs)
+    (λ c κs. search needs)
+    (λ c. search needs)
+    (λ c κs. search needs)
+    (λ c. search needs)
+    (λ c κs. search needs)
+    (λ c κs. search needs)
+    (λ c κs. search needs)
+    (λ c κs. search needs)
     returns
     returns-2
     returns-3

@@ -4,9 +4,6 @@ use Rattle.model.proofs.Verdicts.{tests-pass, tests-stop}
 use Rattle.form.proofs.calls.call_record.Statement.{statement}
 use Rattle.form.proofs.calls.call_record.Tie as tie
 
-call-number-requires : tie.Need-call-number-requires
-call-number-requires c κs = search needs
-
 returns : tie.Need-returns
 returns c = tests-pass _ _ _ (c .before .call-number .ensures) (c .if1 .taken)
 
@@ -14,4 +11,4 @@ returns-2 : tie.Need-returns-2
 returns-2 c = tests-stop _ _ _ (c .before .call-number .ensures) (c .if1 .left)
 
 pub call-record-spec : {M : Type 1} → statement M
-call-record-spec = tie.close (tie.spec call-number-requires returns returns-2)
+call-record-spec = tie.close (tie.spec (λ c κs. search needs) returns returns-2)

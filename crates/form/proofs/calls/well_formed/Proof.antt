@@ -9,25 +9,10 @@ use Rattle.form.proofs.Laws.{layout-small}
 use Rattle.form.proofs.calls.well_formed.Statement.{statement}
 use Rattle.form.proofs.calls.well_formed.Tie as tie
 
-layout-requires : tie.Need-layout-requires
-layout-requires c κs = search needs
-
-enum-told : tie.Need-enum-told
-enum-told c = search needs
-
-enum-told-2 : tie.Need-enum-told-2
-enum-told-2 c = search needs
-
 returns : tie.Need-returns
 unfolding form-tests
 returns c =
     rw (← append-assoc) (stop-here _ _ _ _ _ (c .before .before .layout .ensures) (c .enum-told2 .given .1))
-
-byte-requires : tie.Need-byte-requires
-byte-requires c κs = search needs
-
-cast-calls : tie.Need-cast-calls
-cast-calls c = search needs
 
 calls-requires : tie.Need-calls-requires
 unfolding proceduresOf
@@ -47,11 +32,11 @@ pub well-formed-spec : {M : Type 1} → statement M
 well-formed-spec =
     tie.close
     (tie.spec
-    layout-requires
-    enum-told
-    enum-told-2
+    (λ c κs. search needs)
+    (λ c. search needs)
+    (λ c. search needs)
     returns
-    byte-requires
-    cast-calls
+    (λ c κs. search needs)
+    (λ c. search needs)
     calls-requires
     returns-2)

@@ -11,26 +11,8 @@ use Rattle.form.proofs.Procedures.{last-record}
 use Rattle.form.proofs.layout.layout.Statement.{statement}
 use Rattle.form.proofs.layout.layout.Tie as tie
 
-overlong-requires : tie.Need-overlong-requires
-overlong-requires c κs = search needs
-
-enum-told : tie.Need-enum-told
-enum-told c = search needs
-
-enum-told-2 : tie.Need-enum-told-2
-enum-told-2 c = search needs
-
 returns : tie.Need-returns
 returns c = stop-here _ _ _ _ _ (c .before .before .overlong .ensures) (c .enum-told2 .given .1)
-
-header-requires : tie.Need-header-requires
-header-requires c κs = search needs
-
-enum-told-3 : tie.Need-enum-told-3
-enum-told-3 c = search needs
-
-enum-told-4 : tie.Need-enum-told-4
-enum-told-4 c = search needs
 
 returns-2 : tie.Need-returns-2
 unfolding layout-tests
@@ -38,18 +20,6 @@ returns-2 c =
     let d = c .before .before .before in
     go-on _ _ _ _ (d .before .before .overlong .ensures) (d .enum-told .given .1)
     (stop-here _ _ _ _ _ (c .before .before .header .ensures) (c .enum-told4 .given .1))
-
-byte-requires : tie.Need-byte-requires
-byte-requires c κs = search needs
-
-types-pass-requires : tie.Need-types-pass-requires
-types-pass-requires c κs = search needs
-
-enum-told-5 : tie.Need-enum-told-5
-enum-told-5 c = search needs
-
-enum-told-6 : tie.Need-enum-told-6
-enum-told-6 c = search needs
 
 returns-3 : tie.Need-returns-3
 unfolding layout-tests typesOf
@@ -59,18 +29,6 @@ returns-3 c =
     go-on _ _ _ _ (h .before .before .before .before .before .overlong .ensures) (h .before .before .before .enum-told .given .1)
     (go-on _ _ _ _ (h .before .before .header .ensures) (h .enum-told3 .given .1)
     (stop-here _ _ _ _ _ types (c .enum-told6 .given .1)))
-
-byte-requires-2 : tie.Need-byte-requires-2
-byte-requires-2 c κs = search needs
-
-quals-pass-requires : tie.Need-quals-pass-requires
-quals-pass-requires c κs = search needs
-
-enum-told-7 : tie.Need-enum-told-7
-enum-told-7 c = search needs
-
-enum-told-8 : tie.Need-enum-told-8
-enum-told-8 c = search needs
 
 returns-4 : tie.Need-returns-4
 unfolding layout-tests typesOf qualsOf
@@ -84,24 +42,12 @@ returns-4 c =
     (go-on _ _ _ _ types (t .enum-told5 .given .1)
     (stop-here _ _ _ _ _ quals (c .enum-told8 .given .1))))
 
-byte-requires-3 : tie.Need-byte-requires-3
-byte-requires-3 c κs = search needs
-
-cast-n : tie.Need-cast-n
-cast-n c = search needs
-
 procedures-pass-requires : tie.Need-procedures-pass-requires
 unfolding proceduresOf
 procedures-pass-requires c κs =
     let h = c .before .before .before .before .before .before .before .before .before in
     let small = header-small _ (sym (h .before .before .header .ensures) ∙ h .enum-told3 .given .1) in
     (h .before .before .before .before .before .before .before .pre, (omega (arith, small .3), c .byte3 .ensures))
-
-enum-told-9 : tie.Need-enum-told-9
-enum-told-9 c = search needs
-
-enum-told-10 : tie.Need-enum-told-10
-enum-told-10 c = search needs
 
 returns-5 : tie.Need-returns-5
 unfolding layout-tests typesOf qualsOf proceduresOf
@@ -117,9 +63,6 @@ returns-5 c =
     (go-on _ _ _ _ types (t .enum-told5 .given .1)
     (go-on _ _ _ _ quals (q .enum-told7 .given .1)
     (stop-here _ _ _ _ _ procedures (c .enum-told10 .given .1)))))
-
-place-of-requires : tie.Need-place-of-requires
-place-of-requires c κs = search needs
 
 leftover-requires : tie.Need-leftover-requires
 unfolding proceduresOf
@@ -162,30 +105,30 @@ pub layout-spec : {M : Type 1} → statement M
 layout-spec =
     tie.close
     (tie.spec
-    overlong-requires
-    enum-told
-    enum-told-2
+    (λ c κs. search needs)
+    (λ c. search needs)
+    (λ c. search needs)
     returns
-    header-requires
-    enum-told-3
-    enum-told-4
+    (λ c κs. search needs)
+    (λ c. search needs)
+    (λ c. search needs)
     returns-2
-    byte-requires
-    types-pass-requires
-    enum-told-5
-    enum-told-6
+    (λ c κs. search needs)
+    (λ c κs. search needs)
+    (λ c. search needs)
+    (λ c. search needs)
     returns-3
-    byte-requires-2
-    quals-pass-requires
-    enum-told-7
-    enum-told-8
+    (λ c κs. search needs)
+    (λ c κs. search needs)
+    (λ c. search needs)
+    (λ c. search needs)
     returns-4
-    byte-requires-3
-    cast-n
+    (λ c κs. search needs)
+    (λ c. search needs)
     procedures-pass-requires
-    enum-told-9
-    enum-told-10
+    (λ c. search needs)
+    (λ c. search needs)
     returns-5
-    place-of-requires
+    (λ c κs. search needs)
     leftover-requires
     returns-6)

@@ -7,12 +7,6 @@ use Rattle.form.proofs.Laws.{none-left, some-left}
 use Rattle.form.proofs.layout.leftover.Statement.{statement}
 use Rattle.form.proofs.layout.leftover.Tie as tie
 
-sub-left-after : tie.Need-sub-left-after
-sub-left-after c = search needs
-
-left-after-requires : tie.Need-left-after-requires
-left-after-requires c κs = search needs
-
 returns : tie.Need-returns
 unfolding leftover-tests verdict failure refuse
 returns c =
@@ -26,4 +20,4 @@ returns-2 c =
     rw (ne-eqb _ _ (some-left (a .args .s .now) (a .args .end) _ (a .pre .0) (a .pre .1) (c .before .left-after .ensures) (c .if1 .left)))
 
 pub leftover-spec : {M : Type 1} → statement M
-leftover-spec = tie.close (tie.spec sub-left-after left-after-requires returns returns-2)
+leftover-spec = tie.close (tie.spec (λ c. search needs) (λ c κs. search needs) returns returns-2)

@@ -4,21 +4,6 @@ use Rattle.sheet.specs.Layout.{slotsOf, ownerAt, instructionsAt, variablesAt}
 use Rattle.form.proofs.layout.limits_at.Statement.{statement}
 use Rattle.form.proofs.layout.limits_at.Tie as tie
 
-byte-requires : tie.Need-byte-requires
-byte-requires c κs = search needs
-
-word-requires : tie.Need-word-requires
-word-requires c κs = search needs
-
-byte-requires-2 : tie.Need-byte-requires-2
-byte-requires-2 c κs = search needs
-
-type-at-requires : tie.Need-type-at-requires
-type-at-requires c κs = search needs
-
-byte-requires-3 : tie.Need-byte-requires-3
-byte-requires-3 c κs = search needs
-
 returns : tie.Need-returns
 unfolding variablesAt instructionsAt ownerAt slotsOf
 returns c = rw (c .byte3 .ensures, c .before .type-at .ensures, c .before .before .byte2 .ensures, c .before .before .before .word .ensures, c .before .before .before .before .byte .ensures)
@@ -26,4 +11,4 @@ returns c = rw (c .byte3 .ensures, c .before .type-at .ensures, c .before .befor
 pub limits-at-spec : {M : Type 1} → statement M
 limits-at-spec =
     tie.close
-    (tie.spec byte-requires word-requires byte-requires-2 type-at-requires byte-requires-3 returns)
+    (tie.spec (λ c κs. search needs) (λ c κs. search needs) (λ c κs. search needs) (λ c κs. search needs) (λ c κs. search needs) returns)

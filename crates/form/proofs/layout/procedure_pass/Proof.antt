@@ -5,27 +5,9 @@ use Rattle.model.proofs.Verdicts.{stop-here, go-on}
 use Rattle.form.proofs.layout.procedure_pass.Statement.{statement}
 use Rattle.form.proofs.layout.procedure_pass.Tie as tie
 
-head-record-requires : tie.Need-head-record-requires
-head-record-requires c κs = search needs
-
-enum-told : tie.Need-enum-told
-enum-told c = search needs
-
-enum-told-2 : tie.Need-enum-told-2
-enum-told-2 c = search needs
-
 returns : tie.Need-returns
 unfolding procedure-tests-at
 returns c = stop-here _ _ _ _ _ (c .before .before .head-record .ensures) (c .enum-told2 .given .1)
-
-variables-pass-requires : tie.Need-variables-pass-requires
-variables-pass-requires c κs = search needs
-
-enum-told-3 : tie.Need-enum-told-3
-enum-told-3 c = search needs
-
-enum-told-4 : tie.Need-enum-told-4
-enum-told-4 c = search needs
 
 returns-2 : tie.Need-returns-2
 unfolding procedure-tests-at
@@ -33,9 +15,6 @@ returns-2 c =
     let d = c .before .before .before in
     go-on _ _ _ _ (d .before .before .head-record .ensures) (d .enum-told .given .1)
     (stop-here _ _ _ _ _ (c .before .before .variables-pass .ensures) (c .enum-told4 .given .1))
-
-instructions-pass-requires : tie.Need-instructions-pass-requires
-instructions-pass-requires c κs = search needs
 
 returns-3 : tie.Need-returns-3
 unfolding procedure-tests-at
@@ -48,13 +27,13 @@ pub procedure-pass-spec : {M : Type 1} → statement M
 procedure-pass-spec =
     tie.close
     (tie.spec
-    head-record-requires
-    enum-told
-    enum-told-2
+    (λ c κs. search needs)
+    (λ c. search needs)
+    (λ c. search needs)
     returns
-    variables-pass-requires
-    enum-told-3
-    enum-told-4
+    (λ c κs. search needs)
+    (λ c. search needs)
+    (λ c. search needs)
     returns-2
-    instructions-pass-requires
+    (λ c κs. search needs)
     returns-3)

@@ -10,30 +10,6 @@ use Rattle.form.proofs.Laws.{header-field}
 use Rattle.form.proofs.records.header.Statement.{statement}
 use Rattle.form.proofs.records.header.Tie as tie
 
-whole-requires : tie.Need-whole-requires
-whole-requires c κs = search needs
-
-marked-requires : tie.Need-marked-requires
-marked-requires c κs = search needs
-
-first-record-requires : tie.Need-first-record-requires
-first-record-requires c κs = search needs
-
-byte-requires : tie.Need-byte-requires
-byte-requires c κs = search needs
-
-byte-requires-2 : tie.Need-byte-requires-2
-byte-requires-2 c κs = search needs
-
-byte-requires-3 : tie.Need-byte-requires-3
-byte-requires-3 c κs = search needs
-
-header-scale-requires : tie.Need-header-scale-requires
-header-scale-requires c κs = search needs
-
-byte-requires-4 : tie.Need-byte-requires-4
-byte-requires-4 c κs = search needs
-
 returns : tie.Need-returns
 unfolding verdict refuse failure header-tests editionOf typesOf qualsOf proceduresOf
 returns c =
@@ -93,14 +69,14 @@ pub header-spec : {M : Type 1} → statement M
 header-spec =
     tie.close
     (tie.spec
-    whole-requires
-    marked-requires
-    first-record-requires
-    byte-requires
-    byte-requires-2
-    byte-requires-3
-    header-scale-requires
-    byte-requires-4
+    (λ c κs. search needs)
+    (λ c κs. search needs)
+    (λ c κs. search needs)
+    (λ c κs. search needs)
+    (λ c κs. search needs)
+    (λ c κs. search needs)
+    (λ c κs. search needs)
+    (λ c κs. search needs)
     returns
     returns-2
     returns-3

@@ -7,14 +7,8 @@ use Rattle.form.specs.WellFormed.{record-tests, instruction-tests-at}
 use Rattle.form.proofs.records.instruction_record.Statement.{statement}
 use Rattle.form.proofs.records.instruction_record.Tie as tie
 
-whole-requires : tie.Need-whole-requires
-whole-requires c κs = search needs
-
 whole-instruction-requires : tie.Need-whole-instruction-requires
 whole-instruction-requires c κs = whole-true _ _ _ (sym (c .before .whole .ensures) ∙ c .if1 .taken)
-
-returns : tie.Need-returns
-returns c = search needs
 
 returns-2 : tie.Need-returns-2
 unfolding verdict refuse failure record-tests instruction-tests-at
@@ -22,4 +16,4 @@ returns-2 c = rw (sym (c .before .whole .ensures) ∙ c .if1 .left)
 
 pub instruction-record-spec : {M : Type 1} → statement M
 instruction-record-spec =
-    tie.close (tie.spec whole-requires whole-instruction-requires returns returns-2)
+    tie.close (tie.spec (λ c κs. search needs) whole-instruction-requires (λ c. search needs) returns-2)

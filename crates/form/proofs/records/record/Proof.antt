@@ -6,12 +6,6 @@ use Rattle.form.specs.WellFormed.{record-tests}
 use Rattle.form.proofs.records.record.Statement.{statement}
 use Rattle.form.proofs.records.record.Tie as tie
 
-whole-requires : tie.Need-whole-requires
-whole-requires c κs = search needs
-
-marked-requires : tie.Need-marked-requires
-marked-requires c κs = search needs
-
 returns : tie.Need-returns
 unfolding verdict refuse failure record-tests
 returns c =
@@ -44,4 +38,4 @@ returns-4 c = rw (sym (c .before .whole .ensures) ∙ c .if1 .left)
 
 pub record-spec : {M : Type 1} → statement M
 record-spec =
-    tie.close (tie.spec whole-requires marked-requires returns returns-2 returns-3 returns-4)
+    tie.close (tie.spec (λ c κs. search needs) (λ c κs. search needs) returns returns-2 returns-3 returns-4)

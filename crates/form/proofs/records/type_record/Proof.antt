@@ -23,25 +23,10 @@ type-tests-at : (s : List ℕ) (i : ℕ) → type-tests s i ≡ tests-at s (6 + 
 unfolding type-tests qualsOf namedOf slotsOf slotOf
 type-tests-at s i = ap (tests-at s) (type-place i)
 
-mul-at : tie.Need-mul-at
-mul-at c = search needs
-
-add-at : tie.Need-add-at
-add-at c = search needs
-
-byte-requires : tie.Need-byte-requires
-byte-requires c κs = search needs
-
-type-scale-requires : tie.Need-type-scale-requires
-type-scale-requires c κs = search needs
-
-record-requires : tie.Need-record-requires
-record-requires c κs = search needs
-
 returns : tie.Need-returns
 returns c =
     rw (c .«record» .ensures, c .before .type-scale .ensures, c .before .before .byte .ensures, type-tests-at)
 
 pub type-record-spec : {M : Type 1} → statement M
 type-record-spec =
-    tie.close (tie.spec mul-at add-at byte-requires type-scale-requires record-requires returns)
+    tie.close (tie.spec (λ c. search needs) (λ c. search needs) (λ c κs. search needs) (λ c κs. search needs) (λ c κs. search needs) returns)

@@ -5,36 +5,6 @@ use Rattle.limits.specs.Scale.{type-scale}
 use Rattle.form.proofs.records.type_scale.Statement.{statement}
 use Rattle.form.proofs.records.type_scale.Tie as tie
 
-byte-requires : tie.Need-byte-requires
-byte-requires c κs = search needs
-
-slot-scale-requires : tie.Need-slot-scale-requires
-slot-scale-requires c κs = search needs
-
-slot-scale-requires-2 : tie.Need-slot-scale-requires-2
-slot-scale-requires-2 c κs = search needs
-
-slot-scale-requires-3 : tie.Need-slot-scale-requires-3
-slot-scale-requires-3 c κs = search needs
-
-slot-scale-requires-4 : tie.Need-slot-scale-requires-4
-slot-scale-requires-4 c κs = search needs
-
-slot-scale-requires-5 : tie.Need-slot-scale-requires-5
-slot-scale-requires-5 c κs = search needs
-
-slot-scale-requires-6 : tie.Need-slot-scale-requires-6
-slot-scale-requires-6 c κs = search needs
-
-slot-scale-requires-7 : tie.Need-slot-scale-requires-7
-slot-scale-requires-7 c κs = search needs
-
-slot-scale-requires-8 : tie.Need-slot-scale-requires-8
-slot-scale-requires-8 c κs = search needs
-
-byte-requires-2 : tie.Need-byte-requires-2
-byte-requires-2 c κs = search needs
-
 returns : tie.Need-returns
 unfolding all-from type-scale
 returns c =
@@ -55,14 +25,14 @@ pub type-scale-spec : {M : Type 1} → statement M
 type-scale-spec =
     tie.close
     (tie.spec
-    byte-requires
-    slot-scale-requires
-    slot-scale-requires-2
-    slot-scale-requires-3
-    slot-scale-requires-4
-    slot-scale-requires-5
-    slot-scale-requires-6
-    slot-scale-requires-7
-    slot-scale-requires-8
-    byte-requires-2
+    (λ c κs. search needs)
+    (λ c κs. search needs)
+    (λ c κs. search needs)
+    (λ c κs. search needs)
+    (λ c κs. search needs)
+    (λ c κs. search needs)
+    (λ c κs. search needs)
+    (λ c κs. search needs)
+    (λ c κs. search needs)
+    (λ c κs. search needs)
     returns)

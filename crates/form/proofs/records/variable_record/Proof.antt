@@ -5,27 +5,6 @@ use Rattle.form.specs.WellFormed.{variable-tests}
 use Rattle.form.proofs.records.variable_record.Statement.{statement}
 use Rattle.form.proofs.records.variable_record.Tie as tie
 
-variable-at-requires : tie.Need-variable-at-requires
-variable-at-requires c κs = search needs
-
-byte-requires : tie.Need-byte-requires
-byte-requires c κs = search needs
-
-byte-requires-2 : tie.Need-byte-requires-2
-byte-requires-2 c κs = search needs
-
-byte-requires-3 : tie.Need-byte-requires-3
-byte-requires-3 c κs = search needs
-
-byte-requires-4 : tie.Need-byte-requires-4
-byte-requires-4 c κs = search needs
-
-variable-scale-requires : tie.Need-variable-scale-requires
-variable-scale-requires c κs = search needs
-
-record-requires : tie.Need-record-requires
-record-requires c κs = search needs
-
 returns : tie.Need-returns
 unfolding qualsOf formalsAt innerAt needAt variable-tests
 returns c =
@@ -43,11 +22,11 @@ pub variable-record-spec : {M : Type 1} → statement M
 variable-record-spec =
     tie.close
     (tie.spec
-    variable-at-requires
-    byte-requires
-    byte-requires-2
-    byte-requires-3
-    byte-requires-4
-    variable-scale-requires
-    record-requires
+    (λ c κs. search needs)
+    (λ c κs. search needs)
+    (λ c κs. search needs)
+    (λ c κs. search needs)
+    (λ c κs. search needs)
+    (λ c κs. search needs)
+    (λ c κs. search needs)
     returns)

@@ -9,21 +9,6 @@ use Rattle.form.proofs.Laws.{whole-here, mark-here}
 use Rattle.form.proofs.records.whole_instruction.Statement.{statement}
 use Rattle.form.proofs.records.whole_instruction.Tie as tie
 
-fields-whole-requires : tie.Need-fields-whole-requires
-fields-whole-requires c κs = search needs
-
-instruction-scale-requires : tie.Need-instruction-scale-requires
-instruction-scale-requires c κs = search needs
-
-shared-slice-read-if1 : tie.Need-shared-slice-read-if1
-shared-slice-read-if1 c = search needs
-
-add-if1 : tie.Need-add-if1
-add-if1 c = search needs
-
-shared-slice-read-if1-2 : tie.Need-shared-slice-read-if1-2
-shared-slice-read-if1-2 c = search needs
-
 returns : tie.Need-returns
 unfolding verdict refuse failure record-tests instruction-tests-at
 returns c =
@@ -43,11 +28,11 @@ pub whole-instruction-spec : {M : Type 1} → statement M
 whole-instruction-spec =
     tie.close
     (tie.spec
-    fields-whole-requires
-    instruction-scale-requires
-    shared-slice-read-if1
-    add-if1
-    shared-slice-read-if1-2
+    (λ c κs. search needs)
+    (λ c κs. search needs)
+    (λ c. search needs)
+    (λ c. search needs)
+    (λ c. search needs)
     returns
     returns-2
     returns-3)

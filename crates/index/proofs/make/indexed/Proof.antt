@@ -5,12 +5,6 @@ use borrow.Author.Needs.{needs}
 use Rattle.index.proofs.make.indexed.Statement.{statement}
 use Rattle.index.proofs.make.indexed.Tie as tie
 
-fill-types-requires : tie.Need-fill-types-requires
-fill-types-requires c κs = search needs
-
-fill-procedures-requires : tie.Need-fill-procedures-requires
-fill-procedures-requires c κs = search needs
-
 returns : tie.Need-returns
 returns c =
     let p = c .fill-procedures .ensures in
@@ -23,4 +17,4 @@ returns c =
     }
 
 pub indexed-spec : {M : Type 1} → statement M
-indexed-spec = tie.close (tie.spec fill-types-requires fill-procedures-requires returns)
+indexed-spec = tie.close (tie.spec (λ c κs. search needs) (λ c κs. search needs) returns)

@@ -5,12 +5,9 @@ use borrow.Author.Needs.{needs}
 use Rattle.index.proofs.procedures.formals_in.Statement.{statement}
 use Rattle.index.proofs.procedures.formals_in.Tie as tie
 
-cast-result : tie.Need-cast-result
-cast-result c = search needs
-
 returns : tie.Need-returns
 unfolding formals-of
 returns c = refl
 
 pub formals-in-spec : {M : Type 1} → statement M
-formals-in-spec = tie.close (tie.spec cast-result returns)
+formals-in-spec = tie.close (tie.spec (λ c. search needs) returns)

@@ -5,12 +5,9 @@ use borrow.Author.Needs.{needs}
 use Rattle.index.proofs.procedures.owner_in.Statement.{statement}
 use Rattle.index.proofs.procedures.owner_in.Tie as tie
 
-cast-result : tie.Need-cast-result
-cast-result c = search needs
-
 returns : tie.Need-returns
 unfolding owner-of
 returns c = refl
 
 pub owner-in-spec : {M : Type 1} → statement M
-owner-in-spec = tie.close (tie.spec cast-result returns)
+owner-in-spec = tie.close (tie.spec (λ c. search needs) returns)

@@ -5,12 +5,9 @@ use borrow.Author.Needs.{needs}
 use Rattle.index.proofs.procedures.place_in.Statement.{statement}
 use Rattle.index.proofs.procedures.place_in.Tie as tie
 
-cast-result : tie.Need-cast-result
-cast-result c = search needs
-
 returns : tie.Need-returns
 unfolding place-of
 returns c = refl
 
 pub place-in-spec : {M : Type 1} → statement M
-place-in-spec = tie.close (tie.spec cast-result returns)
+place-in-spec = tie.close (tie.spec (λ c. search needs) returns)

@@ -3,15 +3,9 @@ use borrow.Author.Needs.{needs}
 use Rattle.index.proofs.procedures.place_of.Statement.{statement}
 use Rattle.index.proofs.procedures.place_of.Tie as tie
 
-procedure-word-requires : tie.Need-procedure-word-requires
-procedure-word-requires c κs = search needs
-
-place-in-requires : tie.Need-place-in-requires
-place-in-requires c κs = search needs
-
 returns : tie.Need-returns
 returns c =
     rw (c .place-in .ensures, c .before .procedure-word .ensures)
 
 pub place-of-spec : {M : Type 1} → statement M
-place-of-spec = tie.close (tie.spec procedure-word-requires place-in-requires returns)
+place-of-spec = tie.close (tie.spec (λ c κs. search needs) (λ c κs. search needs) returns)

@@ -5,15 +5,6 @@ use borrow.Author.Needs.{needs}
 use Rattle.index.proofs.procedures.procedure_word.Statement.{statement}
 use Rattle.index.proofs.procedures.procedure_word.Tie as tie
 
-add-result : tie.Need-add-result
-add-result c = search needs
-
-mul-result : tie.Need-mul-result
-mul-result c = search needs
-
-element-copy-out-result : tie.Need-element-copy-out-result
-element-copy-out-result c = search needs
-
 returns : tie.Need-returns
 unfolding procedure-in
 returns c = rw (lt-ltb _ _ (c .before .if1 .taken))
@@ -24,4 +15,4 @@ returns-2 c = rw (le-ltb _ _ (c .if1 .left))
 
 pub procedure-word-spec : {M : Type 1} → statement M
 procedure-word-spec =
-    tie.close (tie.spec add-result mul-result element-copy-out-result returns returns-2)
+    tie.close (tie.spec (λ c. search needs) (λ c. search needs) (λ c. search needs) returns returns-2)

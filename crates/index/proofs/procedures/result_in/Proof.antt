@@ -5,12 +5,9 @@ use borrow.Author.Needs.{needs}
 use Rattle.index.proofs.procedures.result_in.Statement.{statement}
 use Rattle.index.proofs.procedures.result_in.Tie as tie
 
-cast-result : tie.Need-cast-result
-cast-result c = search needs
-
 returns : tie.Need-returns
 unfolding result-of
 returns c = refl
 
 pub result-in-spec : {M : Type 1} → statement M
-result-in-spec = tie.close (tie.spec cast-result returns)
+result-in-spec = tie.close (tie.spec (λ c. search needs) returns)

@@ -5,12 +5,9 @@ use borrow.Author.Needs.{needs}
 use Rattle.index.proofs.procedures.variables_in.Statement.{statement}
 use Rattle.index.proofs.procedures.variables_in.Tie as tie
 
-cast-result : tie.Need-cast-result
-cast-result c = search needs
-
 returns : tie.Need-returns
 unfolding variables-of
 returns c = refl
 
 pub variables-in-spec : {M : Type 1} → statement M
-variables-in-spec = tie.close (tie.spec cast-result returns)
+variables-in-spec = tie.close (tie.spec (λ c. search needs) returns)

@@ -5,12 +5,9 @@ use borrow.Author.Needs.{needs}
 use Rattle.index.proofs.types.base_in.Statement.{statement}
 use Rattle.index.proofs.types.base_in.Tie as tie
 
-cast-result : tie.Need-cast-result
-cast-result c = search needs
-
 returns : tie.Need-returns
 unfolding base-of
 returns c = refl
 
 pub base-in-spec : {M : Type 1} → statement M
-base-in-spec = tie.close (tie.spec cast-result returns)
+base-in-spec = tie.close (tie.spec (λ c. search needs) returns)

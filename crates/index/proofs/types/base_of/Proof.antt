@@ -5,15 +5,9 @@ use borrow.Author.Needs.{needs}
 use Rattle.index.proofs.types.base_of.Statement.{statement}
 use Rattle.index.proofs.types.base_of.Tie as tie
 
-type-word-requires : tie.Need-type-word-requires
-type-word-requires c κs = search needs
-
-base-in-requires : tie.Need-base-in-requires
-base-in-requires c κs = search needs
-
 returns : tie.Need-returns
 returns c =
     rw (c .base-in .ensures, c .before .type-word .ensures) (sym (base-qual _ _))
 
 pub base-of-spec : {M : Type 1} → statement M
-base-of-spec = tie.close (tie.spec type-word-requires base-in-requires returns)
+base-of-spec = tie.close (tie.spec (λ c κs. search needs) (λ c κs. search needs) returns)

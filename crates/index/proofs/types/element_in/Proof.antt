@@ -5,9 +5,6 @@ use borrow.Author.Needs.{needs}
 use Rattle.index.proofs.types.element_in.Statement.{statement}
 use Rattle.index.proofs.types.element_in.Tie as tie
 
-cast-e : tie.Need-cast-e
-cast-e c = search needs
-
 returns : tie.Need-returns
 unfolding element-of element-below
 returns c = rw (lt-ltb _ _ (c .if1 .taken))
@@ -17,4 +14,4 @@ unfolding element-of element-below
 returns-2 c = rw (le-ltb _ _ (c .if1 .left))
 
 pub element-in-spec : {M : Type 1} → statement M
-element-in-spec = tie.close (tie.spec cast-e returns returns-2)
+element-in-spec = tie.close (tie.spec (λ c. search needs) returns returns-2)

@@ -5,15 +5,6 @@ use borrow.Author.Needs.{needs}
 use Rattle.index.proofs.types.element_of.Statement.{statement}
 use Rattle.index.proofs.types.element_of.Tie as tie
 
-type-word-requires : tie.Need-type-word-requires
-type-word-requires c κs = search needs
-
-base-in-requires : tie.Need-base-in-requires
-base-in-requires c κs = search needs
-
-element-in-requires : tie.Need-element-in-requires
-element-in-requires c κs = search needs
-
 returns : tie.Need-returns
 returns c =
     rw (c .element-in .ensures, c .before .before .before .type-word .ensures) (element-said _ _ (rw (c .before .before .before .type-word .ensures) at (sym (c .before .before .base-in .ensures) ∙ c .before .if1 .taken)))
@@ -24,4 +15,4 @@ returns-2 c =
 
 pub element-of-spec : {M : Type 1} → statement M
 element-of-spec =
-    tie.close (tie.spec type-word-requires base-in-requires element-in-requires returns returns-2)
+    tie.close (tie.spec (λ c κs. search needs) (λ c κs. search needs) (λ c κs. search needs) returns returns-2)

@@ -5,12 +5,9 @@ use borrow.Author.Needs.{needs}
 use Rattle.index.proofs.types.rights_in.Statement.{statement}
 use Rattle.index.proofs.types.rights_in.Tie as tie
 
-cast-result : tie.Need-cast-result
-cast-result c = search needs
-
 returns : tie.Need-returns
 unfolding rights-of
 returns c = refl
 
 pub rights-in-spec : {M : Type 1} → statement M
-rights-in-spec = tie.close (tie.spec cast-result returns)
+rights-in-spec = tie.close (tie.spec (λ c. search needs) returns)

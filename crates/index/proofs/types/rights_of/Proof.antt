@@ -5,18 +5,9 @@ use borrow.Author.Needs.{needs}
 use Rattle.index.proofs.types.rights_of.Statement.{statement}
 use Rattle.index.proofs.types.rights_of.Tie as tie
 
-type-word-requires : tie.Need-type-word-requires
-type-word-requires c κs = search needs
-
-base-in-requires : tie.Need-base-in-requires
-base-in-requires c κs = search needs
-
 returns : tie.Need-returns
 returns c =
     sym (rights-none _ _ (rw (c .before .before .type-word .ensures) at (sym (c .before .base-in .ensures) ∙ c .if1 .taken)))
-
-rights-in-requires : tie.Need-rights-in-requires
-rights-in-requires c κs = search needs
 
 returns-2 : tie.Need-returns-2
 returns-2 c =
@@ -24,4 +15,4 @@ returns-2 c =
 
 pub rights-of-spec : {M : Type 1} → statement M
 rights-of-spec =
-    tie.close (tie.spec type-word-requires base-in-requires returns rights-in-requires returns-2)
+    tie.close (tie.spec (λ c κs. search needs) (λ c κs. search needs) returns (λ c κs. search needs) returns-2)

@@ -5,12 +5,6 @@ use borrow.Author.Needs.{needs}
 use Rattle.index.proofs.types.type_word.Statement.{statement}
 use Rattle.index.proofs.types.type_word.Tie as tie
 
-mul-result : tie.Need-mul-result
-mul-result c = search needs
-
-element-copy-out-result : tie.Need-element-copy-out-result
-element-copy-out-result c = search needs
-
 returns : tie.Need-returns
 unfolding word-in
 returns c = rw (lt-ltb _ _ (c .before .if1 .taken))
@@ -20,4 +14,4 @@ unfolding word-in
 returns-2 c = rw (le-ltb _ _ (c .if1 .left))
 
 pub type-word-spec : {M : Type 1} → statement M
-type-word-spec = tie.close (tie.spec mul-result element-copy-out-result returns returns-2)
+type-word-spec = tie.close (tie.spec (λ c. search needs) (λ c. search needs) returns returns-2)

@@ -8,30 +8,6 @@ use Rattle.frames.proofs.Performs.{performs-frame}
 use Rattle.plain_step.proofs.arms.add.Statement.{statement}
 use Rattle.plain_step.proofs.arms.add.Tie as tie
 
-add-end : tie.Need-add-end
-add-end c = search needs
-
-mul-add-of : tie.Need-mul-add-of
-mul-add-of c = search needs
-
-sub-add-of : tie.Need-sub-add-of
-sub-add-of c = search needs
-
-part-add-of-start : tie.Need-part-add-of-start
-part-add-of-start c = search needs
-
-part-add-of-end : tie.Need-part-add-of-end
-part-add-of-end c = search needs
-
-add-of-requires : tie.Need-add-of-requires
-add-of-requires c κs = search needs
-
-give-number-requires : tie.Need-give-number-requires
-give-number-requires c κs = search needs
-
-same-length : tie.Need-same-length
-same-length c = search needs
-
 returns : tie.Need-returns
 returns c =
     let args = c .before .before .before .before .before .before .before .before .before .args in
@@ -43,12 +19,12 @@ pub add-spec : {M : Type 1} → statement M
 add-spec =
     tie.close
     (tie.spec
-    add-end
-    mul-add-of
-    sub-add-of
-    part-add-of-start
-    part-add-of-end
-    add-of-requires
-    give-number-requires
-    same-length
+    (λ c. search needs)
+    (λ c. search needs)
+    (λ c. search needs)
+    (λ c. search needs)
+    (λ c. search needs)
+    (λ c κs. search needs)
+    (λ c κs. search needs)
+    (λ c. search needs)
     returns)

@@ -8,30 +8,6 @@ use Rattle.frames.proofs.Performs.{performs-if-frame}
 use Rattle.plain_step.proofs.arms.bind.Statement.{statement}
 use Rattle.plain_step.proofs.arms.bind.Tie as tie
 
-add-end : tie.Need-add-end
-add-end c = search needs
-
-mul-moved-at : tie.Need-mul-moved-at
-mul-moved-at c = search needs
-
-sub-moved-at : tie.Need-sub-moved-at
-sub-moved-at c = search needs
-
-part-moved-at-start : tie.Need-part-moved-at-start
-part-moved-at-start c = search needs
-
-part-moved-at-end : tie.Need-part-moved-at-end
-part-moved-at-end c = search needs
-
-moved-at-requires : tie.Need-moved-at-requires
-moved-at-requires c κs = search needs
-
-give-moved-requires : tie.Need-give-moved-requires
-give-moved-requires c κs = search needs
-
-same-length : tie.Need-same-length
-same-length c = search needs
-
 returns : tie.Need-returns
 returns c =
     let args = c .before .before .before .before .before .before .before .before .before .args in
@@ -43,12 +19,12 @@ pub bind-spec : {M : Type 1} → statement M
 bind-spec =
     tie.close
     (tie.spec
-    add-end
-    mul-moved-at
-    sub-moved-at
-    part-moved-at-start
-    part-moved-at-end
-    moved-at-requires
-    give-moved-requires
-    same-length
+    (λ c. search needs)
+    (λ c. search needs)
+    (λ c. search needs)
+    (λ c. search needs)
+    (λ c. search needs)
+    (λ c κs. search needs)
+    (λ c κs. search needs)
+    (λ c. search needs)
     returns)

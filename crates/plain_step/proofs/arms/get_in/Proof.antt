@@ -9,26 +9,8 @@ use Rattle.frames.proofs.Performs.{sees-cut}
 use Rattle.plain_step.proofs.arms.get_in.Statement.{statement}
 use Rattle.plain_step.proofs.arms.get_in.Tie as tie
 
-add-end : tie.Need-add-end
-add-end c = search needs
-
-mul-get-of : tie.Need-mul-get-of
-mul-get-of c = search needs
-
-sub-get-of : tie.Need-sub-get-of
-sub-get-of c = search needs
-
-part-get-of-start : tie.Need-part-get-of-start
-part-get-of-start c = search needs
-
-part-get-of-end : tie.Need-part-get-of-end
-part-get-of-end c = search needs
-
 slice-aggregate-get-of : tie.Need-slice-aggregate-get-of
 slice-aggregate-get-of c = sym (length-take-le _ _ (omega arith))
-
-get-of-requires : tie.Need-get-of-requires
-get-of-requires c κs = search needs
 
 returns : tie.Need-returns
 returns c =
@@ -40,11 +22,11 @@ pub get-in-spec : {M : Type 1} → statement M
 get-in-spec =
     tie.close
     (tie.spec
-    add-end
-    mul-get-of
-    sub-get-of
-    part-get-of-start
-    part-get-of-end
+    (λ c. search needs)
+    (λ c. search needs)
+    (λ c. search needs)
+    (λ c. search needs)
+    (λ c. search needs)
     slice-aggregate-get-of
-    get-of-requires
+    (λ c κs. search needs)
     returns)

@@ -8,30 +8,6 @@ use Rattle.frames.proofs.Performs.{performs-frame}
 use Rattle.plain_step.proofs.arms.less.Statement.{statement}
 use Rattle.plain_step.proofs.arms.less.Tie as tie
 
-add-end : tie.Need-add-end
-add-end c = search needs
-
-mul-less-of : tie.Need-mul-less-of
-mul-less-of c = search needs
-
-sub-less-of : tie.Need-sub-less-of
-sub-less-of c = search needs
-
-part-less-of-start : tie.Need-part-less-of-start
-part-less-of-start c = search needs
-
-part-less-of-end : tie.Need-part-less-of-end
-part-less-of-end c = search needs
-
-less-of-requires : tie.Need-less-of-requires
-less-of-requires c κs = search needs
-
-give-number-requires : tie.Need-give-number-requires
-give-number-requires c κs = search needs
-
-same-length : tie.Need-same-length
-same-length c = search needs
-
 returns : tie.Need-returns
 returns c =
     let args = c .before .before .before .before .before .before .before .before .before .args in
@@ -43,12 +19,12 @@ pub less-spec : {M : Type 1} → statement M
 less-spec =
     tie.close
     (tie.spec
-    add-end
-    mul-less-of
-    sub-less-of
-    part-less-of-start
-    part-less-of-end
-    less-of-requires
-    give-number-requires
-    same-length
+    (λ c. search needs)
+    (λ c. search needs)
+    (λ c. search needs)
+    (λ c. search needs)
+    (λ c. search needs)
+    (λ c κs. search needs)
+    (λ c κs. search needs)
+    (λ c. search needs)
     returns)

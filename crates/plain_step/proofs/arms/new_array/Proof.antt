@@ -6,30 +6,6 @@ use Rattle.plain_step.proofs.Laws.{performs-array}
 use Rattle.plain_step.proofs.arms.new_array.Statement.{statement}
 use Rattle.plain_step.proofs.arms.new_array.Tie as tie
 
-add-end : tie.Need-add-end
-add-end c = search needs
-
-mul-integer-at : tie.Need-mul-integer-at
-mul-integer-at c = search needs
-
-sub-integer-at : tie.Need-sub-integer-at
-sub-integer-at c = search needs
-
-part-integer-at-start : tie.Need-part-integer-at-start
-part-integer-at-start c = search needs
-
-part-integer-at-end : tie.Need-part-integer-at-end
-part-integer-at-end c = search needs
-
-integer-at-requires : tie.Need-integer-at-requires
-integer-at-requires c κs = search needs
-
-give-array-requires : tie.Need-give-array-requires
-give-array-requires c κs = search needs
-
-same-length : tie.Need-same-length
-same-length c = search needs
-
 returns : tie.Need-returns
 returns c =
     let args = c .before .before .before .before .before .before .before .before .before .args in
@@ -41,12 +17,12 @@ pub new-array-spec : {M : Type 1} → statement M
 new-array-spec =
     tie.close
     (tie.spec
-    add-end
-    mul-integer-at
-    sub-integer-at
-    part-integer-at-start
-    part-integer-at-end
-    integer-at-requires
-    give-array-requires
-    same-length
+    (λ c. search needs)
+    (λ c. search needs)
+    (λ c. search needs)
+    (λ c. search needs)
+    (λ c. search needs)
+    (λ c κs. search needs)
+    (λ c κs. search needs)
+    (λ c. search needs)
     returns)

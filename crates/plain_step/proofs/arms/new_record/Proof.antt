@@ -5,18 +5,6 @@ use borrow.Author.Needs.{needs}
 use Rattle.plain_step.proofs.arms.new_record.Statement.{statement}
 use Rattle.plain_step.proofs.arms.new_record.Tie as tie
 
-procedure-word-requires : tie.Need-procedure-word-requires
-procedure-word-requires c κs = search needs
-
-slots-by-requires : tie.Need-slots-by-requires
-slots-by-requires c κs = search needs
-
-give-record-requires : tie.Need-give-record-requires
-give-record-requires c κs = search needs
-
-same-length : tie.Need-same-length
-same-length c = search needs
-
 returns : tie.Need-returns
 returns c =
     let args = c .before .before .before .before .before .before .before .before .args in
@@ -29,4 +17,4 @@ returns c =
 pub new-record-spec : {M : Type 1} → statement M
 new-record-spec =
     tie.close
-    (tie.spec procedure-word-requires slots-by-requires give-record-requires same-length returns)
+    (tie.spec (λ c κs. search needs) (λ c κs. search needs) (λ c κs. search needs) (λ c. search needs) returns)

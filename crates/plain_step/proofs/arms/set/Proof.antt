@@ -10,12 +10,6 @@ use Rattle.plain_step.proofs.Laws.{sets, exactly}
 use Rattle.plain_step.proofs.arms.set.Statement.{statement}
 use Rattle.plain_step.proofs.arms.set.Tie as tie
 
-give-number-requires : tie.Need-give-number-requires
-give-number-requires c κs = search needs
-
-same-length : tie.Need-same-length
-same-length c = search needs
-
 returns : tie.Need-returns
 returns c =
     let args = c .before .before .before .before .before .args in
@@ -23,4 +17,4 @@ returns c =
     λ s input out. performs-frame plain s input (now (args .memory)) (give-number .last .0) out out (args .r) (give-number .result) _ (λ q. given plain (args .a) (Is (args .k))) (λ d. give-number .ensures plain d out) (λ v R S. exactly (sets (programOf s) v (args .a) (args .k)))
 
 pub set-spec : {M : Type 1} → statement M
-set-spec = tie.close (tie.spec give-number-requires same-length returns)
+set-spec = tie.close (tie.spec (λ c κs. search needs) (λ c. search needs) returns)

@@ -6,24 +6,6 @@ use Rattle.frames.proofs.Performs.{sees-cut}
 use Rattle.plain_step.proofs.arms.set_in.Statement.{statement}
 use Rattle.plain_step.proofs.arms.set_in.Tie as tie
 
-add-end : tie.Need-add-end
-add-end c = search needs
-
-mul-set-at : tie.Need-mul-set-at
-mul-set-at c = search needs
-
-sub-set-at : tie.Need-sub-set-at
-sub-set-at c = search needs
-
-part-set-at-start : tie.Need-part-set-at-start
-part-set-at-start c = search needs
-
-part-set-at-end : tie.Need-part-set-at-end
-part-set-at-end c = search needs
-
-set-at-requires : tie.Need-set-at-requires
-set-at-requires c κs = search needs
-
 returns : tie.Need-returns
 returns c =
     let args = c .before .before .before .before .args in
@@ -34,10 +16,10 @@ pub set-in-spec : {M : Type 1} → statement M
 set-in-spec =
     tie.close
     (tie.spec
-    add-end
-    mul-set-at
-    sub-set-at
-    part-set-at-start
-    part-set-at-end
-    set-at-requires
+    (λ c. search needs)
+    (λ c. search needs)
+    (λ c. search needs)
+    (λ c. search needs)
+    (λ c. search needs)
+    (λ c κs. search needs)
     returns)

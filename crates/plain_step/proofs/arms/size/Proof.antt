@@ -8,15 +8,6 @@ use Rattle.frames.proofs.Performs.{performs-seeing}
 use Rattle.plain_step.proofs.arms.size.Statement.{statement}
 use Rattle.plain_step.proofs.arms.size.Tie as tie
 
-size-in-requires : tie.Need-size-in-requires
-size-in-requires c κs = search needs
-
-give-number-requires : tie.Need-give-number-requires
-give-number-requires c κs = search needs
-
-same-length : tie.Need-same-length
-same-length c = search needs
-
 returns : tie.Need-returns
 returns c =
     let args = c .before .before .before .before .before .before .before .args in
@@ -25,4 +16,4 @@ returns c =
     λ s input out. performs-seeing plain s input (now (args .memory)) (give-number .last .0) out out (args .r) (give-number .result) _ (λ q. given plain (args .a) (size-in .result)) (λ d. give-number .ensures plain d out) (λ v R S. size-in .ensures (args .a) (qualOf s) (programOf s) v S)
 
 pub size-spec : {M : Type 1} → statement M
-size-spec = tie.close (tie.spec size-in-requires give-number-requires same-length returns)
+size-spec = tie.close (tie.spec (λ c κs. search needs) (λ c κs. search needs) (λ c. search needs) returns)

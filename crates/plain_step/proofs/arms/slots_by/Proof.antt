@@ -4,15 +4,6 @@ use borrow.Author.Needs.{needs}
 use Rattle.plain_step.proofs.arms.slots_by.Statement.{statement}
 use Rattle.plain_step.proofs.arms.slots_by.Tie as tie
 
-owner-in-requires : tie.Need-owner-in-requires
-owner-in-requires c κs = search needs
-
-type-at-requires : tie.Need-type-at-requires
-type-at-requires c κs = search needs
-
-byte-requires : tie.Need-byte-requires
-byte-requires c κs = search needs
-
 returns : tie.Need-returns
 unfolding slotsOf
 returns c =
@@ -22,4 +13,4 @@ returns c =
     rw (byte .ensures, type-at .ensures, owner-in .ensures)
 
 pub slots-by-spec : {M : Type 1} → statement M
-slots-by-spec = tie.close (tie.spec owner-in-requires type-at-requires byte-requires returns)
+slots-by-spec = tie.close (tie.spec (λ c κs. search needs) (λ c κs. search needs) (λ c κs. search needs) returns)

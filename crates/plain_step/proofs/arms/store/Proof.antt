@@ -9,15 +9,6 @@ use Rattle.frames.proofs.Performs.{performs-if-seeing}
 use Rattle.plain_step.proofs.arms.store.Statement.{statement}
 use Rattle.plain_step.proofs.arms.store.Tie as tie
 
-store-in-requires : tie.Need-store-in-requires
-store-in-requires c κs = search needs
-
-store-cell-requires : tie.Need-store-cell-requires
-store-cell-requires c κs = search needs
-
-same-length : tie.Need-same-length
-same-length c = search needs
-
 returns : tie.Need-returns
 returns c =
     let args = c .before .before .before .before .before .before .before .args in
@@ -26,4 +17,4 @@ returns c =
     λ s input out. performs-if-seeing plain s input (now (args .memory)) (store-cell .last .0) out out (args .r) (store-cell .result) _ (λ q. stored plain q (store-in .result)) (StoredOk (object-part (args .r) (now (args .memory))) (store-in .result)) (λ d. store-cell .ensures plain d out) (λ v R S. store-in .ensures (qualOf s) (programOf s) v S)
 
 pub store-spec : {M : Type 1} → statement M
-store-spec = tie.close (tie.spec store-in-requires store-cell-requires same-length returns)
+store-spec = tie.close (tie.spec (λ c κs. search needs) (λ c κs. search needs) (λ c. search needs) returns)

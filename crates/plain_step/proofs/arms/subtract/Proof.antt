@@ -8,30 +8,6 @@ use Rattle.frames.proofs.Performs.{performs-frame}
 use Rattle.plain_step.proofs.arms.subtract.Statement.{statement}
 use Rattle.plain_step.proofs.arms.subtract.Tie as tie
 
-add-end : tie.Need-add-end
-add-end c = search needs
-
-mul-subtract-of : tie.Need-mul-subtract-of
-mul-subtract-of c = search needs
-
-sub-subtract-of : tie.Need-sub-subtract-of
-sub-subtract-of c = search needs
-
-part-subtract-of-start : tie.Need-part-subtract-of-start
-part-subtract-of-start c = search needs
-
-part-subtract-of-end : tie.Need-part-subtract-of-end
-part-subtract-of-end c = search needs
-
-subtract-of-requires : tie.Need-subtract-of-requires
-subtract-of-requires c κs = search needs
-
-give-number-requires : tie.Need-give-number-requires
-give-number-requires c κs = search needs
-
-same-length : tie.Need-same-length
-same-length c = search needs
-
 returns : tie.Need-returns
 returns c =
     let args = c .before .before .before .before .before .before .before .before .before .args in
@@ -43,12 +19,12 @@ pub subtract-spec : {M : Type 1} → statement M
 subtract-spec =
     tie.close
     (tie.spec
-    add-end
-    mul-subtract-of
-    sub-subtract-of
-    part-subtract-of-start
-    part-subtract-of-end
-    subtract-of-requires
-    give-number-requires
-    same-length
+    (λ c. search needs)
+    (λ c. search needs)
+    (λ c. search needs)
+    (λ c. search needs)
+    (λ c. search needs)
+    (λ c κs. search needs)
+    (λ c κs. search needs)
+    (λ c. search needs)
     returns)

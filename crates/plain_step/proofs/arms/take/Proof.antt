@@ -8,12 +8,6 @@ use Rattle.plain_step.proofs.Laws.{takes, exactly}
 use Rattle.plain_step.proofs.arms.take.Statement.{statement}
 use Rattle.plain_step.proofs.arms.take.Tie as tie
 
-take-input-requires : tie.Need-take-input-requires
-take-input-requires c κs = search needs
-
-same-length : tie.Need-same-length
-same-length c = search needs
-
 returns : tie.Need-returns
 returns c =
     let args = c .before .before .before .before .before .before .args in
@@ -21,4 +15,4 @@ returns c =
     λ s out. performs-take plain s (now (args .input)) (now (args .memory)) (take-input .last .1 .0) out out (args .r) (take-input .result) (args .a) (λ d. take-input .ensures plain d out) (λ v R e. exactly (takes (programOf s) v (args .a) _ e))
 
 pub take-spec : {M : Type 1} → statement M
-take-spec = tie.close (tie.spec take-input-requires same-length returns)
+take-spec = tie.close (tie.spec (λ c κs. search needs) (λ c. search needs) returns)

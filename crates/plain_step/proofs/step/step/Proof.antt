@@ -8,9 +8,6 @@ use Rattle.frames.proofs.Fetched.{code-operation, code-whole, callable}
 use Rattle.plain_step.proofs.step.step.Statement.{statement}
 use Rattle.plain_step.proofs.step.step.Tie as tie
 
-mul-operation-whole : tie.Need-mul-operation-whole
-mul-operation-whole c = search needs
-
 operation-whole-requires : tie.Need-operation-whole-requires
 operation-whole-requires c κs =
     let args = c .before .before .before .before .before .before .args in
@@ -24,114 +21,12 @@ fetched c =
     let pre = c .before .before .before .before .before .before .before .pre in
     sym (c .operation-whole .ensures ∙ code-operation (now (args .s)) (args .r) (now (args .code)) (pre .1 .1 .1))
 
-enum-known-operation : tie.Need-enum-known-operation
-enum-known-operation c = search needs
-
-set-requires : tie.Need-set-requires
-set-requires c κs = search needs
-
-enum-known-operation-2 : tie.Need-enum-known-operation-2
-enum-known-operation-2 c = search needs
-
-add-requires : tie.Need-add-requires
-add-requires c κs = search needs
-
-enum-known-operation-3 : tie.Need-enum-known-operation-3
-enum-known-operation-3 c = search needs
-
-subtract-requires : tie.Need-subtract-requires
-subtract-requires c κs = search needs
-
-enum-known-operation-4 : tie.Need-enum-known-operation-4
-enum-known-operation-4 c = search needs
-
-less-requires : tie.Need-less-requires
-less-requires c κs = search needs
-
-enum-known-operation-5 : tie.Need-enum-known-operation-5
-enum-known-operation-5 c = search needs
-
-jump-zero-requires : tie.Need-jump-zero-requires
-jump-zero-requires c κs = search needs
-
-enum-known-operation-6 : tie.Need-enum-known-operation-6
-enum-known-operation-6 c = search needs
-
-bind-requires : tie.Need-bind-requires
-bind-requires c κs = search needs
-
-enum-known-operation-7 : tie.Need-enum-known-operation-7
-enum-known-operation-7 c = search needs
-
-take-requires : tie.Need-take-requires
-take-requires c κs = search needs
-
-enum-known-operation-8 : tie.Need-enum-known-operation-8
-enum-known-operation-8 c = search needs
-
-put-requires : tie.Need-put-requires
-put-requires c κs = search needs
-
-enum-known-operation-9 : tie.Need-enum-known-operation-9
-enum-known-operation-9 c = search needs
-
-new-array-requires : tie.Need-new-array-requires
-new-array-requires c κs = search needs
-
-enum-known-operation-10 : tie.Need-enum-known-operation-10
-enum-known-operation-10 c = search needs
-
-fetch-requires : tie.Need-fetch-requires
-fetch-requires c κs = search needs
-
-enum-known-operation-11 : tie.Need-enum-known-operation-11
-enum-known-operation-11 c = search needs
-
-store-requires : tie.Need-store-requires
-store-requires c κs = search needs
-
-enum-known-operation-12 : tie.Need-enum-known-operation-12
-enum-known-operation-12 c = search needs
-
-size-requires : tie.Need-size-requires
-size-requires c κs = search needs
-
-enum-known-operation-13 : tie.Need-enum-known-operation-13
-enum-known-operation-13 c = search needs
-
-new-record-requires : tie.Need-new-record-requires
-new-record-requires c κs = search needs
-
-enum-known-operation-14 : tie.Need-enum-known-operation-14
-enum-known-operation-14 c = search needs
-
-get-slot-requires : tie.Need-get-slot-requires
-get-slot-requires c κs = search needs
-
-enum-known-operation-15 : tie.Need-enum-known-operation-15
-enum-known-operation-15 c = search needs
-
-set-slot-requires : tie.Need-set-slot-requires
-set-slot-requires c κs = search needs
-
-enum-known-operation-16 : tie.Need-enum-known-operation-16
-enum-known-operation-16 c = search needs
-
 call-requires : tie.Need-call-requires
 call-requires c κs =
     let args = c .before .before .before .before .before .before .before .before .before .before .before .args in
     let pre = c .before .before .before .before .before .before .before .before .before .before .before .pre in
     let operation16 = c .before .before .operation16 in
     (pre .0, (pre .1 .0, callable (now (args .s)) (now (args .index)) (args .r) _ _ _ (pre .0) (pre .1 .1 .0) (fetched (c .before .before .before .before) ∙ operation16 .given .1)))
-
-enum-known-operation-17 : tie.Need-enum-known-operation-17
-enum-known-operation-17 c = search needs
-
-give-back-requires : tie.Need-give-back-requires
-give-back-requires c κs = search needs
-
-same-length : tie.Need-same-length
-same-length c = search needs
 
 returns : tie.Need-returns
 returns c =
@@ -141,9 +36,6 @@ returns c =
     let set = c .before .before .set in
     rw (read ∙ operation .given .1) (set .ensures (now (args .s)) (now (args .input)) (now (args .output)))
 
-same-length-2 : tie.Need-same-length-2
-same-length-2 c = search needs
-
 returns-2 : tie.Need-returns-2
 returns-2 c =
     let args = c .before .before .before .before .before .before .before .before .before .before .before .before .before .before .args in
@@ -151,9 +43,6 @@ returns-2 c =
     let operation2 = c .before .before .before .before .before .operation2 in
     let add = c .before .before .add in
     rw (read ∙ operation2 .given .1) (add .ensures (now (args .s)) (now (args .input)) (now (args .output)))
-
-same-length-3 : tie.Need-same-length-3
-same-length-3 c = search needs
 
 returns-3 : tie.Need-returns-3
 returns-3 c =
@@ -163,9 +52,6 @@ returns-3 c =
     let subtract = c .before .before .subtract in
     rw (read ∙ operation3 .given .1) (subtract .ensures (now (args .s)) (now (args .input)) (now (args .output)))
 
-same-length-4 : tie.Need-same-length-4
-same-length-4 c = search needs
-
 returns-4 : tie.Need-returns-4
 returns-4 c =
     let args = c .before .before .before .before .before .before .before .before .before .before .before .before .before .before .args in
@@ -173,9 +59,6 @@ returns-4 c =
     let operation4 = c .before .before .before .before .before .operation4 in
     let less = c .before .before .less in
     rw (read ∙ operation4 .given .1) (less .ensures (now (args .s)) (now (args .input)) (now (args .output)))
-
-same-length-5 : tie.Need-same-length-5
-same-length-5 c = search needs
 
 returns-5 : tie.Need-returns-5
 returns-5 c =
@@ -185,9 +68,6 @@ returns-5 c =
     let jump-zero = c .jump-zero in
     rw (read ∙ operation5 .given .1) (jump-zero .ensures (now (args .s)) (now (args .input)) (now (args .output)))
 
-same-length-6 : tie.Need-same-length-6
-same-length-6 c = search needs
-
 returns-6 : tie.Need-returns-6
 returns-6 c =
     let args = c .before .before .before .before .before .before .before .before .before .before .before .before .before .before .args in
@@ -195,9 +75,6 @@ returns-6 c =
     let operation6 = c .before .before .before .before .before .operation6 in
     let bind = c .before .before .bind in
     rw (read ∙ operation6 .given .1) (bind .ensures (now (args .s)) (now (args .input)) (now (args .output)))
-
-same-length-7 : tie.Need-same-length-7
-same-length-7 c = search needs
 
 returns-7 : tie.Need-returns-7
 returns-7 c =
@@ -207,12 +84,6 @@ returns-7 c =
     let take = c .before .before .take in
     rw (read ∙ operation7 .given .1) (take .ensures (now (args .s)) (now (args .output)))
 
-same-length-8 : tie.Need-same-length-8
-same-length-8 c = search needs
-
-same-length-9 : tie.Need-same-length-9
-same-length-9 c = search needs
-
 returns-8 : tie.Need-returns-8
 returns-8 c =
     let args = c .before .before .before .before .before .before .before .before .before .before .before .before .before .before .before .args in
@@ -220,9 +91,6 @@ returns-8 c =
     let operation8 = c .before .before .before .before .before .before .operation8 in
     let put = c .before .before .put in
     rw (read ∙ operation8 .given .1) (put .ensures (now (args .s)) (now (args .input)))
-
-same-length-10 : tie.Need-same-length-10
-same-length-10 c = search needs
 
 returns-9 : tie.Need-returns-9
 returns-9 c =
@@ -232,9 +100,6 @@ returns-9 c =
     let new-array = c .before .before .new-array in
     rw (read ∙ operation9 .given .1) (new-array .ensures (now (args .s)) (now (args .input)) (now (args .output)))
 
-same-length-11 : tie.Need-same-length-11
-same-length-11 c = search needs
-
 returns-10 : tie.Need-returns-10
 returns-10 c =
     let args = c .before .before .before .before .before .before .before .before .before .before .before .before .before .before .args in
@@ -242,9 +107,6 @@ returns-10 c =
     let operation10 = c .before .before .before .before .before .operation10 in
     let fetch = c .before .before .fetch in
     rw (read ∙ operation10 .given .1) (fetch .ensures (now (args .s)) (now (args .input)) (now (args .output)))
-
-same-length-12 : tie.Need-same-length-12
-same-length-12 c = search needs
 
 returns-11 : tie.Need-returns-11
 returns-11 c =
@@ -254,9 +116,6 @@ returns-11 c =
     let store = c .before .before .store in
     rw (read ∙ operation11 .given .1) (store .ensures (now (args .s)) (now (args .input)) (now (args .output)))
 
-same-length-13 : tie.Need-same-length-13
-same-length-13 c = search needs
-
 returns-12 : tie.Need-returns-12
 returns-12 c =
     let args = c .before .before .before .before .before .before .before .before .before .before .before .before .before .before .args in
@@ -264,9 +123,6 @@ returns-12 c =
     let operation12 = c .before .before .before .before .before .operation12 in
     let size = c .before .before .size in
     rw (read ∙ operation12 .given .1) (size .ensures (now (args .s)) (now (args .input)) (now (args .output)))
-
-same-length-14 : tie.Need-same-length-14
-same-length-14 c = search needs
 
 returns-13 : tie.Need-returns-13
 returns-13 c =
@@ -276,9 +132,6 @@ returns-13 c =
     let new-record = c .before .before .new-record in
     rw (read ∙ operation13 .given .1) (new-record .ensures (now (args .input)) (now (args .output)))
 
-same-length-15 : tie.Need-same-length-15
-same-length-15 c = search needs
-
 returns-14 : tie.Need-returns-14
 returns-14 c =
     let args = c .before .before .before .before .before .before .before .before .before .before .before .before .before .before .args in
@@ -286,9 +139,6 @@ returns-14 c =
     let operation14 = c .before .before .before .before .before .operation14 in
     let get-slot = c .before .before .get-slot in
     rw (read ∙ operation14 .given .1) (get-slot .ensures (now (args .s)) (now (args .input)) (now (args .output)))
-
-same-length-16 : tie.Need-same-length-16
-same-length-16 c = search needs
 
 returns-15 : tie.Need-returns-15
 returns-15 c =
@@ -298,9 +148,6 @@ returns-15 c =
     let set-slot = c .before .before .set-slot in
     rw (read ∙ operation15 .given .1) (set-slot .ensures (now (args .s)) (now (args .input)) (now (args .output)))
 
-same-length-17 : tie.Need-same-length-17
-same-length-17 c = search needs
-
 returns-16 : tie.Need-returns-16
 returns-16 c =
     let args = c .before .before .before .before .before .before .before .before .before .before .before .before .before .before .args in
@@ -308,9 +155,6 @@ returns-16 c =
     let operation16 = c .before .before .before .before .before .operation16 in
     let call = c .before .before .call in
     rw (read ∙ operation16 .given .1) (call .ensures (now (args .input)) (now (args .output)))
-
-same-length-18 : tie.Need-same-length-18
-same-length-18 c = search needs
 
 returns-17 : tie.Need-returns-17
 returns-17 c =
@@ -324,74 +168,74 @@ pub step-spec : {M : Type 1} → statement M
 step-spec =
     tie.close
     (tie.spec
-    mul-operation-whole
+    (λ c. search needs)
     operation-whole-requires
-    enum-known-operation
-    set-requires
-    enum-known-operation-2
-    add-requires
-    enum-known-operation-3
-    subtract-requires
-    enum-known-operation-4
-    less-requires
-    enum-known-operation-5
-    jump-zero-requires
-    enum-known-operation-6
-    bind-requires
-    enum-known-operation-7
-    take-requires
-    enum-known-operation-8
-    put-requires
-    enum-known-operation-9
-    new-array-requires
-    enum-known-operation-10
-    fetch-requires
-    enum-known-operation-11
-    store-requires
-    enum-known-operation-12
-    size-requires
-    enum-known-operation-13
-    new-record-requires
-    enum-known-operation-14
-    get-slot-requires
-    enum-known-operation-15
-    set-slot-requires
-    enum-known-operation-16
+    (λ c. search needs)
+    (λ c κs. search needs)
+    (λ c. search needs)
+    (λ c κs. search needs)
+    (λ c. search needs)
+    (λ c κs. search needs)
+    (λ c. search needs)
+    (λ c κs. search needs)
+    (λ c. search needs)
+    (λ c κs. search needs)
+    (λ c. search needs)
+    (λ c κs. search needs)
+    (λ c. search needs)
+    (λ c κs. search needs)
+    (λ c. search needs)
+    (λ c κs. search needs)
+    (λ c. search needs)
+    (λ c κs. search needs)
+    (λ c. search needs)
+    (λ c κs. search needs)
+    (λ c. search needs)
+    (λ c κs. search needs)
+    (λ c. search needs)
+    (λ c κs. search needs)
+    (λ c. search needs)
+    (λ c κs. search needs)
+    (λ c. search needs)
+    (λ c κs. search needs)
+    (λ c. search needs)
+    (λ c κs. search needs)
+    (λ c. search needs)
     call-requires
-    enum-known-operation-17
-    give-back-requires
-    same-length
+    (λ c. search needs)
+    (λ c κs. search needs)
+    (λ c. search needs)
     returns
-    same-length-2
+    (λ c. search needs)
     returns-2
-    same-length-3
+    (λ c. search needs)
     returns-3
-    same-length-4
+    (λ c. search needs)
     returns-4
-    same-length-5
+    (λ c. search needs)
     returns-5
-    same-length-6
+    (λ c. search needs)
     returns-6
-    same-length-7
+    (λ c. search needs)
     returns-7
-    same-length-8
-    same-length-9
+    (λ c. search needs)
+    (λ c. search needs)
     returns-8
-    same-length-10
+    (λ c. search needs)
     returns-9
-    same-length-11
+    (λ c. search needs)
     returns-10
-    same-length-12
+    (λ c. search needs)
     returns-11
-    same-length-13
+    (λ c. search needs)
     returns-12
-    same-length-14
+    (λ c. search needs)
     returns-13
-    same-length-15
+    (λ c. search needs)
     returns-14
-    same-length-16
+    (λ c. search needs)
     returns-15
-    same-length-17
+    (λ c. search needs)
     returns-16
-    same-length-18
+    (λ c. search needs)
     returns-17)

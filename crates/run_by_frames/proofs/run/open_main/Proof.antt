@@ -7,36 +7,6 @@ use borrow.Author.Needs.{needs}
 use Rattle.run_by_frames.proofs.run.open_main.Statement.{statement}
 use Rattle.run_by_frames.proofs.run.open_main.Tie as tie
 
-add-at : tie.Need-add-at
-add-at c = search needs
-
-sub-at : tie.Need-sub-at
-sub-at c = search needs
-
-mul-clear : tie.Need-mul-clear
-mul-clear c = search needs
-
-sub-clear : tie.Need-sub-clear
-sub-clear c = search needs
-
-part-clear-start : tie.Need-part-clear-start
-part-clear-start c = search needs
-
-part-clear-end : tie.Need-part-clear-end
-part-clear-end c = search needs
-
-clear-requires : tie.Need-clear-requires
-clear-requires c κs = search needs
-
-place-of-requires : tie.Need-place-of-requires
-place-of-requires c κs = search needs
-
-instruction-at-requires : tie.Need-instruction-at-requires
-instruction-at-requires c κs = search needs
-
-same-length : tie.Need-same-length
-same-length c = search needs
-
 returns : tie.Need-returns
 returns c =
     let args = c .before .before .before .before .before .before .before .before .args in let pre = c .before .before .before .before .before .before .before .before .pre in let s = args .s .now in let first = c .instruction-at .ensures .0 ∙ ap (λ (at : ℕ). instructionAt s at 0) (c .before .place-of .ensures ∙ pre .0 .ready .places 0 zero-le) in (search needs, λ m input out. begins m s (args .memory .now) _ input out (args .v) _ (pre .0 .formed) (pre .1 .0 .0) (pre .1 .0 .1) (pre .1 .1 .0) (pre .1 .1 .1) first (c .before .before .before .before .clear .ensures))
@@ -45,14 +15,14 @@ pub open-main-spec : {M : Type 1} → statement M
 open-main-spec =
     tie.close
     (tie.spec
-    add-at
-    sub-at
-    mul-clear
-    sub-clear
-    part-clear-start
-    part-clear-end
-    clear-requires
-    place-of-requires
-    instruction-at-requires
-    same-length
+    (λ c. search needs)
+    (λ c. search needs)
+    (λ c. search needs)
+    (λ c. search needs)
+    (λ c. search needs)
+    (λ c. search needs)
+    (λ c κs. search needs)
+    (λ c κs. search needs)
+    (λ c κs. search needs)
+    (λ c. search needs)
     returns)

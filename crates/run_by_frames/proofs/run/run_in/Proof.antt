@@ -15,18 +15,6 @@ use borrow.Author.Needs.{needs}
 use Rattle.run_by_frames.proofs.run.run_in.Statement.{statement}
 use Rattle.run_by_frames.proofs.run.run_in.Tie as tie
 
-procedure-word-requires : tie.Need-procedure-word-requires
-procedure-word-requires c κs = search needs
-
-variables-in-requires : tie.Need-variables-in-requires
-variables-in-requires c κs = search needs
-
-cast-v : tie.Need-cast-v
-cast-v c = search needs
-
-add-if1 : tie.Need-add-if1
-add-if1 c = search needs
-
 main-variables : (c : tie.After-variables-in) → c .variables-in .result ≡ variablesAt (c .before .before .before .before .before .before .args .s .now) (procedureAt (c .before .before .before .before .before .before .args .s .now) 0)
 main-variables c =
     let args = c .before .before .before .before .before .before .args in
@@ -59,30 +47,9 @@ run-until-requires : tie.Need-run-until-requires
 run-until-requires c κs =
     (c .before .before .before .before .before .before .before .before .before .before .before .before .before .pre .0, begun (going (c .before .before .before .before)))
 
-enum-known-r : tie.Need-enum-known-r
-enum-known-r c = search needs
-
-ended-requires : tie.Need-ended-requires
-ended-requires c κs = search needs
-
-enum-known-e : tie.Need-enum-known-e
-enum-known-e c = search needs
-
-same-length : tie.Need-same-length
-same-length c = search needs
-
-same-length-2 : tie.Need-same-length-2
-same-length-2 c = search needs
-
 returns-2 : tie.Need-returns-2
 returns-2 c =
     rw (c .ended .ensures, ← c .before .before .before .before .before .before .before .before .before .before .before .before .before .open-main .kept .1 .1 .0) (rested (going (c .before .before .before .before .before .before .before .before .before .before .before .before .before)) _ _ _ (c .before .before .before .before .before .before .before .before .run-until .ensures) _ (c .before .before .r .given .1))
-
-same-length-3 : tie.Need-same-length-3
-same-length-3 c = search needs
-
-same-length-4 : tie.Need-same-length-4
-same-length-4 c = search needs
 
 returns-3 : tie.Need-returns-3
 returns-3 c =
@@ -92,19 +59,19 @@ pub run-in-spec : {M : Type 1} → statement M
 run-in-spec =
     tie.close
     (tie.spec
-    procedure-word-requires
-    variables-in-requires
-    cast-v
-    add-if1
+    (λ c κs. search needs)
+    (λ c κs. search needs)
+    (λ c. search needs)
+    (λ c. search needs)
     returns
     open-main-requires
     run-until-requires
-    enum-known-r
-    ended-requires
-    enum-known-e
-    same-length
-    same-length-2
+    (λ c. search needs)
+    (λ c κs. search needs)
+    (λ c. search needs)
+    (λ c. search needs)
+    (λ c. search needs)
     returns-2
-    same-length-3
-    same-length-4
+    (λ c. search needs)
+    (λ c. search needs)
     returns-3)

@@ -7,27 +7,9 @@ guarded-step-requires : tie.Need-guarded-step-requires
 guarded-step-requires c κs =
     (c .before .before .before .before .before .before .before .before .pre .loaded, (c .before .before .before .before .before .before .before .before .pre .sane, (c .before .before .before .before .before .before .before .before .pre .fetchable, c .before .before .before .before .before .before .before .before .pre .part)))
 
-count-step-requires : tie.Need-count-step-requires
-count-step-requires c κs = search needs
-
-same-length : tie.Need-same-length
-same-length c = search needs
-
-same-length-2 : tie.Need-same-length-2
-same-length-2 c = search needs
-
 returns : tie.Need-returns
 returns c =
     rw (c .before .before .before .before .before .before .before .before .if1 .taken) (record { stepped = c .before .before .before .before .before .guarded-step .result; performs = c .before .before .before .before .before .guarded-step .ensures; counts = c .count-step .ensures })
-
-step-by-requires : tie.Need-step-by-requires
-step-by-requires c κs = search needs
-
-same-length-3 : tie.Need-same-length-3
-same-length-3 c = search needs
-
-same-length-4 : tie.Need-same-length-4
-same-length-4 c = search needs
 
 returns-2 : tie.Need-returns-2
 returns-2 c =
@@ -38,11 +20,11 @@ turn-spec =
     tie.close
     (tie.spec
     guarded-step-requires
-    count-step-requires
-    same-length
-    same-length-2
+    (λ c κs. search needs)
+    (λ c. search needs)
+    (λ c. search needs)
     returns
-    step-by-requires
-    same-length-3
-    same-length-4
+    (λ c κs. search needs)
+    (λ c. search needs)
+    (λ c. search needs)
     returns-2)

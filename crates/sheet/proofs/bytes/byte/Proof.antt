@@ -15,9 +15,6 @@ returns c =
     let h : length (a .s .now) ≤ a .at + a .k = omega arith in
     sym (List·getD-eq-default (a .s .now) 0 h)
 
-sub-if2 : tie.Need-sub-if2
-sub-if2 c = search needs
-
 returns-2 : tie.Need-returns-2
 unfolding byteAt
 returns-2 c =
@@ -25,16 +22,10 @@ returns-2 c =
     let h : length (a .s .now) ≤ a .at + a .k = omega arith in
     sym (List·getD-eq-default (a .s .now) 0 h)
 
-add-result : tie.Need-add-result
-add-result c = search needs
-
-shared-slice-read-result : tie.Need-shared-slice-read-result
-shared-slice-read-result c = search needs
-
 returns-3 : tie.Need-returns-3
 unfolding byteAt
 returns-3 c = refl
 
 pub byte-spec : {M : Type 1} → statement M
 byte-spec =
-    tie.close (tie.spec returns sub-if2 returns-2 add-result shared-slice-read-result returns-3)
+    tie.close (tie.spec returns (λ c. search needs) returns-2 (λ c. search needs) (λ c. search needs) returns-3)

@@ -4,15 +4,9 @@ use Rattle.sheet.specs.Bytes.{markedAt}
 use Rattle.sheet.proofs.bytes.marked.Statement.{statement}
 use Rattle.sheet.proofs.bytes.marked.Tie as tie
 
-byte-requires : tie.Need-byte-requires
-byte-requires c κs = search needs
-
-byte-requires-2 : tie.Need-byte-requires-2
-byte-requires-2 c κs = search needs
-
 returns : tie.Need-returns
 unfolding markedAt
 returns c = rw (c .byte2 .ensures, c .before .byte .ensures)
 
 pub marked-spec : {M : Type 1} → statement M
-marked-spec = tie.close (tie.spec byte-requires byte-requires-2 returns)
+marked-spec = tie.close (tie.spec (λ c κs. search needs) (λ c κs. search needs) returns)

@@ -4,15 +4,9 @@ use Rattle.sheet.specs.Decode.{instructionIn}
 use Rattle.sheet.proofs.decode.instruction_in.Statement.{statement}
 use Rattle.sheet.proofs.decode.instruction_in.Tie as tie
 
-instruction-at-requires : tie.Need-instruction-at-requires
-instruction-at-requires c κs = search needs
-
-operation-at-requires : tie.Need-operation-at-requires
-operation-at-requires c κs = search needs
-
 returns : tie.Need-returns
 unfolding instructionIn
 returns c = rw (c .operation-at .ensures, c .before .instruction-at .ensures .0)
 
 pub instruction-in-spec : {M : Type 1} → statement M
-instruction-in-spec = tie.close (tie.spec instruction-at-requires operation-at-requires returns)
+instruction-in-spec = tie.close (tie.spec (λ c κs. search needs) (λ c κs. search needs) returns)

@@ -8,12 +8,6 @@ use Rattle.sheet.specs.Bytes.{byteAt}
 use Rattle.sheet.proofs.fields.field.Statement.{statement}
 use Rattle.sheet.proofs.fields.field.Tie as tie
 
-add-i : tie.Need-add-i
-add-i c = search needs
-
-shared-slice-read-result : tie.Need-shared-slice-read-result
-shared-slice-read-result c = search needs
-
 returns : tie.Need-returns
 unfolding byteAt
 returns c = refl
@@ -24,4 +18,4 @@ returns-2 c =
     sym (List·getD-eq-default (c .before .args .s .now) 0 (let h : length (c .before .args .s .now) ≤ c .before .args .at + c .before .args .k = omega arith in h))
 
 pub field-spec : {M : Type 1} → statement M
-field-spec = tie.close (tie.spec add-i shared-slice-read-result returns returns-2)
+field-spec = tie.close (tie.spec (λ c. search needs) (λ c. search needs) returns returns-2)

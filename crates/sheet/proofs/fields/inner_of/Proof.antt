@@ -4,17 +4,8 @@ use Rattle.sheet.proofs.Laws.{inner-field}
 use Rattle.sheet.proofs.fields.inner_of.Statement.{statement}
 use Rattle.sheet.proofs.fields.inner_of.Tie as tie
 
-mul-field : tie.Need-mul-field
-mul-field c = search needs
-
-add-field : tie.Need-add-field
-add-field c = search needs
-
-field-requires : tie.Need-field-requires
-field-requires c κs = search needs
-
 returns : tie.Need-returns
 returns c = rw (c .field .ensures) (inner-field _ _ _)
 
 pub inner-of-spec : {M : Type 1} → statement M
-inner-of-spec = tie.close (tie.spec mul-field add-field field-requires returns)
+inner-of-spec = tie.close (tie.spec (λ c. search needs) (λ c. search needs) (λ c κs. search needs) returns)

@@ -9,18 +9,9 @@ returns : tie.Need-returns
 unfolding typeAt
 returns c = omega arith
 
-cast-result : tie.Need-cast-result
-cast-result c = search needs
-
-mul-result : tie.Need-mul-result
-mul-result c = search needs
-
-add-result : tie.Need-add-result
-add-result c = search needs
-
 returns-2 : tie.Need-returns-2
 unfolding typeAt
 returns-2 c = omega arith
 
 pub type-at-spec : {M : Type 1} → statement M
-type-at-spec = tie.close (tie.spec returns cast-result mul-result add-result returns-2)
+type-at-spec = tie.close (tie.spec returns (λ c. search needs) (λ c. search needs) (λ c. search needs) returns-2)

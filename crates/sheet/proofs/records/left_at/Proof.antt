@@ -4,9 +4,6 @@ use Rattle.sheet.specs.Reader.{leftAt}
 use Rattle.sheet.proofs.records.left_at.Statement.{statement}
 use Rattle.sheet.proofs.records.left_at.Tie as tie
 
-sub-result : tie.Need-sub-result
-sub-result c = search needs
-
 returns : tie.Need-returns
 unfolding leftAt
 returns c = search needs
@@ -16,4 +13,4 @@ unfolding leftAt
 returns-2 c = search needs
 
 pub left-at-spec : {M : Type 1} → statement M
-left-at-spec = tie.close (tie.spec sub-result returns returns-2)
+left-at-spec = tie.close (tie.spec (λ c. search needs) returns returns-2)

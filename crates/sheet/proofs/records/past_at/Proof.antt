@@ -8,9 +8,6 @@ use Rattle.sheet.proofs.Laws.{record-inside}
 use Rattle.sheet.proofs.records.past_at.Statement.{statement}
 use Rattle.sheet.proofs.records.past_at.Tie as tie
 
-record-at-requires : tie.Need-record-at-requires
-record-at-requires c κs = search needs
-
 add-result : tie.Need-add-result
 add-result c =
     let a = c .before .before .args in
@@ -22,4 +19,4 @@ unfolding pastAt
 returns c = rw (c .record-at .ensures)
 
 pub past-at-spec : {M : Type 1} → statement M
-past-at-spec = tie.close (tie.spec record-at-requires add-result returns)
+past-at-spec = tie.close (tie.spec (λ c κs. search needs) add-result returns)

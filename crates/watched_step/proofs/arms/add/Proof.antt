@@ -9,30 +9,6 @@ use Rattle.watched_step.proofs.Laws.{performs-seeing}
 use Rattle.watched_step.proofs.arms.add.Statement.{statement}
 use Rattle.watched_step.proofs.arms.add.Tie as tie
 
-add-end : tie.Need-add-end
-add-end c = search needs
-
-mul-add-guarded : tie.Need-mul-add-guarded
-mul-add-guarded c = search needs
-
-sub-add-guarded : tie.Need-sub-add-guarded
-sub-add-guarded c = search needs
-
-part-add-guarded-start : tie.Need-part-add-guarded-start
-part-add-guarded-start c = search needs
-
-part-add-guarded-end : tie.Need-part-add-guarded-end
-part-add-guarded-end c = search needs
-
-add-guarded-requires : tie.Need-add-guarded-requires
-add-guarded-requires c κs = search needs
-
-give-number-requires : tie.Need-give-number-requires
-give-number-requires c κs = search needs
-
-same-length : tie.Need-same-length
-same-length c = search needs
-
 returns : tie.Need-returns
 returns c =
     let args = c .before .before .before .before .before .before .before .before .before .before .args in
@@ -45,12 +21,12 @@ pub add-spec : {M : Type 1} → statement M
 add-spec =
     tie.close
     (tie.spec
-    add-end
-    mul-add-guarded
-    sub-add-guarded
-    part-add-guarded-start
-    part-add-guarded-end
-    add-guarded-requires
-    give-number-requires
-    same-length
+    (λ c. search needs)
+    (λ c. search needs)
+    (λ c. search needs)
+    (λ c. search needs)
+    (λ c. search needs)
+    (λ c κs. search needs)
+    (λ c κs. search needs)
+    (λ c. search needs)
     returns)

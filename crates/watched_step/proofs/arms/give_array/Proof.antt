@@ -7,27 +7,9 @@ use Rattle.writers.proofs.Planned.{array-full, array-halt}
 use Rattle.watched_step.proofs.arms.give_array.Statement.{statement}
 use Rattle.watched_step.proofs.arms.give_array.Tie as tie
 
-enum-known-n : tie.Need-enum-known-n
-enum-known-n c = search needs
-
-cast-if1 : tie.Need-cast-if1
-cast-if1 c = search needs
-
-sub-if1 : tie.Need-sub-if1
-sub-if1 c = search needs
-
-make-array-requires : tie.Need-make-array-requires
-make-array-requires c κs = search needs
-
-same-length : tie.Need-same-length
-same-length c = search needs
-
 returns : tie.Need-returns
 returns c =
     λ d out q. rw (c .before .before .before .before .before .before .before .n .given .1) (c .before .before .make-array .ensures d out q)
-
-enum-known-n-2 : tie.Need-enum-known-n-2
-enum-known-n-2 c = search needs
 
 returns-2 : tie.Need-returns-2
 returns-2 c =
@@ -44,12 +26,12 @@ pub give-array-spec : {M : Type 1} → statement M
 give-array-spec =
     tie.close
     (tie.spec
-    enum-known-n
-    cast-if1
-    sub-if1
-    make-array-requires
-    same-length
+    (λ c. search needs)
+    (λ c. search needs)
+    (λ c. search needs)
+    (λ c κs. search needs)
+    (λ c. search needs)
     returns
-    enum-known-n-2
+    (λ c. search needs)
     returns-2
     returns-3)

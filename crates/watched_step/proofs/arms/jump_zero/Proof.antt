@@ -8,27 +8,6 @@ use Rattle.frames.proofs.Performs.{always, performs-jump}
 use Rattle.watched_step.proofs.arms.jump_zero.Statement.{statement}
 use Rattle.watched_step.proofs.arms.jump_zero.Tie as tie
 
-add-end : tie.Need-add-end
-add-end c = search needs
-
-mul-integer-in : tie.Need-mul-integer-in
-mul-integer-in c = search needs
-
-sub-integer-in : tie.Need-sub-integer-in
-sub-integer-in c = search needs
-
-part-integer-in-start : tie.Need-part-integer-in-start
-part-integer-in-start c = search needs
-
-part-integer-in-end : tie.Need-part-integer-in-end
-part-integer-in-end c = search needs
-
-integer-in-requires : tie.Need-integer-in-requires
-integer-in-requires c κs = search needs
-
-jump-requires : tie.Need-jump-requires
-jump-requires c κs = search needs
-
 returns : tie.Need-returns
 returns c =
     let args = c .before .before .before .before .before .args in
@@ -40,11 +19,11 @@ pub jump-zero-spec : {M : Type 1} → statement M
 jump-zero-spec =
     tie.close
     (tie.spec
-    add-end
-    mul-integer-in
-    sub-integer-in
-    part-integer-in-start
-    part-integer-in-end
-    integer-in-requires
-    jump-requires
+    (λ c. search needs)
+    (λ c. search needs)
+    (λ c. search needs)
+    (λ c. search needs)
+    (λ c. search needs)
+    (λ c κs. search needs)
+    (λ c κs. search needs)
     returns)

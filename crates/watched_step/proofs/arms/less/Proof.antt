@@ -9,30 +9,6 @@ use Rattle.watched_step.proofs.Laws.{performs-seeing}
 use Rattle.watched_step.proofs.arms.less.Statement.{statement}
 use Rattle.watched_step.proofs.arms.less.Tie as tie
 
-add-end : tie.Need-add-end
-add-end c = search needs
-
-mul-less-guarded : tie.Need-mul-less-guarded
-mul-less-guarded c = search needs
-
-sub-less-guarded : tie.Need-sub-less-guarded
-sub-less-guarded c = search needs
-
-part-less-guarded-start : tie.Need-part-less-guarded-start
-part-less-guarded-start c = search needs
-
-part-less-guarded-end : tie.Need-part-less-guarded-end
-part-less-guarded-end c = search needs
-
-less-guarded-requires : tie.Need-less-guarded-requires
-less-guarded-requires c κs = search needs
-
-give-number-requires : tie.Need-give-number-requires
-give-number-requires c κs = search needs
-
-same-length : tie.Need-same-length
-same-length c = search needs
-
 returns : tie.Need-returns
 returns c =
     let args = c .before .before .before .before .before .before .before .before .before .before .args in
@@ -45,12 +21,12 @@ pub less-spec : {M : Type 1} → statement M
 less-spec =
     tie.close
     (tie.spec
-    add-end
-    mul-less-guarded
-    sub-less-guarded
-    part-less-guarded-start
-    part-less-guarded-end
-    less-guarded-requires
-    give-number-requires
-    same-length
+    (λ c. search needs)
+    (λ c. search needs)
+    (λ c. search needs)
+    (λ c. search needs)
+    (λ c. search needs)
+    (λ c κs. search needs)
+    (λ c κs. search needs)
+    (λ c. search needs)
     returns)

@@ -14,30 +14,6 @@ use Rattle.watched_step.proofs.Laws.{array-made, array-refused}
 use Rattle.watched_step.proofs.arms.make_array.Statement.{statement}
 use Rattle.watched_step.proofs.arms.make_array.Tie as tie
 
-array-made-as-requires : tie.Need-array-made-as-requires
-array-made-as-requires c κs = search needs
-
-declared-element-requires : tie.Need-declared-element-requires
-declared-element-requires c κs = search needs
-
-array-word-requires : tie.Need-array-word-requires
-array-word-requires c κs = search needs
-
-cast-object-word : tie.Need-cast-object-word
-cast-object-word c = search needs
-
-declared-rights-requires : tie.Need-declared-rights-requires
-declared-rights-requires c κs = search needs
-
-object-word-requires : tie.Need-object-word-requires
-object-word-requires c κs = search needs
-
-allot-requires : tie.Need-allot-requires
-allot-requires c κs = search needs
-
-same-length : tie.Need-same-length
-same-length c = search needs
-
 returns : tie.Need-returns
 returns c =
     let args = c .before .before .before .before .before .before .before .before .before .before .before .before .before .args in
@@ -63,13 +39,13 @@ pub make-array-spec : {M : Type 1} → statement M
 make-array-spec =
     tie.close
     (tie.spec
-    array-made-as-requires
-    declared-element-requires
-    array-word-requires
-    cast-object-word
-    declared-rights-requires
-    object-word-requires
-    allot-requires
-    same-length
+    (λ c κs. search needs)
+    (λ c κs. search needs)
+    (λ c κs. search needs)
+    (λ c. search needs)
+    (λ c κs. search needs)
+    (λ c κs. search needs)
+    (λ c κs. search needs)
+    (λ c. search needs)
     returns
     returns-2)

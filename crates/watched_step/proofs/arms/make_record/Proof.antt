@@ -13,30 +13,6 @@ use Rattle.watched_step.proofs.Laws.{record-made, record-refused}
 use Rattle.watched_step.proofs.arms.make_record.Statement.{statement}
 use Rattle.watched_step.proofs.arms.make_record.Tie as tie
 
-record-made-as-requires : tie.Need-record-made-as-requires
-record-made-as-requires c κs = search needs
-
-field-requires : tie.Need-field-requires
-field-requires c κs = search needs
-
-record-word-requires : tie.Need-record-word-requires
-record-word-requires c κs = search needs
-
-cast-object-word : tie.Need-cast-object-word
-cast-object-word c = search needs
-
-declared-rights-requires : tie.Need-declared-rights-requires
-declared-rights-requires c κs = search needs
-
-object-word-requires : tie.Need-object-word-requires
-object-word-requires c κs = search needs
-
-allot-requires : tie.Need-allot-requires
-allot-requires c κs = search needs
-
-same-length : tie.Need-same-length
-same-length c = search needs
-
 returns : tie.Need-returns
 unfolding ownerAt
 returns c =
@@ -63,13 +39,13 @@ pub make-record-spec : {M : Type 1} → statement M
 make-record-spec =
     tie.close
     (tie.spec
-    record-made-as-requires
-    field-requires
-    record-word-requires
-    cast-object-word
-    declared-rights-requires
-    object-word-requires
-    allot-requires
-    same-length
+    (λ c κs. search needs)
+    (λ c κs. search needs)
+    (λ c κs. search needs)
+    (λ c. search needs)
+    (λ c κs. search needs)
+    (λ c κs. search needs)
+    (λ c κs. search needs)
+    (λ c. search needs)
     returns
     returns-2)

@@ -9,30 +9,6 @@ use Rattle.watched_step.proofs.Laws.{arrays, performs-roomy}
 use Rattle.watched_step.proofs.arms.new_array.Statement.{statement}
 use Rattle.watched_step.proofs.arms.new_array.Tie as tie
 
-add-end : tie.Need-add-end
-add-end c = search needs
-
-mul-sized : tie.Need-mul-sized
-mul-sized c = search needs
-
-sub-sized : tie.Need-sub-sized
-sub-sized c = search needs
-
-part-sized-start : tie.Need-part-sized-start
-part-sized-start c = search needs
-
-part-sized-end : tie.Need-part-sized-end
-part-sized-end c = search needs
-
-sized-requires : tie.Need-sized-requires
-sized-requires c κs = search needs
-
-give-array-requires : tie.Need-give-array-requires
-give-array-requires c κs = search needs
-
-same-length : tie.Need-same-length
-same-length c = search needs
-
 returns : tie.Need-returns
 returns c =
     let args = c .before .before .before .before .before .before .before .before .before .before .args in
@@ -45,12 +21,12 @@ pub new-array-spec : {M : Type 1} → statement M
 new-array-spec =
     tie.close
     (tie.spec
-    add-end
-    mul-sized
-    sub-sized
-    part-sized-start
-    part-sized-end
-    sized-requires
-    give-array-requires
-    same-length
+    (λ c. search needs)
+    (λ c. search needs)
+    (λ c. search needs)
+    (λ c. search needs)
+    (λ c. search needs)
+    (λ c κs. search needs)
+    (λ c κs. search needs)
+    (λ c. search needs)
     returns)

@@ -15,30 +15,6 @@ use Rattle.watched_step.proofs.Laws.{records, performs-roomy}
 use Rattle.watched_step.proofs.arms.new_record.Statement.{statement}
 use Rattle.watched_step.proofs.arms.new_record.Tie as tie
 
-field-requires : tie.Need-field-requires
-field-requires c κs = search needs
-
-type-at-requires : tie.Need-type-at-requires
-type-at-requires c κs = search needs
-
-byte-requires : tie.Need-byte-requires
-byte-requires c κs = search needs
-
-cast-n : tie.Need-cast-n
-cast-n c = search needs
-
-cast-if1 : tie.Need-cast-if1
-cast-if1 c = search needs
-
-sub-if1 : tie.Need-sub-if1
-sub-if1 c = search needs
-
-make-record-requires : tie.Need-make-record-requires
-make-record-requires c κs = search needs
-
-same-length : tie.Need-same-length
-same-length c = search needs
-
 returns : tie.Need-returns
 unfolding ownerAt slotsOf
 returns c =
@@ -65,13 +41,13 @@ pub new-record-spec : {M : Type 1} → statement M
 new-record-spec =
     tie.close
     (tie.spec
-    field-requires
-    type-at-requires
-    byte-requires
-    cast-n
-    cast-if1
-    sub-if1
-    make-record-requires
-    same-length
+    (λ c κs. search needs)
+    (λ c κs. search needs)
+    (λ c κs. search needs)
+    (λ c. search needs)
+    (λ c. search needs)
+    (λ c. search needs)
+    (λ c κs. search needs)
+    (λ c. search needs)
     returns
     returns-2)

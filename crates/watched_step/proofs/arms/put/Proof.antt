@@ -8,30 +8,6 @@ use Rattle.frames.proofs.Performs.{always, performs-put}
 use Rattle.watched_step.proofs.arms.put.Statement.{statement}
 use Rattle.watched_step.proofs.arms.put.Tie as tie
 
-add-end : tie.Need-add-end
-add-end c = search needs
-
-mul-integer-in : tie.Need-mul-integer-in
-mul-integer-in c = search needs
-
-sub-integer-in : tie.Need-sub-integer-in
-sub-integer-in c = search needs
-
-part-integer-in-start : tie.Need-part-integer-in-start
-part-integer-in-start c = search needs
-
-part-integer-in-end : tie.Need-part-integer-in-end
-part-integer-in-end c = search needs
-
-integer-in-requires : tie.Need-integer-in-requires
-integer-in-requires c κs = search needs
-
-put-output-requires : tie.Need-put-output-requires
-put-output-requires c κs = search needs
-
-same-length : tie.Need-same-length
-same-length c = search needs
-
 returns : tie.Need-returns
 returns c =
     let args = c .before .before .before .before .before .before .before .before .before .args in
@@ -43,12 +19,12 @@ pub put-spec : {M : Type 1} → statement M
 put-spec =
     tie.close
     (tie.spec
-    add-end
-    mul-integer-in
-    sub-integer-in
-    part-integer-in-start
-    part-integer-in-end
-    integer-in-requires
-    put-output-requires
-    same-length
+    (λ c. search needs)
+    (λ c. search needs)
+    (λ c. search needs)
+    (λ c. search needs)
+    (λ c. search needs)
+    (λ c κs. search needs)
+    (λ c κs. search needs)
+    (λ c. search needs)
     returns)

@@ -8,26 +8,8 @@ use Rattle.frames.proofs.Performs.{part-is}
 use Rattle.watched_step.proofs.arms.set_in.Statement.{statement}
 use Rattle.watched_step.proofs.arms.set_in.Tie as tie
 
-add-end : tie.Need-add-end
-add-end c = search needs
-
-mul-set-slot-guarded : tie.Need-mul-set-slot-guarded
-mul-set-slot-guarded c = search needs
-
-sub-set-slot-guarded : tie.Need-sub-set-slot-guarded
-sub-set-slot-guarded c = search needs
-
-part-set-slot-guarded-start : tie.Need-part-set-slot-guarded-start
-part-set-slot-guarded-start c = search needs
-
-part-set-slot-guarded-end : tie.Need-part-set-slot-guarded-end
-part-set-slot-guarded-end c = search needs
-
 slice-aggregate-set-slot-guarded : tie.Need-slice-aggregate-set-slot-guarded
 slice-aggregate-set-slot-guarded c = sym (length-take-le _ _ (omega arith))
-
-set-slot-guarded-requires : tie.Need-set-slot-guarded-requires
-set-slot-guarded-requires c κs = search needs
 
 returns : tie.Need-returns
 returns c =
@@ -39,11 +21,11 @@ pub set-in-spec : {M : Type 1} → statement M
 set-in-spec =
     tie.close
     (tie.spec
-    add-end
-    mul-set-slot-guarded
-    sub-set-slot-guarded
-    part-set-slot-guarded-start
-    part-set-slot-guarded-end
+    (λ c. search needs)
+    (λ c. search needs)
+    (λ c. search needs)
+    (λ c. search needs)
+    (λ c. search needs)
     slice-aggregate-set-slot-guarded
-    set-slot-guarded-requires
+    (λ c κs. search needs)
     returns)

@@ -8,15 +8,6 @@ use Rattle.watched_step.proofs.Laws.{performs-seeing}
 use Rattle.watched_step.proofs.arms.set_slot.Statement.{statement}
 use Rattle.watched_step.proofs.arms.set_slot.Tie as tie
 
-set-in-requires : tie.Need-set-in-requires
-set-in-requires c κs = search needs
-
-store-cell-requires : tie.Need-store-cell-requires
-store-cell-requires c κs = search needs
-
-same-length : tie.Need-same-length
-same-length c = search needs
-
 returns : tie.Need-returns
 returns c =
     let args = c .before .before .before .before .before .before .before .before .args in
@@ -26,4 +17,4 @@ returns c =
     λ input out. performs-seeing (now (args .s)) input (now (args .memory)) (store-cell .last .0) out out (args .r) (store-cell .result) _ (λ z. stored watched (qualOf z) (set-in .result)) (λ d q. store-cell .ensures watched d out (set-in .ensures .0)) (args .pr) (pre .1 .1 .1) (set-in .ensures .1)
 
 pub set-slot-spec : {M : Type 1} → statement M
-set-slot-spec = tie.close (tie.spec set-in-requires store-cell-requires same-length returns)
+set-slot-spec = tie.close (tie.spec (λ c κs. search needs) (λ c κs. search needs) (λ c. search needs) returns)

@@ -8,26 +8,8 @@ use Rattle.frames.proofs.Performs.{part-is}
 use Rattle.watched_step.proofs.arms.size_in.Statement.{statement}
 use Rattle.watched_step.proofs.arms.size_in.Tie as tie
 
-add-end : tie.Need-add-end
-add-end c = search needs
-
-mul-size-guarded : tie.Need-mul-size-guarded
-mul-size-guarded c = search needs
-
-sub-size-guarded : tie.Need-sub-size-guarded
-sub-size-guarded c = search needs
-
-part-size-guarded-start : tie.Need-part-size-guarded-start
-part-size-guarded-start c = search needs
-
-part-size-guarded-end : tie.Need-part-size-guarded-end
-part-size-guarded-end c = search needs
-
 slice-aggregate-size-guarded : tie.Need-slice-aggregate-size-guarded
 slice-aggregate-size-guarded c = sym (length-take-le _ _ (omega arith))
-
-size-guarded-requires : tie.Need-size-guarded-requires
-size-guarded-requires c κs = search needs
 
 returns : tie.Need-returns
 returns c =
@@ -39,11 +21,11 @@ pub size-in-spec : {M : Type 1} → statement M
 size-in-spec =
     tie.close
     (tie.spec
-    add-end
-    mul-size-guarded
-    sub-size-guarded
-    part-size-guarded-start
-    part-size-guarded-end
+    (λ c. search needs)
+    (λ c. search needs)
+    (λ c. search needs)
+    (λ c. search needs)
+    (λ c. search needs)
     slice-aggregate-size-guarded
-    size-guarded-requires
+    (λ c κs. search needs)
     returns)

@@ -9,15 +9,6 @@ use Rattle.watched_step.proofs.Laws.{performs-seeing}
 use Rattle.watched_step.proofs.arms.store.Statement.{statement}
 use Rattle.watched_step.proofs.arms.store.Tie as tie
 
-store-in-requires : tie.Need-store-in-requires
-store-in-requires c κs = search needs
-
-store-cell-requires : tie.Need-store-cell-requires
-store-cell-requires c κs = search needs
-
-same-length : tie.Need-same-length
-same-length c = search needs
-
 returns : tie.Need-returns
 returns c =
     let args = c .before .before .before .before .before .before .before .args in
@@ -26,4 +17,4 @@ returns c =
     λ s ready input out. performs-seeing s input (now (args .memory)) (store-cell .last .0) out out (args .r) (store-cell .result) _ (λ z. stored watched (qualOf z) (store-in .result)) (λ d q. store-cell .ensures watched d out (store-in .ensures s 0 ready .0)) _ (λ h. refl) (store-in .ensures s _ ready .1)
 
 pub store-spec : {M : Type 1} → statement M
-store-spec = tie.close (tie.spec store-in-requires store-cell-requires same-length returns)
+store-spec = tie.close (tie.spec (λ c κs. search needs) (λ c κs. search needs) (λ c. search needs) returns)

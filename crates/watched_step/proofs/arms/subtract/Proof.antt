@@ -9,30 +9,6 @@ use Rattle.watched_step.proofs.Laws.{performs-seeing}
 use Rattle.watched_step.proofs.arms.subtract.Statement.{statement}
 use Rattle.watched_step.proofs.arms.subtract.Tie as tie
 
-add-end : tie.Need-add-end
-add-end c = search needs
-
-mul-subtract-guarded : tie.Need-mul-subtract-guarded
-mul-subtract-guarded c = search needs
-
-sub-subtract-guarded : tie.Need-sub-subtract-guarded
-sub-subtract-guarded c = search needs
-
-part-subtract-guarded-start : tie.Need-part-subtract-guarded-start
-part-subtract-guarded-start c = search needs
-
-part-subtract-guarded-end : tie.Need-part-subtract-guarded-end
-part-subtract-guarded-end c = search needs
-
-subtract-guarded-requires : tie.Need-subtract-guarded-requires
-subtract-guarded-requires c κs = search needs
-
-give-number-requires : tie.Need-give-number-requires
-give-number-requires c κs = search needs
-
-same-length : tie.Need-same-length
-same-length c = search needs
-
 returns : tie.Need-returns
 returns c =
     let args = c .before .before .before .before .before .before .before .before .before .before .args in
@@ -45,12 +21,12 @@ pub subtract-spec : {M : Type 1} → statement M
 subtract-spec =
     tie.close
     (tie.spec
-    add-end
-    mul-subtract-guarded
-    sub-subtract-guarded
-    part-subtract-guarded-start
-    part-subtract-guarded-end
-    subtract-guarded-requires
-    give-number-requires
-    same-length
+    (λ c. search needs)
+    (λ c. search needs)
+    (λ c. search needs)
+    (λ c. search needs)
+    (λ c. search needs)
+    (λ c κs. search needs)
+    (λ c κs. search needs)
+    (λ c. search needs)
     returns)

@@ -14,15 +14,6 @@ use Rattle.watched_step.proofs.Laws.{takes, takes-misfit, performs-taki
 use Rattle.watched_step.proofs.arms.take.Statement.{statement}
 use Rattle.watched_step.proofs.arms.take.Tie as tie
 
-takes-integer-requires : tie.Need-takes-integer-requires
-takes-integer-requires c κs = search needs
-
-take-input-requires : tie.Need-take-input-requires
-take-input-requires c κs = search needs
-
-same-length : tie.Need-same-length
-same-length c = search needs
-
 returns : tie.Need-returns
 returns c =
     let args = c .before .before .before .before .before .before .before .before .before .before .args in
@@ -42,4 +33,4 @@ returns-2 c =
 
 pub take-spec : {M : Type 1} → statement M
 take-spec =
-    tie.close (tie.spec takes-integer-requires take-input-requires same-length returns returns-2)
+    tie.close (tie.spec (λ c κs. search needs) (λ c κs. search needs) (λ c. search needs) returns returns-2)
