@@ -5,6 +5,10 @@ use mathlib.Core.List.{List}
 use native.Mathlib.Omega.{arith}
 use lib.ListN.{length, getD, set, replicate}
 use lib.Seq.{getD-set-same, getD-set-other}
+use Rattle.sheet.specs.Layout.{formalsAt, variablesAt, variableAt, instructionAt, procedureAt}
+use Rattle.words.specs.Word.{number-of, variables-of, formals-of, first-of, procedure-word}
+use Rattle.words.proofs.Laws.{procedure-is, number-is, variables-is, formals-is, first-is}
+use Rattle.index.specs.Indexed.{ProcedureWord}
 use Rattle.index.specs.Procedures.{place-of}
 use borrow.Author.Count.{below-more}
 
@@ -24,10 +28,29 @@ other-kept l old i w k n e = getD-set-other l i k w 0 n ∙ e
 pub high-byte : (x e : ℕ) → x < 2 ^ 40 → e < 2 ^ 8 → (x + 1099511627776 * e) / 2 ^ 40 % 2 ^ 8 ≡ e
 high-byte x e h k = omega arith
 
--- a word that is a place alone
-pub small-place : (at : ℕ) → at < 2 ^ 32 → place-of at ≡ at
+-- the word of no variables for a place
+pub end-place : (at : ℕ) → at < 2 ^ 31 → place-of (procedure-word 0 0 0 (at + 8)) ≡ at
 unfolding place-of
-small-place at h = omega arith
+end-place at h =
+    rw (variables-is 0 0 0 (at + 8) (omega arith) (omega arith) (omega arith) (omega arith), first-is 0 0 0 (at + 8) (omega arith) (omega arith) (omega arith) (omega arith))
+    (omega arith)
+
+-- a word packed from what the PR of procedure k says
+pub entry : (s : List ℕ) (k v f i w : ℕ) → k < 2 ^ 6 → v < 2 ^ 8 → f < 2 ^ 8 → i < 2 ^ 32
+    → v ≡ variablesAt s (procedureAt s k) → f ≡ formalsAt s (procedureAt s k) → i ≡ instructionAt s (procedureAt s k) 0
+    → w ≡ procedure-word k v f i → ProcedureWord s k w
+unfolding place-of instructionAt variableAt
+entry s k v f i w small few fewer near variables formals first is =
+    let has : variables-of w ≡ v = ap variables-of is ∙ variables-is k v f i small few fewer near in
+    let starts : first-of w ≡ i = ap first-of is ∙ first-is k v f i small few fewer near in
+    record {
+      is-procedure = rw is (procedure-is k v f i small few fewer near);
+      number = ap number-of is ∙ number-is k v f i small few fewer near;
+      formals = ap formals-of is ∙ formals-is k v f i small few fewer near ∙ formals;
+      variables = has ∙ variables;
+      first = starts ∙ first;
+      place = rw (starts, has) (omega arith);
+    }
 
 -- an index before it is filled
 pub zeros : (n k : ℕ) → _≡_ {A = ℕ} (getD (replicate n 0) k 0) 0

@@ -3,10 +3,11 @@ use Prim.Native.Nat.{ℕ, _≤_, _<_}
 use mathlib.Core.Path.{_≡_}
 use mathlib.Core.List.{List}
 use lib.ListN.{length, getD}
-use Rattle.sheet.specs.Layout.{qualsOf, baseOf, rightsOf, elementOf, proceduresOf, ownerAt, formalsAt, variablesAt, resultAt, procedureAt}
+use Rattle.sheet.specs.Layout.{qualsOf, baseOf, rightsOf, elementOf, proceduresOf, formalsAt, variablesAt, instructionAt, procedureAt}
 use Rattle.sheet.specs.Meaning.{qualOf}
 use Rattle.index.specs.Types.{rights-of, base-of, element-of, qualIn}
-use Rattle.index.specs.Procedures.{procedure-in, place-of, owner-of, formals-of, variables-of, result-of}
+use Rattle.index.specs.Procedures.{procedure-in, place-of}
+use Rattle.words.specs.Word.{number-of, variables-of, formals-of, first-of, IsProcedure}
 
 -- the word of QT j
 pub record TypeWord (s : List ℕ) (j w : ℕ) : Type 0 where
@@ -14,13 +15,14 @@ pub record TypeWord (s : List ℕ) (j w : ℕ) : Type 0 where
   pub rights : rights-of w ≡ rightsOf s j
   pub element : element-of w ≡ elementOf s j
 
--- the word of the procedure at `pr`
-pub record ProcedureWord (s : List ℕ) (pr w : ℕ) : Type 0 where
-  pub place : place-of w ≡ pr
-  pub owner : owner-of w ≡ ownerAt s pr
-  pub formals : formals-of w ≡ formalsAt s pr
-  pub variables : variables-of w ≡ variablesAt s pr
-  pub result : result-of w ≡ resultAt s pr
+-- the word of procedure k
+pub record ProcedureWord (s : List ℕ) (k w : ℕ) : Type 0 where
+  pub is-procedure : IsProcedure w
+  pub number : number-of w ≡ k
+  pub formals : formals-of w ≡ formalsAt s (procedureAt s k)
+  pub variables : variables-of w ≡ variablesAt s (procedureAt s k)
+  pub first : first-of w ≡ instructionAt s (procedureAt s k) 0
+  pub place : place-of w ≡ procedureAt s k
 
 -- the words of the types that a sheet has were filled in, and no other changed
 pub record TypesFilled (s old new : List ℕ) : Type 0 where
@@ -32,7 +34,7 @@ pub record TypesFilled (s old new : List ℕ) : Type 0 where
 -- the words of the procedures were, with the place where the last one ends, and none before them changed
 pub record ProceduresFilled (s old new : List ℕ) : Type 0 where
   pub places : (k : ℕ) → k ≤ proceduresOf s → k ≤ 64 → place-of (procedure-in new k) ≡ procedureAt s k
-  pub procedures : (k : ℕ) → k < proceduresOf s → k < 64 → ProcedureWord s (procedureAt s k) (procedure-in new k)
+  pub procedures : (k : ℕ) → k < proceduresOf s → k < 64 → ProcedureWord s k (procedure-in new k)
   pub below : (k : ℕ) → k < 64 → getD new k 0 ≡ getD old k 0
 
 -- the index of any bytes: as many types and procedures as there is room for
@@ -40,11 +42,11 @@ pub record Indexed (s t : List ℕ) : Type 0 where
   pub types : (j : ℕ) → j < qualsOf s → j < 64 → TypeWord s j (getD t j 0)
   pub no-types : (j : ℕ) → qualsOf s ≤ j → j < 64 → getD t j 0 ≡ 0
   pub places : (k : ℕ) → k ≤ proceduresOf s → k ≤ 64 → place-of (procedure-in t k) ≡ procedureAt s k
-  pub procedures : (k : ℕ) → k < proceduresOf s → k < 64 → ProcedureWord s (procedureAt s k) (procedure-in t k)
+  pub procedures : (k : ℕ) → k < proceduresOf s → k < 64 → ProcedureWord s k (procedure-in t k)
 
 -- the index of a sheet that has no more of them than there is room for: all that stands above well-formedness leans on this alone
 pub record Ready (s t : List ℕ) : Type 0 where
   pub few : proceduresOf s ≤ 64
   pub types : (j : ℕ) → qualIn t j ≡ qualOf s j
   pub places : (k : ℕ) → k ≤ proceduresOf s → place-of (procedure-in t k) ≡ procedureAt s k
-  pub procedures : (k : ℕ) → k < proceduresOf s → ProcedureWord s (procedureAt s k) (procedure-in t k)
+  pub procedures : (k : ℕ) → k < proceduresOf s → ProcedureWord s k (procedure-in t k)

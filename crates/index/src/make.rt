@@ -4,8 +4,11 @@ use sheet::bytes::byte;
 use sheet::bytes::word;
 use sheet::places::instruction_at;
 use sheet::places::qual_at;
+use words::procedure_word;
 ghost use mathlib.Core.Path.{_≡_};
+ghost use Prim.Native.Nat.{_<_, _^_};
 ghost use lib.ListN.{length};
+ghost use Rattle.sheet.specs.Layout.{procedureAt};
 ghost use Rattle.index.specs.Indexed.{TypeWord, ProcedureWord, TypesFilled, ProceduresFilled, Indexed};
 
 // The word of the QT of number j, as its record says.
@@ -31,22 +34,18 @@ fn fill_types(s: &[u8], index: &mut Index)
     }
 }
 
-// The word of the procedure at a place, as its PR says.
-fn procedure_entry(s: &[u8], pr: u32) -> u64
-    ensures { λ w. ⌜ ProcedureWord (now (s .entry)) pr w ⌝ }
+// The word of procedure k, as its PR says.
+fn procedure_entry(s: &[u8], k: usize, pr: u32) -> u64
+    requires { ⌜ (k < 64) × (pr < 2 ^ 31) ⌝ }
+    ensures { λ w. ⌜ (pr ≡ procedureAt (now (s .entry)) k → ProcedureWord (now (s .entry)) k w) ⌝ }
 {
-    let at = pr as usize;
-    let owner = byte(s, at, 2) as u64;
-    let formals = byte(s, at, 3) as u64;
-    let variables = byte(s, at, 4) as u64;
-    let result = byte(s, at, 5) as u64;
-    (pr as u64)
-        + 4294967296 * owner
-        + 1099511627776 * formals
-        + 281474976710656 * variables
-        + 72057594037927936 * result
+    let variables = byte(s, pr as usize, 4);
+    let formals = byte(s, pr as usize, 3);
+    let first = instruction_at(s, pr, 0) as u32;
+    procedure_word(k as u8, variables, formals, first)
 }
 
+// After the last procedure there is, for its end, a word of no variables.
 fn fill_procedures(s: &[u8], index: &mut Index)
     requires { ⌜ length (now index) ≡ 129 ⌝ }
     ensures { λ _. ⌜ ProceduresFilled (now (s .entry)) (now (index .entry)) (now (index .exit)) ⌝ }
@@ -55,11 +54,11 @@ fn fill_procedures(s: &[u8], index: &mut Index)
     let mut at = qual_at(s, byte(s, 0, 4)) as u32;
     let mut i = 0;
     while (i < p) & (i < 64) {
-        index[64 + i] = procedure_entry(s, at);
+        index[64 + i] = procedure_entry(s, i, at);
         at = instruction_at(s, at, word(s, at as usize, 6)) as u32;
         i += 1;
     }
-    index[64 + i] = at as u64;
+    index[64 + i] = procedure_word(0, 0, 0, at + 8);
 }
 
 pub fn indexed(s: &[u8]) -> Index

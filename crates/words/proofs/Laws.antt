@@ -12,7 +12,7 @@ use borrow.Author.Tests.{eqb-true, eqb-false, ne-eqb}
 use Rattle.model.specs.Qualified.{Qual}
 use Rattle.model.specs.Modes.{Mode, ElementInfo, TypeInfo, carried, element-info, type-info}
 use Rattle.model.specs.Machine.{word, object, Cell, empty, filled, array-head, record-head}
-use Rattle.words.specs.Word.{low, tag, payload, pack, size-of, info-of, back-kept, back-procedure, back-next, extent-variables, Slot, cell, head, back, extent, slot-in, as-cell, as-head}
+use Rattle.words.specs.Word.{low, tag, payload, pack, size-of, info-of, back-kept, back-next, number-of, variables-of, formals-of, first-of, procedure-word, IsProcedure, Slot, cell, head, back, procedure, slot-in, as-cell, as-head}
 use Rattle.words.specs.Answer.{read-as}
 use Rattle.words.specs.Sees.{head-size}
 use Rattle.words.specs.Answers.{IsCell}
@@ -62,13 +62,13 @@ module _ (m : Mode) (qual : ℕ → Qual) (w : ℕ) where
   unfolding slot-in
   slot-record e = rw (ne-eqb w 0 (tagged w 3 e), e)
 
-  pub slot-back : tag w ≡ 5 → slot-in m qual w ≡ back (back-procedure w) (back-next w) (back-kept w)
+  pub slot-back : tag w ≡ 5 → slot-in m qual w ≡ back (back-next w) (back-kept w)
   unfolding slot-in
   slot-back e = rw (ne-eqb w 0 (tagged w 4 e), e)
 
-  slot-extent : tag w ≡ 6 → slot-in m qual w ≡ extent (extent-variables w) (low w)
+  slot-procedure : tag w ≡ 6 → slot-in m qual w ≡ procedure (number-of w) (variables-of w) (first-of w)
   unfolding slot-in
-  slot-extent e = rw (ne-eqb w 0 (tagged w 5 e), e)
+  slot-procedure e = rw (ne-eqb w 0 (tagged w 5 e), e)
 
 -- the seven kinds of word, the same in both machines and for all maps of element numbers
 pub data Reading (w : ℕ) : Type 0 where
@@ -78,7 +78,7 @@ pub data Reading (w : ℕ) : Type 0 where
   an-array : tag w ≡ 3 → Reading w
   a-record : tag w ≡ 4 → Reading w
   a-back : tag w ≡ 5 → Reading w
-  an-extent : ((m : Mode) (qual : ℕ → Qual) → slot-in m qual w ≡ extent (extent-variables w) (low w)) → Reading w
+  a-procedure : IsProcedure w → Reading w
 
 pub reading : (w : ℕ) → Reading w
 unfolding slot-in
@@ -92,7 +92,7 @@ reading w = by (eqb w 0) (eqb (tag w) 1) (eqb (tag w) 2) (eqb (tag w) 3) (eqb (t
     by false false false true is4 is5 z i o a r b = an-array (eqb-true _ _ a)
     by false false false false true is5 z i o a r b = a-record (eqb-true _ _ r)
     by false false false false false true z i o a r b = a-back (eqb-true _ _ b)
-    by false false false false false false z i o a r b = an-extent (λ m q. rw (z, i, o, a, r, b))
+    by false false false false false false z i o a r b = a-procedure (λ m q. rw (z, i, o, a, r, b))
 
 -- ---- what a slot says of its word
 
@@ -111,7 +111,7 @@ module _ (m : Mode) (qual : ℕ → Qual) (w : ℕ) where
       by (an-array t) = let k = slot-array m qual w t in absurd (let z : _≡_ {A = ℕ} 0 1 = cc in omega arith)
       by (a-record t) = let k = slot-record m qual w t in absurd (let z : _≡_ {A = ℕ} 0 1 = cc in omega arith)
       by (a-back t) = let k = slot-back m qual w t in absurd (let z : _≡_ {A = ℕ} 0 1 = cc in omega arith)
-      by (an-extent t) = let k = t m qual in absurd (let z : _≡_ {A = ℕ} 0 1 = cc in omega arith)
+      by (a-procedure t) = let k = t m qual in absurd (let z : _≡_ {A = ℕ} 0 1 = cc in omega arith)
 
   pub size-word : {n : ℕ} → head-size (as-head (slot-in m qual w)) ≡ some n → n ≡ size-of w
   size-word {n} e = by (reading w)
@@ -131,7 +131,7 @@ module _ (m : Mode) (qual : ℕ → Qual) (w : ℕ) where
       by (a-back t) =
           let k : head-size (as-head (slot-in m qual w)) ≡ none = rw (slot-back m qual w t) in
           absurd (let z : _≡_ {A = ℕ} 0 1 = cc in omega arith)
-      by (an-extent t) =
+      by (a-procedure t) =
           let k : head-size (as-head (slot-in m qual w)) ≡ none = rw (t m qual) in
           absurd (let z : _≡_ {A = ℕ} 0 1 = cc in omega arith)
 
@@ -141,10 +141,10 @@ module _ (m : Mode) (qual : ℕ → Qual) (w : ℕ) where
   pub record-word : {t : TypeInfo m} {n : ℕ} → as-head (slot-in m qual w) ≡ record-head t n → n ≡ size-of w
   record-word is = size-word (ap head-size is)
 
-  pub back-word : {p i a : ℕ} → slot-in m qual w ≡ back p i a → (p ≡ back-procedure w) × (i ≡ back-next w) × (a ≡ back-kept w)
-  back-word {p} {i} {a} e = by (reading w)
+  pub back-word : {i a : ℕ} → slot-in m qual w ≡ back i a → (i ≡ back-next w) × (a ≡ back-kept w)
+  back-word {i} {a} e = by (reading w)
     where
-      by : Reading w → (p ≡ back-procedure w) × (i ≡ back-next w) × (a ≡ back-kept w)
+      by : Reading w → (i ≡ back-next w) × (a ≡ back-kept w)
       by (a-blank z) =
           let k : slot-in m qual w ≡ cell empty = rw (z, slot-zero m qual) in
           absurd (let z : _≡_ {A = ℕ} 0 1 = cc in omega arith)
@@ -153,14 +153,14 @@ module _ (m : Mode) (qual : ℕ → Qual) (w : ℕ) where
       by (an-array t) = let k = slot-array m qual w t in absurd (let z : _≡_ {A = ℕ} 0 1 = cc in omega arith)
       by (a-record t) = let k = slot-record m qual w t in absurd (let z : _≡_ {A = ℕ} 0 1 = cc in omega arith)
       by (a-back t) =
-          let k : back p i a ≡ back (back-procedure w) (back-next w) (back-kept w) = sym e ∙ slot-back m qual w t in
-          (cc, cc, cc)
-      by (an-extent t) = let k = t m qual in absurd (let z : _≡_ {A = ℕ} 0 1 = cc in omega arith)
+          let k : back i a ≡ back (back-next w) (back-kept w) = sym e ∙ slot-back m qual w t in
+          (cc, cc)
+      by (a-procedure t) = let k = t m qual in absurd (let z : _≡_ {A = ℕ} 0 1 = cc in omega arith)
 
-  pub extent-word : {v f : ℕ} → slot-in m qual w ≡ extent v f → (v ≡ extent-variables w) × (f ≡ low w)
-  extent-word {v} {f} e = by (reading w)
+  pub procedure-told : {p v f : ℕ} → slot-in m qual w ≡ procedure p v f → IsProcedure w × (p ≡ number-of w) × (v ≡ variables-of w) × (f ≡ first-of w)
+  procedure-told {p} {v} {f} e = by (reading w)
     where
-      by : Reading w → (v ≡ extent-variables w) × (f ≡ low w)
+      by : Reading w → IsProcedure w × (p ≡ number-of w) × (v ≡ variables-of w) × (f ≡ first-of w)
       by (a-blank z) =
           let k : slot-in m qual w ≡ cell empty = rw (z, slot-zero m qual) in
           absurd (let z : _≡_ {A = ℕ} 0 1 = cc in omega arith)
@@ -169,9 +169,9 @@ module _ (m : Mode) (qual : ℕ → Qual) (w : ℕ) where
       by (an-array t) = let k = slot-array m qual w t in absurd (let z : _≡_ {A = ℕ} 0 1 = cc in omega arith)
       by (a-record t) = let k = slot-record m qual w t in absurd (let z : _≡_ {A = ℕ} 0 1 = cc in omega arith)
       by (a-back t) = let k = slot-back m qual w t in absurd (let z : _≡_ {A = ℕ} 0 1 = cc in omega arith)
-      by (an-extent t) =
-          let k : extent v f ≡ extent (extent-variables w) (low w) = sym e ∙ t m qual in
-          (cc, cc)
+      by (a-procedure t) =
+          let k : procedure p v f ≡ procedure (number-of w) (variables-of w) (first-of w) = sym e ∙ t m qual in
+          (t, cc, cc, cc)
 
 -- ---- what the two machines, and all maps of element numbers, have in common
 
@@ -186,7 +186,7 @@ is-cell m qual w e k q = by (reading w)
     by (an-array t) = let s = slot-array m qual w t in absurd (let z : _≡_ {A = ℕ} 0 1 = cc in omega arith)
     by (a-record t) = let s = slot-record m qual w t in absurd (let z : _≡_ {A = ℕ} 0 1 = cc in omega arith)
     by (a-back t) = let s = slot-back m qual w t in absurd (let z : _≡_ {A = ℕ} 0 1 = cc in omega arith)
-    by (an-extent t) = let s = t m qual in absurd (let z : _≡_ {A = ℕ} 0 1 = cc in omega arith)
+    by (a-procedure t) = let s = t m qual in absurd (let z : _≡_ {A = ℕ} 0 1 = cc in omega arith)
 
 -- all read the same size of a head
 pub same-size : (m k : Mode) (q p : ℕ → Qual) (w : ℕ) → head-size (as-head (slot-in m q w)) ≡ head-size (as-head (slot-in k p w))
@@ -199,7 +199,7 @@ same-size m k q p w = by (reading w)
     by (an-array t) = rw (slot-array m q w t, slot-array k p w t)
     by (a-record t) = rw (slot-record m q w t, slot-record k p w t)
     by (a-back t) = rw (slot-back m q w t, slot-back k p w t)
-    by (an-extent t) = rw (t m q, t k p)
+    by (a-procedure t) = rw (t m q, t k p)
 
 -- ---- what reading a word as a cell tells of it
 
@@ -244,19 +244,40 @@ module _ (m : Mode) (qual : ℕ → Qual) where
       let kind : k % 2 ^ 8 ≡ k = omega arith in
       slot-record m qual _ (tag-pack 4 _ 0 (omega arith) (omega arith)) ∙ rw (payload-pack 4 (k * 2 ^ 16 + n) 0 (omega arith) (omega arith), size, over, kind)
 
-  pub back-packed : (p i a : ℕ) → p < 2 ^ 6 → a < 2 ^ 8 → slot-in m qual (pack 5 ((i * 2 ^ 6 + p) * 2 ^ 8 + a) 0) ≡ back p i a
-  back-packed p i a b h =
-      let all = (i * 2 ^ 6 + p) * 2 ^ 8 + a in
+  pub back-packed : (i a : ℕ) → a < 2 ^ 8 → slot-in m qual (pack 5 (i * 2 ^ 14 + a) 0) ≡ back i a
+  back-packed i a h =
+      let all = i * 2 ^ 14 + a in
       let kept : all % 2 ^ 8 ≡ a = omega arith in
-      let over : all / 2 ^ 8 ≡ i * 2 ^ 6 + p = omega arith in
-      let procedure : (i * 2 ^ 6 + p) % 2 ^ 6 ≡ p = omega arith in
       let next : all / 2 ^ 14 ≡ i = omega arith in
-      slot-back m qual _ (tag-pack 5 _ 0 (omega arith) (omega arith)) ∙ rw (payload-pack 5 all 0 (omega arith) (omega arith), kept, over, procedure, next)
+      slot-back m qual _ (tag-pack 5 _ 0 (omega arith) (omega arith)) ∙ rw (payload-pack 5 all 0 (omega arith) (omega arith), kept, next)
 
-  pub extent-packed : (v f : ℕ) → v < 2 ^ 8 → f < 2 ^ 32 → slot-in m qual (pack 6 v f) ≡ extent v f
-  extent-packed v f b h =
-      let all : v % 2 ^ 8 ≡ v = omega arith in
-      slot-extent m qual _ (tag-pack 6 v f (omega arith) h) ∙ rw (payload-pack 6 v f (omega arith) h, low-pack 6 v f (omega arith) h, all)
+-- the word of a procedure
+module _ (p v f i : ℕ) (p-fits : p < 2 ^ 6) (v-fits : v < 2 ^ 8) (f-fits : f < 2 ^ 8) (i-fits : i < 2 ^ 32) where
+  counts : payload (procedure-word p v f i) ≡ (f * 2 ^ 6 + p) * 2 ^ 8 + v
+  counts = payload-pack 6 _ i (omega arith) i-fits
+
+  pub procedure-is : IsProcedure (procedure-word p v f i)
+  procedure-is m qual = slot-procedure m qual _ (tag-pack 6 _ i (omega arith) i-fits)
+
+  pub number-is : number-of (procedure-word p v f i) ≡ p
+  number-is =
+      let over : ((f * 2 ^ 6 + p) * 2 ^ 8 + v) / 2 ^ 8 ≡ f * 2 ^ 6 + p = omega arith in
+      let low : (f * 2 ^ 6 + p) % 2 ^ 6 ≡ p = omega arith in
+      rw (counts, over, low)
+
+  pub variables-is : variables-of (procedure-word p v f i) ≡ v
+  variables-is =
+      let low : ((f * 2 ^ 6 + p) * 2 ^ 8 + v) % 2 ^ 8 ≡ v = omega arith in
+      rw (counts, low)
+
+  pub formals-is : formals-of (procedure-word p v f i) ≡ f
+  formals-is =
+      let over : ((f * 2 ^ 6 + p) * 2 ^ 8 + v) / 2 ^ 14 ≡ f = omega arith in
+      let low : f % 2 ^ 8 ≡ f = omega arith in
+      rw (counts, over, low)
+
+  pub first-is : first-of (procedure-word p v f i) ≡ i
+  first-is = low-pack 6 _ i (omega arith) i-fits
 
 -- ---- a list of words seen as slots
 

@@ -5,7 +5,7 @@ ghost use lib.ListN.{length, getD, set, replicate};
 ghost use Rattle.model.specs.Qualified.{Qual};
 ghost use Rattle.model.specs.Modes.{Mode, carried, element-info, type-info};
 ghost use Rattle.model.specs.Machine.{word, object, filled, array-head, record-head};
-ghost use Rattle.words.specs.Word.{cell, head, back, extent, low, tag, payload, size-of, info-of, back-kept, back-procedure, back-next, extent-variables, slot-in};
+ghost use Rattle.words.specs.Word.{cell, head, back, low, tag, payload, size-of, info-of, back-kept, back-next, number-of, variables-of, formals-of, first-of, procedure-word, slot-in};
 ghost use Rattle.words.specs.Answer.{read-as};
 
 // What a variable, a cell of an array or a slot of a record holds: a filled one by its word.
@@ -89,17 +89,11 @@ pub fn kind_in(w: u64) -> u8
     (w / 34359738368 / 65536 % 256) as u8
 }
 
-// What stands between a frame and the one that waits for it: the variable that its call keeps, its procedure and next instruction; its count of variables.
+// Where a frame that waits goes back: the variable that its call keeps, its next instruction.
 pub fn back_kept(w: u64) -> u8
     ensures { λ n. ⌜ n ≡ back-kept w ⌝ }
 {
     (w / 34359738368 % 256) as u8
-}
-
-pub fn back_procedure(w: u64) -> u8
-    ensures { λ n. ⌜ n ≡ back-procedure w ⌝ }
-{
-    (w / 34359738368 / 256 % 64) as u8
 }
 
 pub fn back_next(w: u64) -> u32
@@ -108,13 +102,32 @@ pub fn back_next(w: u64) -> u32
     (w / 34359738368 / 16384) as u32
 }
 
-pub fn extent_variables(w: u64) -> u8
-    ensures { λ n. ⌜ n ≡ extent-variables w ⌝ }
+// In the word of a procedure: its number, its variables and formals, and where its instructions start.
+pub fn number_in(w: u64) -> u8
+    ensures { λ n. ⌜ n ≡ number-of w ⌝ }
+{
+    (w / 34359738368 / 256 % 64) as u8
+}
+
+pub fn variables_in(w: u64) -> u8
+    ensures { λ n. ⌜ n ≡ variables-of w ⌝ }
 {
     (w / 34359738368 % 256) as u8
 }
 
-// The words of an integer, of an object, of the heads of an array and of a record, and the two of a frame that waits.
+pub fn formals_in(w: u64) -> u8
+    ensures { λ n. ⌜ n ≡ formals-of w ⌝ }
+{
+    (w / 34359738368 / 16384 % 256) as u8
+}
+
+pub fn first_in(w: u64) -> u32
+    ensures { λ n. ⌜ n ≡ first-of w ⌝ }
+{
+    low_of(w)
+}
+
+// The words of an integer, of an object, of the heads of an array and of a record, of where a frame goes back and of a procedure.
 pub fn integer_word(n: u32) -> u64
     ensures { λ w. ⌜ ((m : Mode) (q : ℕ → Qual) → slot-in m q w ≡ cell (filled (word n) (carried m 0))) ⌝ }
 {
@@ -142,17 +155,19 @@ pub fn record_word(n: u32, kind: u8) -> u64
     (((kind as u64) * 65536 + (n as u64)) * 8 + 4) * 4294967296
 }
 
-pub fn back_word(procedure: u8, next: u32, kept: u8) -> u64
-    requires { ⌜ (procedure < 2 ^ 6) × (next < 2 ^ 15) ⌝ }
-    ensures { λ w. ⌜ ((m : Mode) (q : ℕ → Qual) → slot-in m q w ≡ back procedure next kept) ⌝ }
+pub fn back_word(next: u32, kept: u8) -> u64
+    requires { ⌜ next < 2 ^ 15 ⌝ }
+    ensures { λ w. ⌜ ((m : Mode) (q : ℕ → Qual) → slot-in m q w ≡ back next kept) ⌝ }
 {
-    ((((next as u64) * 64 + (procedure as u64)) * 256 + (kept as u64)) * 8 + 5) * 4294967296
+    (((next as u64) * 16384 + (kept as u64)) * 8 + 5) * 4294967296
 }
 
-pub fn extent_word(variables: u8, first: u32) -> u64
-    ensures { λ w. ⌜ ((m : Mode) (q : ℕ → Qual) → slot-in m q w ≡ extent variables first) ⌝ }
+pub fn procedure_word(number: u8, variables: u8, formals: u8, first: u32) -> u64
+    requires { ⌜ number < 2 ^ 6 ⌝ }
+    ensures { λ w. ⌜ w ≡ procedure-word number variables formals first ⌝ }
 {
-    ((variables as u64) * 8 + 6) * 4294967296 + (first as u64)
+    let counts = ((formals as u64) * 64 + (number as u64)) * 256 + (variables as u64);
+    (counts * 8 + 6) * 4294967296 + (first as u64)
 }
 
 // Every word of a slice becomes 0.

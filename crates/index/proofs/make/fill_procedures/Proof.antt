@@ -9,7 +9,7 @@ use Rattle.sheet.specs.Layout.{proceduresOf, procedureAt, qualsOf, instructions
 use Rattle.sheet.proofs.Laws.{both-below, one-passed, procedure-next}
 use Rattle.index.specs.Indexed.{ProcedureWord}
 use Rattle.index.specs.Procedures.{place-of, procedure-in}
-use Rattle.index.proofs.Filling.{filled-more, other-kept, small-place}
+use Rattle.index.proofs.Filling.{filled-more, other-kept, end-place}
 use native.Mathlib.Omega.{arith}
 use borrow.Author.Needs.{needs}
 use Rattle.index.proofs.make.fill_procedures.Statement.{statement}
@@ -18,7 +18,7 @@ use Rattle.index.proofs.make.fill_procedures.Tie as tie
 abbrev Inv-loop : tie.InvT-loop
 Inv-loop s index₀ p at₀ i₀ index at i =
     (i ≤ p) × (i ≤ 64) × (length index ≡ 129) × (at ≡ procedureAt s i) × (at ≤ 5000 + i * 600000)
-    × ((k : ℕ) → k < i → ProcedureWord s (procedureAt s k) (getD index (64 + k) 0)) × ((k : ℕ) → k < 64 → getD index k 0 ≡ getD index₀ k 0)
+    × ((k : ℕ) → k < i → ProcedureWord s k (getD index (64 + k) 0)) × ((k : ℕ) → k < 64 → getD index k 0 ≡ getD index₀ k 0)
 
 abbrev μ-loop : tie.MeasureT-loop
 μ-loop s index₀ p at₀ i₀ index at i = 64 - i
@@ -46,7 +46,10 @@ loop-holds c =
     (omega arith, omega arith, c .before .before .before .before .pre, rw (c .qual-at .ensures .0, c .before .byte2 .ensures), omega arith, λ k l. absurd (omega arith), λ k l. refl)
 
 procedure-entry-requires : tie.Need-procedure-entry-requires Inv-loop μ-loop
-procedure-entry-requires c κs = search needs
+procedure-entry-requires c κs =
+    let l = c .before .loop in
+    let b = both-below (l .i) (c .before .before .before .before .byte .result) 64 (c .loop-test .taken) in
+    (b .1, omega (arith, l .inv .4))
 
 add-index : tie.Need-add-index Inv-loop μ-loop
 add-index c = search needs
@@ -94,12 +97,15 @@ loop-again c =
       simp length-set (l .inv .2),
       c .instruction-at .ensures .0 ∙ ap (instructionAt s (l .at)) (c .before .word .ensures) ∙ procedure-next s (l .i) (l .at) here,
       omega (arith, c .instruction-at .ensures .1, l .inv .4),
-      filled-more (λ k. ProcedureWord s (procedureAt s k)) (λ n. 64 + n) (l .i) w (l .index) (omega (arith, l .inv .2)) (λ n m e. omega arith) (rw (sym here) (c .before .before .procedure-entry .ensures)) (l .inv .5),
+      filled-more (ProcedureWord s) (λ n. 64 + n) (l .i) w (l .index) (omega (arith, l .inv .2)) (λ n m e. omega arith) (c .before .before .procedure-entry .ensures here) (l .inv .5),
       λ k h. other-kept (l .index) (d .before .before .args .index .now) (64 + l .i) w k (λ e. omega arith) (l .inv .6 k h),
     )
 
-cast-index : tie.Need-cast-index Inv-loop μ-loop
-cast-index c = search needs
+add-procedure-word : tie.Need-add-procedure-word Inv-loop μ-loop
+add-procedure-word c = omega (arith, c .before .loop .inv .4)
+
+procedure-word-requires : tie.Need-procedure-word-requires Inv-loop μ-loop
+procedure-word-requires c κs = search needs
 
 add-index-2 : tie.Need-add-index-2 Inv-loop μ-loop
 add-index-2 c = search needs
@@ -113,20 +119,21 @@ element-write-index-2 c = search needs
 returns : tie.Need-returns Inv-loop μ-loop
 unfolding proceduresOf procedure-in
 returns c =
-    let l = c .before .loop in
-    let d = c .before .before .before .before in
+    let l = c .before .before .loop in
+    let d = c .before .before .before .before .before in
+    let w = c .procedure-word .result in
     let s = d .before .before .args .s .now in
-    let past = one-passed (l .i) (d .byte .result) 64 (c .loop-test .left) in
-    let small : l .at < 2 ^ 32 = omega (arith, l .inv .4) in
-    let placed = filled-more (λ k w. place-of w ≡ procedureAt s k) (λ n. 64 + n) (l .i) (l .at) (l .index) (omega (arith, l .inv .2)) (λ n m e. omega arith)
-    (small-place (l .at) small ∙ l .inv .3) (λ k h. l .inv .5 k h .place) in
+    let past = one-passed (l .i) (d .byte .result) 64 (c .before .loop-test .left) in
+    let small : l .at < 2 ^ 31 = omega (arith, l .inv .4) in
+    let placed = filled-more (λ k w. place-of w ≡ procedureAt s k) (λ n. 64 + n) (l .i) w (l .index) (omega (arith, l .inv .2)) (λ n m e. omega arith)
+    (ap place-of (c .procedure-word .ensures) ∙ end-place (l .at) small ∙ l .inv .3) (λ k h. l .inv .5 k h .place) in
     record {
       places = λ k h m. rw (lt-ltb k 65 (omega arith)) (placed k (⊎-elim (λ p. omega (arith, d .byte .ensures)) (λ p. omega arith) past));
       procedures = λ k h m.
           let b : k < l .i = ⊎-elim (λ p. omega (arith, d .byte .ensures)) (λ p. omega arith) past in
           let n : 64 + k ≡ 64 + l .i → ⊥ = (λ e. omega arith) in
-          rw (lt-ltb k 65 (omega arith), getD-set-other (l .index) (64 + l .i) (64 + k) (l .at) 0 n) (l .inv .5 k b);
-      below = λ k h. other-kept (l .index) (d .before .before .args .index .now) (64 + l .i) (l .at) k (λ e. omega arith) (l .inv .6 k h);
+          rw (lt-ltb k 65 (omega arith), getD-set-other (l .index) (64 + l .i) (64 + k) w 0 n) (l .inv .5 k b);
+      below = λ k h. other-kept (l .index) (d .before .before .args .index .now) (64 + l .i) w k (λ e. omega arith) (l .inv .6 k h);
     }
 
 pub fill-procedures-spec : {M : Type 1} → statement M
@@ -152,7 +159,8 @@ fill-procedures-spec =
     add-i
     loop-less
     loop-again
-    cast-index
+    add-procedure-word
+    procedure-word-requires
     add-index-2
     mul-index-2
     element-write-index-2

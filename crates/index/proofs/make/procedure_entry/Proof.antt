@@ -1,44 +1,33 @@
--- The five parts of the sum do not overlap.
-use Rattle.sheet.specs.Layout.{ownerAt, formalsAt, variablesAt, resultAt}
-use Rattle.index.specs.Procedures.{place-of, owner-of, formals-of, variables-of, result-of}
+-- The word is packed from what the PR says, each part within its bits.
+use mathlib.Core.Path.{ap, _∙_}
 use native.Mathlib.Omega.{arith}
+use denote.Ref.{now}
+use Rattle.sheet.specs.Layout.{formalsAt, variablesAt, instructionAt}
+use Rattle.index.proofs.Filling.{entry}
 use borrow.Author.Needs.{needs}
 use Rattle.index.proofs.make.procedure_entry.Statement.{statement}
 use Rattle.index.proofs.make.procedure_entry.Tie as tie
 
 returns : tie.Need-returns
-unfolding place-of owner-of formals-of variables-of result-of ownerAt formalsAt variablesAt resultAt
-returns c =
-    let r = c .byte4 .ensures in
-    let v = c .before .byte3 .ensures in
-    let f = c .before .before .byte2 .ensures in
-    let o = c .before .before .before .byte .ensures in
-    record {
-      place = omega arith;
-      owner = omega (arith, o);
-      formals = omega (arith, f);
-      variables = omega (arith, v);
-      result = omega (arith, r);
-    }
+unfolding formalsAt variablesAt
+returns c here =
+    let args = c .before .before .before .before .before .args in
+    let s = now (args .s) in
+    let variables = c .before .before .before .byte in
+    let formals = c .before .before .byte2 in
+    let first = c .before .instruction-at in
+    entry s (args .k) _ _ _ _ (omega arith) (omega arith) (omega arith) (omega (arith, first .ensures .1))
+    (variables .ensures ∙ ap (variablesAt s) here) (formals .ensures ∙ ap (formalsAt s) here) (first .ensures .0 ∙ ap (λ (pr : _). instructionAt s pr 0) here)
+    (c .procedure-word .ensures)
 
 pub procedure-entry-spec : {M : Type 1} → statement M
 procedure-entry-spec =
     tie.close
     (tie.spec
     (λ c κs. search needs)
+    (λ c κs. search needs)
+    (λ c κs. search needs)
+    (λ c. omega (arith, c .instruction-at .ensures .1))
     (λ c. search needs)
     (λ c κs. search needs)
-    (λ c. search needs)
-    (λ c κs. search needs)
-    (λ c. search needs)
-    (λ c κs. search needs)
-    (λ c. search needs)
-    (λ c. search needs)
-    (λ c. search needs)
-    (λ c. search needs)
-    (λ c. search needs)
-    (λ c. search needs)
-    (λ c. search needs)
-    (λ c. search needs)
-    (λ c. search needs)
     returns)

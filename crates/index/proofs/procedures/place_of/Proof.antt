@@ -5,7 +5,7 @@ use Rattle.index.proofs.procedures.place_of.Tie as tie
 
 returns : tie.Need-returns
 returns c =
-    rw (c .place-in .ensures, c .before .procedure-word .ensures)
+    rw (c .place-in .ensures, c .before .procedure-in .ensures)
 
 pub place-of-spec : {M : Type 1} → statement M
 place-of-spec = tie.close (tie.spec (λ c κs. search needs) (λ c κs. search needs) returns)

@@ -2,8 +2,8 @@
 use Rattle.index.specs.Procedures.{procedure-in}
 use borrow.Author.Tests.{lt-ltb, le-ltb}
 use borrow.Author.Needs.{needs}
-use Rattle.index.proofs.procedures.procedure_word.Statement.{statement}
-use Rattle.index.proofs.procedures.procedure_word.Tie as tie
+use Rattle.index.proofs.procedures.procedure_in.Statement.{statement}
+use Rattle.index.proofs.procedures.procedure_in.Tie as tie
 
 returns : tie.Need-returns
 unfolding procedure-in
@@ -13,6 +13,6 @@ returns-2 : tie.Need-returns-2
 unfolding procedure-in
 returns-2 c = rw (le-ltb _ _ (c .if1 .left))
 
-pub procedure-word-spec : {M : Type 1} → statement M
-procedure-word-spec =
+pub procedure-in-spec : {M : Type 1} → statement M
+procedure-in-spec =
     tie.close (tie.spec (λ c. search needs) (λ c. search needs) (λ c. search needs) returns returns-2)
