@@ -13,21 +13,21 @@ enum-told c = search needs
 returns : tie.Need-returns
 unfolding plan given halted
 returns c =
-    let read = c .before .before .before .read in
+    let word-at = c .before .before .before .word-at in
     let cell-of = c .before .before .cell-of in
     let enum-told = c .enum-told in
-    λ q g v a s. due (size-blank g v a _ (blank-there s (read .ensures) (cell-of .ensures) (enum-told .given .1))) sym
+    λ q g v a s. due (size-blank g v a _ (blank-there s (word-at .ensures) (cell-of .ensures) (enum-told .given .1))) sym
 
 returns-2 : tie.Need-returns-2
 unfolding plan given
 returns-2 c =
-    let read = c .before .before .before .before .before .before .before .read in
+    let word-at = c .before .before .before .before .before .before .before .word-at in
     let cell-of = c .before .before .before .before .before .before .cell-of in
     let x = c .before .before .before .before .x in
     let name-of = c .before .before .name-of in
-    let read2 = c .before .read2 in
+    let read = c .before .read in
     let size-of = c .size-of in
-    λ q g v a s. settle (size-filled g v a _ s (filled-there s (read .ensures) (cell-of .ensures) (x .given .1)) (name-of .ensures) (read2 .ensures) (size-of .ensures)) sym
+    λ q g v a s. settle (size-filled g v a _ s (filled-there s (word-at .ensures) (cell-of .ensures) (x .given .1)) (name-of .ensures) (read .ensures) (size-of .ensures)) sym
 
 pub array-size-of-spec : {M : Type 1} → statement M
 array-size-of-spec =

@@ -15,55 +15,55 @@ enum-told c = search needs
 returns : tie.Need-returns
 unfolding plan plan-fetch moved-to halted
 returns c =
-    let read = c .before .before .before .read in
+    let word-at = c .before .before .before .word-at in
     let cell-of = c .before .before .cell-of in
     let enum-told = c .enum-told in
-    λ q g v a s. due (element-blank g v fetch-right _ _ (fetching g v a) (blank-there s (read .ensures) (cell-of .ensures) (enum-told .given .1))) (λ e. (tt, sym e))
+    λ q g v a s. due (element-blank g v fetch-right _ _ (fetching g v a) (blank-there s (word-at .ensures) (cell-of .ensures) (enum-told .given .1))) (λ e. (tt, sym e))
 
 returns-2 : tie.Need-returns-2
 unfolding plan plan-fetch moved-to halted
 returns-2 c =
-    let read = c .before .before .before .before .before .before .before .before .read in
+    let word-at = c .before .before .before .before .before .before .before .before .word-at in
     let cell-of = c .before .before .before .before .before .before .before .cell-of in
     let x = c .before .before .before .before .before .x in
-    let read2 = c .before .before .before .read2 in
+    let word-at2 = c .before .before .before .word-at2 in
     let cell-of2 = c .before .before .cell-of2 in
     let enum-told2 = c .enum-told2 in
-    λ q g v a s. due (element-blank-index g v fetch-right _ _ (fetching g v a) (filled-there s (read .ensures) (cell-of .ensures) (x .given .1)) (blank-there s (read2 .ensures) (cell-of2 .ensures) (enum-told2 .given .1))) (λ e. (tt, sym e))
+    λ q g v a s. due (element-blank-index g v fetch-right _ _ (fetching g v a) (filled-there s (word-at .ensures) (cell-of .ensures) (x .given .1)) (blank-there s (word-at2 .ensures) (cell-of2 .ensures) (enum-told2 .given .1))) (λ e. (tt, sym e))
 
 returns-3 : tie.Need-returns-3
 unfolding plan plan-fetch
 returns-3 c =
-    let read = c .before .before .before .before .before .before .before .before .before .before .before .before .before .before .before .before .read in
+    let word-at = c .before .before .before .before .before .before .before .before .before .before .before .before .before .before .before .before .word-at in
     let cell-of = c .before .before .before .before .before .before .before .before .before .before .before .before .before .before .before .cell-of in
     let x = c .before .before .before .before .before .before .before .before .before .before .before .before .before .x in
-    let read2 = c .before .before .before .before .before .before .before .before .before .before .before .read2 in
+    let word-at2 = c .before .before .before .before .before .before .before .before .before .before .before .word-at2 in
     let cell-of2 = c .before .before .before .before .before .before .before .before .before .before .cell-of2 in
     let y = c .before .before .before .before .before .before .before .before .y in
     let name-of = c .before .before .before .before .before .before .name-of in
     let low-of = c .before .before .before .before .before .low-of in
-    let read3 = c .before .before .before .before .read3 in
+    let read = c .before .before .before .before .read in
     let size-of = c .before .before .before .size-of in
     let if1 = c .before .before .if1 in
-    let read4 = c .before .read4 in
+    let read2 = c .before .read2 in
     let filled-word = c .filled-word in
-    λ q g v a s. settle (element-at g v fetch-right _ _ (fetching g v a) s (filled-there s (read .ensures) (cell-of .ensures) (x .given .1)) (filled-there s (read2 .ensures) (cell-of2 .ensures) (y .given .1)) (name-of .ensures) (low-of .ensures) (read3 .ensures) (size-of .ensures) (if1 .taken)) (λ e. moved-is q g v (declared-as plain g v a) a (s .cell _ _ _ (e .0) (if1 .taken)) (read4 .ensures) (filled-word .ensures) (e .1))
+    λ q g v a s. settle (element-at g v fetch-right _ _ (fetching g v a) s (filled-there s (word-at .ensures) (cell-of .ensures) (x .given .1)) (filled-there s (word-at2 .ensures) (cell-of2 .ensures) (y .given .1)) (name-of .ensures) (low-of .ensures) (read .ensures) (size-of .ensures) (if1 .taken)) (λ e. moved-is q g v (declared-as plain g v a) a (s .cell _ _ _ (e .0) (if1 .taken)) (read2 .ensures) (filled-word .ensures) (e .1))
 
 returns-4 : tie.Need-returns-4
 unfolding plan plan-fetch moved-to halted
 returns-4 c =
-    let read = c .before .before .before .before .before .before .before .before .before .before .before .before .before .before .read in
+    let word-at = c .before .before .before .before .before .before .before .before .before .before .before .before .before .before .word-at in
     let cell-of = c .before .before .before .before .before .before .before .before .before .before .before .before .before .cell-of in
     let x = c .before .before .before .before .before .before .before .before .before .before .before .x in
-    let read2 = c .before .before .before .before .before .before .before .before .before .read2 in
+    let word-at2 = c .before .before .before .before .before .before .before .before .before .word-at2 in
     let cell-of2 = c .before .before .before .before .before .before .before .before .cell-of2 in
     let y = c .before .before .before .before .before .before .y in
     let name-of = c .before .before .before .before .name-of in
     let low-of = c .before .before .before .low-of in
-    let read3 = c .before .before .read3 in
+    let read = c .before .before .read in
     let size-of = c .before .size-of in
     let if1 = c .if1 in
-    λ q g v a s. settle (element-past g v fetch-right _ _ (fetching g v a) s (filled-there s (read .ensures) (cell-of .ensures) (x .given .1)) (filled-there s (read2 .ensures) (cell-of2 .ensures) (y .given .1)) (name-of .ensures) (low-of .ensures) (read3 .ensures) (size-of .ensures) (if1 .left)) (λ e. (tt, sym e))
+    λ q g v a s. settle (element-past g v fetch-right _ _ (fetching g v a) s (filled-there s (word-at .ensures) (cell-of .ensures) (x .given .1)) (filled-there s (word-at2 .ensures) (cell-of2 .ensures) (y .given .1)) (name-of .ensures) (low-of .ensures) (read .ensures) (size-of .ensures) (if1 .left)) (λ e. (tt, sym e))
 
 pub fetch-of-spec : {M : Type 1} → statement M
 fetch-of-spec =

@@ -16,22 +16,22 @@ returns : tie.Need-returns
 unfolding plan plan-get moved-to halted
 returns c =
     let args = c .before .before .before .before .before .before .args in
-    let read = c .before .before .before .read in
+    let word-at = c .before .before .before .word-at in
     let cell-of = c .before .before .cell-of in
     let enum-told = c .enum-told in
-    λ q g v a s. due (slot-blank g v open-right (g .owner (v .procedure)) _ _ (getting g v a (args .k)) (blank-there s (read .ensures) (cell-of .ensures) (enum-told .given .1))) (λ e. (tt, sym e))
+    λ q g v a s. due (slot-blank g v open-right (g .owner (v .procedure)) _ _ (getting g v a (args .k)) (blank-there s (word-at .ensures) (cell-of .ensures) (enum-told .given .1))) (λ e. (tt, sym e))
 
 returns-2 : tie.Need-returns-2
 unfolding plan plan-get
 returns-2 c =
     let args = c .before .before .before .before .before .before .before .before .before .before .args in
-    let read = c .before .before .before .before .before .before .before .read in
+    let word-at = c .before .before .before .before .before .before .before .word-at in
     let cell-of = c .before .before .before .before .before .before .cell-of in
     let x = c .before .before .before .before .x in
     let name-of = c .before .before .name-of in
-    let read2 = c .before .read2 in
+    let read = c .before .read in
     let filled-word = c .filled-word in
-    λ q g v a s. settle (slot-filled g v open-right (g .owner (v .procedure)) _ _ (getting g v a (args .k)) (filled-there s (read .ensures) (cell-of .ensures) (x .given .1)) (name-of .ensures)) (λ there. moved-is q g v (declared-as plain g v a) a (s .cell _ _ _ (there .head) (there .below)) (read2 .ensures) (filled-word .ensures) (there .is))
+    λ q g v a s. settle (slot-filled g v open-right (g .owner (v .procedure)) _ _ (getting g v a (args .k)) (filled-there s (word-at .ensures) (cell-of .ensures) (x .given .1)) (name-of .ensures)) (λ there. moved-is q g v (declared-as plain g v a) a (s .cell _ _ _ (there .head) (there .below)) (read .ensures) (filled-word .ensures) (there .is))
 
 pub get-of-spec : {M : Type 1} → statement M
 get-of-spec =

@@ -13,19 +13,19 @@ enum-told c = search needs
 returns : tie.Need-returns
 unfolding number-as halted
 returns c =
-    let read = c .before .before .before .read in
+    let word-at = c .before .before .before .word-at in
     let cell-of = c .before .before .cell-of in
     let enum-told = c .enum-told in
-    λ q g v h s. due (one-blank g v _ (blank-there s (read .ensures) (cell-of .ensures) (enum-told .given .1))) sym
+    λ q g v h s. due (one-blank g v _ (blank-there s (word-at .ensures) (cell-of .ensures) (enum-told .given .1))) sym
 
 returns-2 : tie.Need-returns-2
 unfolding number-as
 returns-2 c =
-    let read = c .before .before .before .before .before .read in
+    let word-at = c .before .before .before .before .before .word-at in
     let cell-of = c .before .before .before .before .cell-of in
     let w = c .before .before .w in
     let low-of = c .low-of in
-    λ q g v h s. settle (one-filled g v _ (filled-there s (read .ensures) (cell-of .ensures) (w .given .1))) (λ e. ap ok (low-of .ensures) ∙ sym e)
+    λ q g v h s. settle (one-filled g v _ (filled-there s (word-at .ensures) (cell-of .ensures) (w .given .1))) (λ e. ap ok (low-of .ensures) ∙ sym e)
 
 pub integer-at-spec : {M : Type 1} → statement M
 integer-at-spec =

@@ -12,9 +12,9 @@ returns : tie.Need-returns
 unfolding plan
 returns c =
     let args = c .before .before .before .args in
-    let read = c .before .read in
+    let word-at = c .before .word-at in
     let filled-word = c .filled-word in
-    λ q g v h a s. claimed (plan plain g v (Bind a (args .x))) (moved-is q g v (declared-as plain g v a) a (s .variable (args .x)) (read .ensures) (filled-word .ensures) refl)
+    λ q g v h a s. claimed (plan plain g v (Bind a (args .x))) (moved-is q g v (declared-as plain g v a) a (s .variable (args .x)) (word-at .ensures) (filled-word .ensures) refl)
 
 pub moved-at-spec : {M : Type 1} → statement M
 moved-at-spec = tie.close (tie.spec (λ c κs. search needs) (λ c κs. search needs) returns)
