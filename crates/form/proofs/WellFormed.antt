@@ -1,6 +1,6 @@
 -- What a well-formed sheet has: each law from the one fact that none of 1 to 5 is given.
 use Prim.Native.Nat.{ℕ, _+_, _-_, _<_, _≤_}
-use mathlib.Core.Path.{_≡_}
+use mathlib.Core.Path.{_≡_, refl, ap, _∙_}
 use mathlib.Core.List.{List, [], _∷_, _++_}
 use mathlib.Core.Bool.{true, not, _&&_, _||_}
 use mathlib.Core.Option.{Option, none, some}
@@ -15,15 +15,16 @@ use Rattle.model.specs.declared.Operation.the-variants.{Call}
 use Rattle.model.specs.declared.Verdict.the-variants.{Accepted}
 use Rattle.model.proofs.Verdicts.{left-accepted, right-accepted, each-accepted, accepted-tests, passed-test, both-true, either-true, implied, Held, all-held}
 use Rattle.sheet.specs.Layout.{ty-mark, qt-mark, vr-mark, in-mark, typesOf, qualsOf, proceduresOf, typeAt, namedOf, slotsOf, slotOf, qualAt, baseOf, rightsOf, elementOf, ownerAt, formalsAt, variablesAt, resultAt, instructionsAt, variableAt, innerAt, needAt, instructionAt, codeAt, kAt, procedureAt}
-use Rattle.sheet.specs.Instructions.{Line, table, line-of}
+use Rattle.sheet.specs.Instructions.{Line, table, line-in, line-of}
 use Rattle.sheet.specs.Decode.{unlisted, operation-by, decode, fieldsAt, operationAt}
 use Rattle.sheet.specs.declared.decode.Fields.{Fields}
 use Rattle.sheet.proofs.Instructions.{by-line}
 use Rattle.index.specs.Indexed.{Indexed, Ready}
 use Rattle.index.proofs.Ready.{ready}
 use Rattle.limits.specs.declared.Limits.{Limits}
-use Rattle.limits.specs.Scale.{all-below, below-or-none, type-scale, rights-scale, qual-scale, procedure-scale, variable-scale, line-limits, line-scale, instruction-scale, actuals-scale}
+use Rattle.limits.specs.Scale.{all-below, below-or-none, type-scale, rights-scale, qual-scale, procedure-scale, variable-scale, operand-limits, line-limits, line-scale, instruction-scale, actuals-scale}
 use Rattle.form.specs.WellFormed.{length-tests, header-tests, type-tests, qual-tests, variable-tests, limitsAt, instruction-tests-at, instruction-tests, procedure-tests, leftover-tests, layout-tests, call-tests-at, call-tests, procedure-calls, calls-tests, form-tests}
+use Rattle.form.specs.Named.{Named}
 use Rattle.form.proofs.Laws.{all-below-true, due-below, record-formed, header-small}
 use Rattle.form.proofs.Procedures.{variables-accepted, instructions-accepted, head-true, some-instruction}
 
@@ -40,6 +41,16 @@ no-line : (l : Limits) (f : Fields) (x : Option Line) → line-scale l f x ≡ t
 unfolding line-scale
 no-line l f none h e = absurd (let z : _≡_ {A = ℕ} 0 1 = cc in omega arith)
 no-line l f (some found) h e = absurd (let z : _≡_ {A = ℕ} 0 1 = cc in omega arith)
+
+-- the limits of a line whose first one, two or three fields are variables
+one-below : {x v : ℕ} {R : Type 0} → (ltb x v ≡ true) × R → x < v
+one-below h = ltb-true _ _ (h .0)
+
+two-below : {x y v : ℕ} {R : Type 0} → (ltb x v ≡ true) × ((ltb y v ≡ true) × R) → (x < v) × (y < v)
+two-below h = (one-below h, one-below (h .1))
+
+three-below : {x y z v : ℕ} {R : Type 0} → (ltb x v ≡ true) × ((ltb y v ≡ true) × ((ltb z v ≡ true) × R)) → (x < v) × ((y < v) × (z < v))
+three-below h = (one-below h, two-below (h .1))
 
 actuals-named : (f b v : ℕ) → actuals-scale f b v ≡ true → (j : ℕ) → j < f → b + j < v
 unfolding actuals-scale
@@ -226,6 +237,35 @@ module _ (s : List ℕ) (wf : verdict (form-tests s) ≡ Accepted) where
       pub limits-held : (found : Line) → line-of (fields-in s p i .code) ≡ some found
           → Held (line-limits (limitsAt s (procedureAt s p)) (fields-in s p i) found)
       limits-held = line-held _ _ _ (instruction-held .0)
+
+      -- the same for the line of code j
+      pub code-held : (j : ℕ) (found : Line) → fields-in s p i .code ≡ j → line-of j ≡ some found
+          → Held (line-limits (limitsAt s (procedureAt s p)) (fields-in s p i) found)
+      code-held j found e f = limits-held found (ap line-of e ∙ f)
+
+      -- the variables that it names are the procedure's
+      pub variables-named : Named (variablesAt s (procedureAt s p)) (operationAt s (instructionAt s (procedureAt s p) i))
+      unfolding operationAt decode operation-by unlisted table line-in line-limits operand-limits
+      variables-named =
+          by-line (fields-in s p i .code) (λ x. Named (variablesAt s (procedureAt s p)) (operation-by (fields-in s p i) x))
+          (λ e. one-below (code-held 1 _ e refl))
+          (λ e. three-below (code-held 2 _ e refl))
+          (λ e. three-below (code-held 3 _ e refl))
+          (λ e. three-below (code-held 4 _ e refl))
+          (λ e. one-below (code-held 5 _ e refl))
+          (λ e. two-below (code-held 6 _ e refl))
+          (λ e. one-below (code-held 7 _ e refl))
+          (λ e. one-below (code-held 8 _ e refl))
+          (λ e. two-below (code-held 9 _ e refl))
+          (λ e. three-below (code-held 10 _ e refl))
+          (λ e. three-below (code-held 11 _ e refl))
+          (λ e. two-below (code-held 12 _ e refl))
+          (λ e. one-below (code-held 13 _ e refl))
+          (λ e. two-below (code-held 14 _ e refl))
+          (λ e. two-below (code-held 15 _ e refl))
+          (λ e. tt)
+          (λ e. tt)
+          (λ n. tt)
 
       -- the last instruction is a return
       pub last-returns : i + 1 ≡ instructionsAt s (procedureAt s p) → fields-in s p i .code ≡ 17

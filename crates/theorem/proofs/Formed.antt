@@ -1,45 +1,22 @@
 -- A well-formed sheet means a program that the machines can lean on: each part of it is a law of crates/form/proofs/WellFormed.antt.
 use Prim.Native.Nat.{ℕ, suc, _+_, _<_}
-use mathlib.Core.Path.{_≡_, refl, ap, subst, _∙_}
+use mathlib.Core.Path.{_≡_, refl, subst}
 use mathlib.Core.List.{List}
-use mathlib.Core.Option.{some}
 use mathlib.Core.Logic.{⊎-elim}
 use native.Mathlib.Omega.{arith}
 use borrow.Author.Tests.{ltb-true, leb-true}
 use Rattle.model.proofs.Formed.{Formed-at, Formed, Numbered}
 use Rattle.model.specs.Refusal.{verdict}
-use Rattle.model.specs.declared.Operation.{Operation}
-use Rattle.model.specs.declared.Operation.the-variants.{Set, Add, Subtract, Less, JumpZero, Bind, Take, Put, NewArray, Fetch, Store, Size, NewRecord, GetSlot, SetSlot, Call, Return}
 use Rattle.model.specs.declared.Verdict.the-variants.{Accepted}
-use Rattle.model.proofs.Verdicts.{Held}
 use Rattle.sheet.specs.Layout.{proceduresOf, variablesAt, instructionsAt, instructionAt, innerAt, procedureAt}
-use Rattle.sheet.specs.Instructions.{Line, table, line-in, line-of}
+use Rattle.sheet.specs.Instructions.{table, line-in}
 use Rattle.sheet.specs.Decode.{unlisted, operation-by, decode, operationAt}
 use Rattle.sheet.proofs.Instructions.{by-line}
 use Rattle.sheet.specs.Meaning.{innerIn, programOf}
 use Rattle.limits.specs.Scale.{operand-limits, constant-limits, home-limits, line-limits}
-use Rattle.form.specs.WellFormed.{limitsAt, form-tests}
-use Rattle.form.proofs.WellFormed.{fields-in, form-small, instructions-some, formals-first, owner-kind, inner-below, limits-held, last-returns, call-below}
-
--- an array that is made is kept in a variable below v
-abbrev Kept : ℕ → Operation → Type 0
-Kept v (Set a k) = Unit {0}
-Kept v (Add a b c) = Unit {0}
-Kept v (Subtract a b c) = Unit {0}
-Kept v (Less a b c) = Unit {0}
-Kept v (JumpZero a k) = Unit {0}
-Kept v (Bind a b) = Unit {0}
-Kept v (Take a) = Unit {0}
-Kept v (Put a) = Unit {0}
-Kept v (NewArray a b) = a < v
-Kept v (Fetch a b c) = Unit {0}
-Kept v (Store a b c) = Unit {0}
-Kept v (Size a b) = Unit {0}
-Kept v (NewRecord a) = Unit {0}
-Kept v (GetSlot a b k) = Unit {0}
-Kept v (SetSlot a b k) = Unit {0}
-Kept v (Call a b k) = Unit {0}
-Kept v (Return a) = Unit {0}
+use Rattle.form.specs.WellFormed.{form-tests}
+use Rattle.form.specs.Named.{Named}
+use Rattle.form.proofs.WellFormed.{fields-in, form-small, instructions-some, formals-first, owner-kind, inner-below, code-held, variables-named, last-returns, call-below}
 
 module _ (s : List ℕ) (wf : verdict (form-tests s) ≡ Accepted) where
   module _ (p : ℕ) (l : p < proceduresOf s) (i : ℕ) (m : i < instructionsAt s (procedureAt s p)) where
@@ -49,11 +26,6 @@ module _ (s : List ℕ) (wf : verdict (form-tests s) ≡ Accepted) where
         let n : i + 1 ≡ instructionsAt s (procedureAt s p) → ⊥ = (λ f. let g = last-returns s wf p l i m f in omega (arith, b, e, g)) in
         omega (arith, n, m)
 
-    -- the limits of the line of code j
-    held : (j : ℕ) (found : Line) → fields-in s p i .code ≡ j → line-of j ≡ some found
-        → Held (line-limits (limitsAt s (procedureAt s p)) (fields-in s p i) found)
-    held j found e f = limits-held s wf p l i m found (ap line-of e ∙ f)
-
     formed-at : Formed-at (programOf s) p i (operationAt s (instructionAt s (procedureAt s p) i))
     unfolding operationAt decode operation-by unlisted table line-in line-limits operand-limits constant-limits home-limits
     formed-at =
@@ -62,7 +34,7 @@ module _ (s : List ℕ) (wf : verdict (form-tests s) ≡ Accepted) where
         (goes-on 2 (omega arith))
         (goes-on 3 (omega arith))
         (goes-on 4 (omega arith))
-        (λ e. (ltb-true _ _ (held 5 _ e refl .1 .1 .1 .0), goes-on 5 (omega arith) e))
+        (λ e. (ltb-true _ _ (code-held s wf p l i m 5 _ e refl .1 .1 .1 .0), goes-on 5 (omega arith) e))
         (goes-on 6 (omega arith))
         (goes-on 7 (omega arith))
         (goes-on 8 (omega arith))
@@ -70,20 +42,12 @@ module _ (s : List ℕ) (wf : verdict (form-tests s) ≡ Accepted) where
         (goes-on 10 (omega arith))
         (goes-on 11 (omega arith))
         (goes-on 12 (omega arith))
-        (λ e. (leb-true _ _ (held 13 _ e refl .1 .1 .1 .1 .0), goes-on 13 (omega arith) e))
-        (λ e. let h = held 14 _ e refl in (leb-true _ _ (h .1 .1 .1 .1 .0), ltb-true _ _ (h .1 .1 .1 .0), goes-on 14 (omega arith) e))
-        (λ e. let h = held 15 _ e refl in (leb-true _ _ (h .1 .1 .1 .1 .0), ltb-true _ _ (h .1 .1 .1 .0), goes-on 15 (omega arith) e))
+        (λ e. (leb-true _ _ (code-held s wf p l i m 13 _ e refl .1 .1 .1 .1 .0), goes-on 13 (omega arith) e))
+        (λ e. let h = code-held s wf p l i m 14 _ e refl in (leb-true _ _ (h .1 .1 .1 .1 .0), ltb-true _ _ (h .1 .1 .1 .0), goes-on 14 (omega arith) e))
+        (λ e. let h = code-held s wf p l i m 15 _ e refl in (leb-true _ _ (h .1 .1 .1 .1 .0), ltb-true _ _ (h .1 .1 .1 .0), goes-on 15 (omega arith) e))
         (λ e. (call-below s wf p l i m e, goes-on 16 (omega arith) e))
         (λ e. tt)
         (λ n. tt)
-
-    kept-at : Kept (variablesAt s (procedureAt s p)) (operationAt s (instructionAt s (procedureAt s p) i))
-    unfolding operationAt decode operation-by unlisted table line-in line-limits operand-limits constant-limits home-limits
-    kept-at =
-        by-line (fields-in s p i .code) (λ x. Kept (variablesAt s (procedureAt s p)) (operation-by (fields-in s p i) x))
-        (λ e. tt) (λ e. tt) (λ e. tt) (λ e. tt) (λ e. tt) (λ e. tt) (λ e. tt) (λ e. tt)
-        (λ e. ltb-true _ _ (held 9 _ e refl .0))
-        (λ e. tt) (λ e. tt) (λ e. tt) (λ e. tt) (λ e. tt) (λ e. tt) (λ e. tt) (λ e. tt) (λ n. tt)
 
   pub formed : Formed (programOf s)
   formed =
@@ -98,7 +62,7 @@ module _ (s : List ℕ) (wf : verdict (form-tests s) ≡ Accepted) where
   unfolding innerIn
   numbered =
       record {
-        new-array = λ p i a b l m e. subst (Kept (variablesAt s (procedureAt s p))) e (kept-at p l i m);
+        new-array = λ p i a b l m e. subst (Named (variablesAt s (procedureAt s p))) e (variables-named s wf p l i m) .0;
         inner-qual = λ p x l m. (innerAt s (procedureAt s p) x, inner-below s wf p l x m, refl);
         owner-type = λ p l d. ⊎-elim (λ z. omega arith) (λ y. let f = y .1 in omega arith) (owner-kind s wf p l);
       }
