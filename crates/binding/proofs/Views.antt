@@ -6,7 +6,7 @@ use Rattle.model.specs.Qualified.{Qual}
 use Rattle.model.specs.Modes.{watched}
 use Rattle.model.specs.Machine.{Value, word, object, Cell, empty, filled, Head, array-head, record-head, no-head}
 use Rattle.words.specs.Word.{tag, low, payload, size-of, info-of, cell, slot-in, as-cell, as-head}
-use Rattle.words.proofs.Laws.{Reading, a-blank, an-integer, an-object, an-array, a-record, a-back, an-extent, reading, tagged, slot-zero, slot-integer, slot-object, slot-array, slot-record, slot-back}
+use Rattle.words.proofs.Laws.{Reading, a-blank, an-integer, an-object, an-array, a-record, a-back, a-procedure, reading, tagged, slot-zero, slot-integer, slot-object, slot-array, slot-record, slot-back}
 
 -- a filled cell: an integer without rights, or an object with those in its word
 pub data ValueOf (w : ℕ) : Value → ℕ → Type 0 where
@@ -39,7 +39,7 @@ module _ (qual : ℕ → Qual) (w : ℕ) where
       by (an-array t) = let k = slot-array watched qual w t in absurd (let z : _≡_ {A = ℕ} 0 1 = cc in omega arith)
       by (a-record t) = let k = slot-record watched qual w t in absurd (let z : _≡_ {A = ℕ} 0 1 = cc in omega arith)
       by (a-back t) = let k = slot-back watched qual w t in absurd (let z : _≡_ {A = ℕ} 0 1 = cc in omega arith)
-      by (an-extent t) = let k = t watched qual in absurd (let z : _≡_ {A = ℕ} 0 1 = cc in omega arith)
+      by (a-procedure t) = let k = t watched qual in absurd (let z : _≡_ {A = ℕ} 0 1 = cc in omega arith)
 
   pub value-word : (x : Value) (m : ℕ) → slot-in watched qual w ≡ cell (filled x m) → ValueOf w x m
   value-word x m e = by (filled x m) refl (cell-word (filled x m) e)
@@ -67,7 +67,7 @@ module _ (qual : ℕ → Qual) (w : ℕ) where
       by (a-record t) = rw (slot-record watched qual w t) (record-in t)
       by (a-back t) =
           rw (slot-back watched qual w t) (no-head-in (other-tag 5 3 t (λ z. omega arith)) (other-tag 5 4 t (λ z. omega arith)))
-      by (an-extent t) =
+      by (a-procedure t) =
           rw (t watched qual)
           (no-head-in
           (λ i. let k = t watched qual in let l = slot-array watched qual w i in (let z : _≡_ {A = ℕ} 0 1 = cc in omega arith))

@@ -1,14 +1,14 @@
 // The limits of a call that wait for the procedure called.
 use crate::layout::layout;
 use index::Index;
-use index::procedures::formals_in;
 use index::procedures::place_of;
-use index::procedures::procedure_word;
+use index::procedures::procedure_in;
 use limits::actuals_scale;
 use model::Verdict;
 use sheet::bytes::byte;
 use sheet::bytes::word;
 use sheet::places::instruction_at;
+use words::formals_in;
 ghost use mathlib.Core.Path.{_≡_};
 ghost use Prim.Native.Nat.{_≤_, _<_};
 ghost use mathlib.Core.List.{[], _∷_};
@@ -26,7 +26,7 @@ fn call_number(s: &[u8], index: &Index, v: u8, at: usize) -> u8
     if byte(s, at, 2) == 16 {
         let k = word(s, at, 6) as usize;
         if k < (byte(s, 0, 5) as usize) {
-            let formals = formals_in(procedure_word(index, k));
+            let formals = formals_in(procedure_in(index, k));
             if actuals_scale(formals, byte(s, at, 4), v) {
                 return 0;
             }

@@ -22,10 +22,10 @@ use Rattle.words.specs.Sees.{head-size}
 use Rattle.words.specs.Answers.{halted, InObject}
 use Rattle.words.proofs.Laws.{map-set, slot-zero}
 use Rattle.writers.specs.declared.Registers.{Registers}
-use Rattle.writers.specs.declared.Stepped.the-variants.{Go, Halt}
-use Rattle.writers.specs.Memory.{Given, slots, Sane, object-part, GapOnly, Stands, StandsFor, flat-objects, flat-frames}
-use Rattle.writers.specs.Steps.{After, Does, onward, set-first, put-word, Allotted}
-use Rattle.writers.proofs.Change.{length-put-word, put-word-before, put-word-frame, set-variable, map-take, map-drop, map-replicate}
+use Rattle.writers.specs.declared.Stepped.the-variants.{Go, Enter, Halt}
+use Rattle.writers.specs.Memory.{Given, slots, variables-in, Sane, object-part, GapOnly, Stands, StandsFor, flat-objects, flat-frames}
+use Rattle.writers.specs.Steps.{After, Does, onward, at-next, Allotted}
+use Rattle.writers.proofs.Change.{set-before, set-frame, set-variable, map-take, map-drop, map-replicate}
 use Rattle.writers.proofs.Flat.{set-at-cell, found-fits, flat-snoc, size-is, length-objects}
 use Rattle.writers.proofs.View.{used-is, head-is}
 
@@ -109,6 +109,7 @@ pub gap-kept : {m : Mode} {c : Given} {words out : List ℕ} {r : Registers} {p 
 gap-kept {m} {c} {words} {r = r} S words′ G =
     let slot = slot-in m (qualOf (c .sheet)) in
     record {
+      is-procedure = S .is-procedure;
       procedure = S .procedure;
       next = S .next;
       first = S .first;
@@ -139,6 +140,7 @@ module _ {m : Mode} {c : Given} {words out : List ℕ} {r : Registers} {p i : �
       → Stands m c words′ out (onward r next used (r .taken) (r .put)) p j vs′ fs os′ input put
   goes-on words′ next j used vs′ os′ at long room many objects frames =
       record {
+        is-procedure = S .is-procedure;
         procedure = S .procedure;
         next = at;
         first = S .first;
@@ -148,8 +150,6 @@ module _ {m : Mode} {c : Given} {words out : List ℕ} {r : Registers} {p i : �
               room = room;
               frame = rw long (S .sane .frame);
               small = rw long (S .sane .small);
-              procedure = S .sane .procedure;
-              variables = S .sane .variables;
             };
         running = record { procedure = S .running .procedure; variables = many ∙ S .running .variables };
         waiting = S .waiting;
@@ -165,11 +165,12 @@ module _ {m : Mode} {c : Given} {words out : List ℕ} {r : Registers} {p i : �
   pub took : Stands m c words out (onward r (r .next) (r .used) (r .taken + 1) (r .put)) p i vs fs os (rest-of input) put
   took =
       record {
+        is-procedure = S .is-procedure;
         procedure = S .procedure;
         next = S .next;
         first = S .first;
         variables = S .variables;
-        sane = record { room = S .sane .room; frame = S .sane .frame; small = S .sane .small; procedure = S .sane .procedure; variables = S .sane .variables };
+        sane = record { room = S .sane .room; frame = S .sane .frame; small = S .sane .small };
         running = S .running;
         waiting = S .waiting;
         objects = S .objects;
@@ -196,11 +197,12 @@ module _ {m : Mode} {c : Given} {words out : List ℕ} {r : Registers} {p i : �
       let k : length put < length (c .output) = omega arith in
       let n : length (put ++ (x ∷ [])) ≡ suc (length put) = length-append put (x ∷ []) ∙ add-one (length put) in
       record {
+        is-procedure = S .is-procedure;
         procedure = S .procedure;
         next = S .next;
         first = S .first;
         variables = S .variables;
-        sane = record { room = S .sane .room; frame = S .sane .frame; small = S .sane .small; procedure = S .sane .procedure; variables = S .sane .variables };
+        sane = record { room = S .sane .room; frame = S .sane .frame; small = S .sane .small };
         running = S .running;
         waiting = S .waiting;
         objects = S .objects;
@@ -217,57 +219,59 @@ module _ {m : Mode} {c : Given} {words out : List ℕ} {r : Registers} {p i : �
 
 -- the words seen through any map, such as the slots of a machine
 pub record Put {A : Type 0} (f : ℕ → A) (words words′ : List ℕ) (r : Registers) (a : ℕ) (x : A) : Type 0 where
+  pub named : a < variables-in r
   pub long : length words′ ≡ length words
   pub objects : take (r .used) (map f words′) ≡ take (r .used) (map f words)
-  pub frame : drop (r .base) (map f words′) ≡ set-first (r .variables) (drop (r .base) (map f words)) a x
+  pub frame : drop (r .base) (map f words′) ≡ set (drop (r .base) (map f words)) a x
 
-pub puts : {A : Type 0} (f : ℕ → A) (words words′ : List ℕ) (r : Registers) (a w : ℕ) (x : A) → Sane (length words) r → f w ≡ x
-    → words′ ≡ put-word words (r .base) (r .variables) a w → Put f words words′ r a x
-puts f words words′ r a w x sane is q =
+pub puts : {A : Type 0} (f : ℕ → A) (words words′ : List ℕ) (r : Registers) (a w : ℕ) (x : A) → Sane (length words) r → a < variables-in r → f w ≡ x
+    → words′ ≡ set words (r .base + a) w → Put f words words′ r a x
+puts f words words′ r a w x sane named is q =
     let room = sane .room in
     record {
-      long = rw q (length-put-word words (r .base) (r .variables) a w);
-      objects = rw q (put-word-before f words (r .base) (r .variables) a w (r .used) room);
-      frame = rw (q, ← is) (put-word-frame f words (r .base) (r .variables) a w);
+      named = named;
+      long = rw q (length-set words (r .base + a) w);
+      objects = rw q (set-before f words (r .base) a w (r .used) room);
+      frame = rw (q, ← is) (set-frame f words (r .base) a w);
     }
 
 module _ {m : Mode} {c : Given} {words out : List ℕ} {r : Registers} {p i : ℕ} {vs : List (Cell m)} {fs : List (Frame m)} {os : List (Object m)}
     {input put : List ℕ} (S : Stands m c words out r p i vs fs os input put) where
   pub wrote : (words′ : List ℕ) (a : ℕ) (d : Cell m) → Put (slot-in m (qualOf (c .sheet))) words words′ r a (cell d)
-      → Stands m c words′ out (onward r (r .next + 1) (r .used) (r .taken) (r .put)) p (suc i) (set vs a d) fs os input put
+      → Stands m c words′ out (at-next r (r .next + 1)) p (suc i) (set vs a d) fs os input put
   wrote words′ a d P =
       goes-on S words′ (r .next + 1) (suc i) (r .used) (set vs a d) os (add-one (r .next) ∙ ap suc (S .next)) (P .long) (S .sane .room)
-      (length-set vs a d) (P .objects ∙ S .objects) (P .frame ∙ rw (S .frames) (set-variable (r .variables) vs (flat-frames (c .sheet) fs) a d (S .variables)))
+      (length-set vs a d) (P .objects ∙ S .objects) (P .frame ∙ rw (S .frames) (set-variable vs (flat-frames (c .sheet) fs) a d (rw (S .variables) at (P .named))))
 
   -- to another instruction
-  pub went : (next j : ℕ) → next ≡ j → Stands m c words out (onward r next (r .used) (r .taken) (r .put)) p j vs fs os input put
+  pub went : (next j : ℕ) → next ≡ j → Stands m c words out (at-next r next) p j vs fs os input put
   went next j e = goes-on S words next j (r .used) vs os e refl (S .sane .room) refl (S .objects) (S .frames)
 
 pub does-write : (m : Mode) (c : Given) (words words′ out : List ℕ) (r : Registers) (a : ℕ) (d : Cell m) → Put (slot-in m (qualOf (c .sheet))) words words′ r a (cell d)
-    → Does m c words words′ out out r (Go (onward r (r .next + 1) (r .used) (r .taken) (r .put))) (ok (M.write a d))
+    → Does m c words words′ out out r (Go (at-next r (r .next + 1))) (ok (M.write a d))
 unfolding apply _>>=_
 does-write m c words words′ out r a d P (state (frame p i vs) fs os input put) S = (refl, wrote S words′ a d P)
 
 pub does-take : (m : Mode) (c : Given) (words words′ out : List ℕ) (r : Registers) (a : ℕ) (d : Cell m) → Put (slot-in m (qualOf (c .sheet))) words words′ r a (cell d)
-    → Does m c words words′ out out r (Go (onward r (r .next + 1) (r .used) (r .taken + 1) (r .put))) (ok (M.take a d))
+    → Does m c words words′ out out r (Enter (onward r (r .next + 1) (r .used) (r .taken + 1) (r .put))) (ok (M.take a d))
 unfolding apply _>>=_
-does-take m c words words′ out r a d P (state (frame p i vs) fs os input put) S = (refl, took (wrote S words′ a d P))
+does-take m c words words′ out r a d P (state (frame p i vs) fs os input put) S = took (wrote S words′ a d P)
 
 pub does-skip : (m : Mode) (c : Given) (words out : List ℕ) (r : Registers)
-    → Does m c words words out out r (Go (onward r (r .next + 1) (r .used) (r .taken) (r .put))) (ok M.skip)
+    → Does m c words words out out r (Go (at-next r (r .next + 1))) (ok M.skip)
 unfolding apply _>>=_
 does-skip m c words out r (state (frame p i vs) fs os input put) S = (refl, went S (r .next + 1) (suc i) (add-one (r .next) ∙ ap suc (S .next)))
 
 pub does-jump : (m : Mode) (c : Given) (words out : List ℕ) (r : Registers) (k : ℕ)
-    → Does m c words words out out r (Go (onward r k (r .used) (r .taken) (r .put))) (ok (M.jump k))
+    → Does m c words words out out r (Go (at-next r k)) (ok (M.jump k))
 unfolding apply _>>=_
 does-jump m c words out r k (state (frame p i vs) fs os input put) S = (refl, went S k k refl)
 
 pub does-put : (m : Mode) (c : Given) (words out : List ℕ) (r : Registers) (x : ℕ) → r .put < length out
-    → Does m c words words out (set out (r .put) x) r (Go (onward r (r .next + 1) (r .used) (r .taken) (r .put + 1))) (ok (M.put x))
+    → Does m c words words out (set out (r .put) x) r (Enter (onward r (r .next + 1) (r .used) (r .taken) (r .put + 1))) (ok (M.put x))
 unfolding apply _>>=_
 does-put m c words out r x h (state (frame p i vs) fs os input put) S =
-    (refl, put-one (went S (r .next + 1) (suc i) (add-one (r .next) ∙ ap suc (S .next))) x h)
+    put-one (went S (r .next + 1) (suc i) (add-one (r .next) ∙ ap suc (S .next))) x h
 
 -- ---- a cell of an object is written
 
@@ -290,7 +294,7 @@ module _ {m : Mode} {c : Given} {words out : List ℕ} {r : Registers} {p i : �
 
   pub stored-at : (words′ : List ℕ) (a j w : ℕ) (d : Cell m) → slot-in m (qualOf (c .sheet)) w ≡ cell d → InObject (object-part r words) a j
       → words′ ≡ set (object-part r words) (a + 1 + j) w ++ drop (r .used) words
-      → Stands m c words′ out (onward r (r .next + 1) (r .used) (r .taken) (r .put)) p (suc i) vs fs (update os a j d) input put
+      → Stands m c words′ out (at-next r (r .next + 1)) p (suc i) vs fs (update os a j d) input put
   stored-at words′ a j w d is I e =
       let o = there a j I in
       let f = found-fits os a (o .0) (o .1 .0) in
@@ -312,7 +316,7 @@ module _ {m : Mode} {c : Given} {words out : List ℕ} {r : Registers} {p i : �
 
 pub does-store : (m : Mode) (c : Given) (words words′ out : List ℕ) (r : Registers) (a j w : ℕ) (d : Cell m) → slot-in m (qualOf (c .sheet)) w ≡ cell d → InObject (object-part r words) a j
     → words′ ≡ set (object-part r words) (a + 1 + j) w ++ drop (r .used) words
-    → Does m c words words′ out out r (Go (onward r (r .next + 1) (r .used) (r .taken) (r .put))) (ok (M.store a j d))
+    → Does m c words words′ out out r (Go (at-next r (r .next + 1))) (ok (M.store a j d))
 unfolding apply _>>=_
 does-store m c words words′ out r a j w d is I e (state (frame p i vs) fs os input put) S = (refl, stored-at S words′ a j w d is I e)
 
@@ -368,21 +372,22 @@ module _ (words zeros : List ℕ) (used w n : ℕ) (fits : used + 1 + n ≤ leng
       ∙ ap (λ (k : ℕ). drop k words) e in
       sym (map-drop f m (laid words zeros used w n)) ∙ ap (map f) g ∙ map-drop f m words
 
-pub allots : (m : Mode) (q : ℕ → Qual) (words zeros words′ : List ℕ) (r : Registers) (a w n v : ℕ) → Sane (length words) r → r .used + (n + 1) ≤ r .base
+pub allots : (m : Mode) (q : ℕ → Qual) (words zeros words′ : List ℕ) (r : Registers) (a w n v : ℕ) → Sane (length words) r → a < variables-in r → r .used + (n + 1) ≤ r .base
     → zeros ≡ replicate (length (midOf (r .used + 1) (r .used + 1 + n - (r .used + 1)) (set words (r .used) w))) 0
-    → words′ ≡ put-word (laid words zeros (r .used) w n) (r .base) (r .variables) a v
+    → words′ ≡ set (laid words zeros (r .used) w n) (r .base + a) v
     → Allotted m q words words′ r a w n v
-allots m q words zeros words′ r a w n v sane room cleared e =
+allots m q words zeros words′ r a w n v sane inside room cleared e =
     let frame = sane .frame in
     let fits : r .used + 1 + n ≤ length words = omega arith in
     let l : length (laid words zeros (r .used) w n) ≡ length words = length-laid words zeros (r .used) w n fits cleared in
     let s : Sane (length (laid words zeros (r .used) w n)) (onward r (r .next) (r .used + (n + 1)) (r .taken) (r .put)) =
-    record { room = room; frame = rw l frame; small = rw l (sane .small); procedure = sane .procedure; variables = sane .variables } in
-    let P = puts (slot-in m q) (laid words zeros (r .used) w n) words′ (onward r (r .next) (r .used + (n + 1)) (r .taken) (r .put)) a v (slot-in m q v) s refl e in
+    record { room = room; frame = rw l frame; small = rw l (sane .small) } in
+    let P = puts (slot-in m q) (laid words zeros (r .used) w n) words′ (onward r (r .next) (r .used + (n + 1)) (r .taken) (r .put)) a v (slot-in m q v) s inside refl e in
     record {
+      named = inside;
       long = P .long ∙ l;
       objects = P .objects ∙ laid-objects words zeros (r .used) w n fits cleared m q;
-      frame = P .frame ∙ ap (λ (x : List (Slot m)). set-first (r .variables) x a (slot-in m q v)) (laid-frames words zeros (r .used) w n fits cleared (slot-in m q) (r .base) room);
+      frame = P .frame ∙ ap (λ (x : List (Slot m)). set x a (slot-in m q v)) (laid-frames words zeros (r .used) w n fits cleared (slot-in m q) (r .base) room);
     }
 
 module _ {m : Mode} {c : Given} {words out : List ℕ} {r : Registers} {p i : ℕ} {vs : List (Cell m)} {fs : List (Frame m)} {os : List (Object m)}
@@ -396,19 +401,19 @@ module _ {m : Mode} {c : Given} {words out : List ℕ} {r : Registers} {p i : �
       goes-on S words′ (r .next + 1) (suc i) (r .used + (n + 1)) (set vs a (filled (object (object-units os)) k)) (os ++ (o ∷ []))
       (add-one (r .next) ∙ ap suc (S .next)) (A .long) room (length-set vs a (filled (object (object-units os)) k))
       (A .objects ∙ rw (S .objects, is, flat-snoc os o, new, map-replicate))
-      (A .frame ∙ rw (named, S .frames, used-is S) (set-variable (r .variables) vs (flat-frames (c .sheet) fs) a (filled (object (object-units os)) k) (S .variables)))
+      (A .frame ∙ rw (named, S .frames, used-is S) (set-variable vs (flat-frames (c .sheet) fs) a (filled (object (object-units os)) k) (rw (S .variables) at (A .named))))
 
 -- an object with that head and that name, in either machine
 module _ (m : Mode) (c : Given) (words words′ out : List ℕ) (r : Registers) (a w n v : ℕ) (k : Carried m) (room : r .used + (n + 1) ≤ r .base)
     (named : slot-in m (qualOf (c .sheet)) v ≡ cell (filled (object (r .used)) k)) (A : Allotted m (qualOf (c .sheet)) words words′ r a w n v) where
   pub does-array : (e : ElementInfo m) → slot-in m (qualOf (c .sheet)) w ≡ head (M.array-head e n)
-      → Does m c words words′ out out r (Go (onward r (r .next + 1) (r .used + (n + 1)) (r .taken) (r .put))) (ok (M.new-array a e n k))
+      → Does m c words words′ out out r (Enter (onward r (r .next + 1) (r .used + (n + 1)) (r .taken) (r .put))) (ok (M.new-array a e n k))
   unfolding apply _>>=_
   does-array e is (state (frame p i vs) fs os input put) S =
-      (refl, made S words′ a w n v (array-of e (replicate n empty)) k room (rw length-replicate is) named refl A)
+      made S words′ a w n v (array-of e (replicate n empty)) k room (rw length-replicate is) named refl A
 
   pub does-record : (t : TypeInfo m) → slot-in m (qualOf (c .sheet)) w ≡ head (M.record-head t n)
-      → Does m c words words′ out out r (Go (onward r (r .next + 1) (r .used + (n + 1)) (r .taken) (r .put))) (ok (M.new-record a t n k))
+      → Does m c words words′ out out r (Enter (onward r (r .next + 1) (r .used + (n + 1)) (r .taken) (r .put))) (ok (M.new-record a t n k))
   unfolding apply _>>=_
   does-record t is (state (frame p i vs) fs os input put) S =
-      (refl, made S words′ a w n v (record-of t (replicate n empty)) k room (rw length-replicate is) named refl A)
+      made S words′ a w n v (record-of t (replicate n empty)) k room (rw length-replicate is) named refl A

@@ -10,11 +10,11 @@ use Rattle.model.specs.Modes.{Mode}
 use Rattle.model.specs.Machine.{Cell, empty, Object, cells-of, head-of, cell-of, find, Frame, frame, State, state, object-units, frame-units, view, first-of}
 use Rattle.sheet.specs.Layout.{instructionAt, procedureAt}
 use Rattle.sheet.specs.Meaning.{qualOf}
-use Rattle.words.specs.Word.{Slot, cell, extent, slot-in, as-head}
+use Rattle.words.specs.Word.{Slot, cell, procedure, slot-in, as-head}
 use Rattle.words.specs.Sees.{head-size, heads-in}
 use Rattle.words.proofs.Laws.{slot-at}
 use Rattle.writers.specs.declared.Registers.{Registers}
-use Rattle.writers.specs.Memory.{Given, slots, object-part, frame-part, SeesIn, Stands, StandsFor, flat-objects, back-to, flat-frames}
+use Rattle.writers.specs.Memory.{Given, slots, variables-in, object-part, frame-part, SeesIn, Stands, StandsFor, flat-objects, back-to, flat-frames}
 use Rattle.writers.proofs.Change.{map-take, map-drop}
 use Rattle.writers.proofs.Flat.{size-is, heads, cells-at, length-objects, length-frames}
 
@@ -39,7 +39,7 @@ module _ {m : Mode} {c : Given} {words out : List ℕ} {r : Registers} {p i : �
 
   pub variables-part : slots m c (frame-part r words) ≡ map cell vs
   variables-part =
-      rw (map-take, map-drop, S .frames) (take-at (map cell vs) (flat-frames (c .sheet) fs) (r .variables) (length-map vs cell ∙ sym (S .variables)))
+      rw (map-take, map-drop, S .frames) (take-at (map cell vs) (flat-frames (c .sheet) fs) (variables-in r) (length-map vs cell ∙ sym (S .variables)))
 
   pub variable-is : (x : ℕ) → slot-in m (qualOf (c .sheet)) (getD (frame-part r words) x 0) ≡ cell (getD vs x empty)
   variable-is x =
@@ -70,7 +70,7 @@ module _ {m : Mode} {c : Given} {words out : List ℕ} {r : Registers} {p i : �
 
 -- main's frame ends the memory
 pub alone : {m : Mode} {c : Given} {words out : List ℕ} {r : Registers} {p i : ℕ} {vs : List (Cell m)} {os : List (Object m)} {input put : List ℕ}
-    → Stands m c words out r p i vs [] os input put → length words ≤ r .base + (r .variables + 2)
+    → Stands m c words out r p i vs [] os input put → length words ≤ r .base + (variables-in r + 2)
 unfolding frame-units
 alone S =
     let l = frames-are S in
@@ -81,29 +81,29 @@ alone S =
 module _ {m : Mode} {c : Given} {words out : List ℕ} {r : Registers} {p i q k : ℕ} {vs us : List (Cell m)} {fs : List (Frame m)} {os : List (Object m)}
     {input put : List ℕ} (S : Stands m c words out r p i vs (frame q k us ∷ fs) os input put) where
   -- where it goes back stands after the running frame's variables
-  pub waiting-back : slot-in m (qualOf (c .sheet)) (getD words (r .base + r .variables) 0) ≡ back-to (c .sheet) q k
+  pub waiting-back : slot-in m (qualOf (c .sheet)) (getD words (r .base + variables-in r) 0) ≡ back-to (c .sheet) q k
   unfolding flat-frames
   waiting-back =
-      sym (slot-at m (qualOf (c .sheet)) words (r .base + r .variables))
-      ∙ sym (getD-drop (r .base) (slots m c words) (r .variables) (cell empty))
-      ∙ rw (S .frames) (getD-at (map cell vs) (back-to (c .sheet) q k) _ (cell empty) (r .variables) (length-map vs cell ∙ sym (S .variables)))
+      sym (slot-at m (qualOf (c .sheet)) words (r .base + variables-in r))
+      ∙ sym (getD-drop (r .base) (slots m c words) (variables-in r) (cell empty))
+      ∙ rw (S .frames) (getD-at (map cell vs) (back-to (c .sheet) q k) _ (cell empty) (variables-in r) (length-map vs cell ∙ sym (S .variables)))
 
-  -- and after that its extent
-  pub waiting-extent : slot-in m (qualOf (c .sheet)) (getD words (r .base + (r .variables + 1)) 0)
-      ≡ extent (length us) (instructionAt (c .sheet) (procedureAt (c .sheet) q) 0)
+  -- and after that its procedure
+  pub waiting-procedure : slot-in m (qualOf (c .sheet)) (getD words (r .base + (variables-in r + 1)) 0)
+      ≡ procedure q (length us) (instructionAt (c .sheet) (procedureAt (c .sheet) q) 0)
   unfolding flat-frames
-  waiting-extent =
-      let n : r .variables + 1 ≡ length (map cell vs) + 1 = rw length-map (ap (λ (n : ℕ). n + 1) (S .variables)) in
-      sym (slot-at m (qualOf (c .sheet)) words (r .base + (r .variables + 1)))
-      ∙ sym (getD-drop (r .base) (slots m c words) (r .variables + 1) (cell empty))
+  waiting-procedure =
+      let n : variables-in r + 1 ≡ length (map cell vs) + 1 = rw length-map (ap (λ (n : ℕ). n + 1) (S .variables)) in
+      sym (slot-at m (qualOf (c .sheet)) words (r .base + (variables-in r + 1)))
+      ∙ sym (getD-drop (r .base) (slots m c words) (variables-in r + 1) (cell empty))
       ∙ rw (S .frames, n) (getD-append-add (map cell vs) (flat-frames (c .sheet) (frame q k us ∷ fs)) 1 (cell empty))
 
   -- and its variables after that, with the frames that wait for it
-  pub waiting-frame : drop (r .base + (r .variables + 2)) (slots m c words) ≡ map cell us ++ flat-frames (c .sheet) fs
+  pub waiting-frame : drop (r .base + (variables-in r + 2)) (slots m c words) ≡ map cell us ++ flat-frames (c .sheet) fs
   unfolding flat-frames
   waiting-frame =
-      let n : r .variables + 2 ≡ length (map cell vs) + 2 = rw length-map (ap (λ (n : ℕ). n + 2) (S .variables)) in
-      sym (drop-drop (r .variables + 2) (r .base) (slots m c words))
+      let n : variables-in r + 2 ≡ length (map cell vs) + 2 = rw length-map (ap (λ (n : ℕ). n + 2) (S .variables)) in
+      sym (drop-drop (variables-in r + 2) (r .base) (slots m c words))
       ∙ rw (S .frames, n) (drop-append-add (map cell vs) (flat-frames (c .sheet) (frame q k us ∷ fs)) 2)
 
 -- ---- the same of any state

@@ -1,6 +1,6 @@
 -- What it is for the words of the memory, the registers and the output to stand for a state of a machine.
 -- Objects fill the memory from its start, in the order in which they were made; frames from its end, main's last. A frame is its variables, then two
--- words that tell of the frame that waits for it: where to go back, and its extent. Nothing is said of the words between objects and frames.
+-- words that tell of the frame that waits for it: where to go back, and its procedure. Nothing is said of the words between objects and frames.
 use Prim.Native.Nat.{ℕ, pred, _+_, _≤_, _<_}
 use mathlib.Core.Path.{_≡_}
 use mathlib.Core.List.{List, [], _∷_, _++_, map}
@@ -14,7 +14,7 @@ use Rattle.model.specs.declared.Operation.{Operation}
 use Rattle.sheet.specs.Layout.{proceduresOf, variablesAt, instructionAt, procedureAt}
 use Rattle.sheet.specs.Decode.{operationAt}
 use Rattle.sheet.specs.Meaning.{qualOf}
-use Rattle.words.specs.Word.{Slot, cell, head, back, extent, slot-in}
+use Rattle.words.specs.Word.{Slot, cell, head, back, procedure, slot-in, number-of, variables-of, first-of, IsProcedure}
 use Rattle.words.specs.Sees.{Sees}
 use Rattle.writers.specs.declared.Registers.{Registers}
 
@@ -38,13 +38,13 @@ abbrev pub kept-byte : Operation → ℕ
 kept-byte op = byte-of (kept op)
 
 -- the word that tells where a frame goes back, which waits behind the call before its next instruction
-abbrev pub back-to : {m : Mode} → (sheet : List ℕ) → (procedure next : ℕ) → Slot m
-back-to s p i = back p i (kept-byte (operationAt s (instructionAt s (procedureAt s p) (pred i))))
+abbrev pub back-to : {m : Mode} → (sheet : List ℕ) → (p next : ℕ) → Slot m
+back-to s p i = back i (kept-byte (operationAt s (instructionAt s (procedureAt s p) (pred i))))
 
 -- what follows the running frame's variables, where these frames wait; where none does, two blank words
 unfoldable pub flat-frames : {m : Mode} → (sheet : List ℕ) → List (Frame m) → List (Slot m)
 flat-frames s [] = cell empty ∷ (cell empty ∷ [])
-flat-frames s (frame p i vs ∷ fs) = back-to s p i ∷ (extent (length vs) (instructionAt s (procedureAt s p) 0) ∷ (map cell vs ++ flat-frames s fs))
+flat-frames s (frame p i vs ∷ fs) = back-to s p i ∷ (procedure p (length vs) (instructionAt s (procedureAt s p) 0) ∷ (map cell vs ++ flat-frames s fs))
 
 -- a frame of a procedure of the sheet has its variables
 pub record Sound {m : Mode} (s : List ℕ) (p : ℕ) (vs : List (Cell m)) : Type 0 where
@@ -55,20 +55,28 @@ unfoldable pub AllSound : {m : Mode} → List ℕ → List (Frame m) → Type 0
 AllSound s [] = Unit {0}
 AllSound s (frame p i vs ∷ fs) = Sound s p vs × AllSound s fs
 
+-- what the word of the running procedure says: its number, its count of variables, where its instructions start
+abbrev pub number-in : Registers → ℕ
+number-in r = number-of (r .procedure)
+
+abbrev pub variables-in : Registers → ℕ
+variables-in r = variables-of (r .procedure)
+
+abbrev pub first-in : Registers → ℕ
+first-in r = first-of (r .procedure)
+
 -- bounds that keep every place in the memory
 pub record Sane (n : ℕ) (r : Registers) : Type 0 where
   pub room : r .used ≤ r .base
-  pub frame : r .base + (r .variables + 2) ≤ n
+  pub frame : r .base + (variables-in r + 2) ≤ n
   pub small : n ≤ 65536
-  pub procedure : r .procedure < 64
-  pub variables : r .variables < 256
 
 -- the two parts of the memory that an instruction reads: the objects, and the running frame's variables
 abbrev pub object-part : Registers → List ℕ → List ℕ
 object-part r words = take (r .used) words
 
 abbrev pub frame-part : Registers → List ℕ → List ℕ
-frame-part r words = take (r .variables) (drop (r .base) words)
+frame-part r words = take (variables-in r) (drop (r .base) words)
 
 -- a view sees the words of the memory
 abbrev pub SeesIn : (m : Mode) → (qual : ℕ → Qual) → View m → (words : List ℕ) → Registers → Type 0
@@ -87,10 +95,11 @@ slots m c words = map (slot-in m (qualOf (c .sheet))) words
 module _ (m : Mode) (c : Given) (words output : List ℕ) (r : Registers) where
   -- the parts of a state
   pub record Stands (p i : ℕ) (vs : List (Cell m)) (fs : List (Frame m)) (os : List (Object m)) (input put : List ℕ) : Type 0 where
-    pub procedure : r .procedure ≡ p
+    pub is-procedure : IsProcedure (r .procedure)
+    pub procedure : number-in r ≡ p
     pub next : r .next ≡ i
-    pub first : r .first ≡ instructionAt (c .sheet) (procedureAt (c .sheet) p) 0
-    pub variables : r .variables ≡ length vs
+    pub first : first-in r ≡ instructionAt (c .sheet) (procedureAt (c .sheet) p) 0
+    pub variables : variables-in r ≡ length vs
     pub sane : Sane (length words) r
     pub running : Sound (c .sheet) p vs
     pub waiting : AllSound (c .sheet) fs

@@ -1,8 +1,7 @@
 -- What a step of the code gives, against what the definition gives.
-use Prim.Native.Nat.{ℕ, zero, suc, _+_}
+use Prim.Native.Nat.{ℕ, zero, suc, _+_, _<_}
 use mathlib.Core.Path.{_≡_}
 use mathlib.Core.List.{List, _∷_, _++_, map}
-use mathlib.Core.Bool.{cond}
 use mathlib.Core.Option.{Option}
 use lib.Dec.{leb, ltb}
 use lib.ListN.{length, drop, set, replicate}
@@ -19,16 +18,14 @@ use Rattle.words.specs.declared.Number.{Number}
 use Rattle.writers.specs.declared.Registers.{Registers}
 use Rattle.writers.specs.declared.Stepped.{Stepped}
 use Rattle.writers.specs.declared.Stepped.the-variants.{Go, Enter, Halt, Done}
-use Rattle.writers.specs.Memory.{Given, StandsFor}
+use Rattle.writers.specs.Memory.{Given, StandsFor, variables-in}
 
--- the registers of the same frame at another instruction
+-- the registers of the same frame, moved on
 abbrev pub onward : Registers → (next used taken put : ℕ) → Registers
 onward r i u n w =
     record {
       procedure = r .procedure;
       next = i;
-      first = r .first;
-      variables = r .variables;
       base = r .base;
       used = u;
       taken = n;
@@ -36,17 +33,22 @@ onward r i u n w =
       steps = r .steps;
     }
 
+-- the same registers at another instruction
+abbrev pub at-next : Registers → ℕ → Registers
+at-next r i = onward r i (r .used) (r .taken) (r .put)
+
 -- "A step that stops changes nothing": it tells the stop's number, the output is as it was, and the words still stand for the state in which it stopped
 pub record Unchanged (m : Mode) (c : Given) (words before output : List ℕ) (r : Registers) (t : State m) (k : ℕ) (x : Stop) : Type 0 where
   pub number : k ≡ stop-number x
   pub output-kept : output ≡ before
   pub still : StandsFor m c words output r t
 
--- the words after, the output before and after, the registers and the state before, and the answer: Go in the same frame, Enter in another.
+-- the words after, the output before and after, the registers and the state before, and the answer: Go at another instruction alone, Enter with any
+-- registers.
 -- Where the definition is stuck nothing is said: of an accepted program condition 3 says that it never is.
 abbrev pub After : (m : Mode) → Given → (words before output : List ℕ) → Registers → State m → Stepped → Res (Next m) → Type 0
 After m c words before output r t (Go q) (ok (go u)) =
-    (q ≡ onward r (q .next) (q .used) (q .taken) (q .put)) × StandsFor m c words output q u
+    (q ≡ at-next r (q .next)) × StandsFor m c words output q u
 After m c words before output r t (Go q) (ok finished) = ⊥
 After m c words before output r t (Go q) (stop x) = ⊥
 After m c words before output r t (Go q) stuck = Unit {0}
@@ -68,21 +70,14 @@ Does m c words words′ before output r o e =
     (t : State m) → StandsFor m c words before r t →
     After m c words′ before output r t o (e >>= λ x. ok (apply (programOf (c .sheet)) t x))
 
--- element a of a list becomes x where it is one of the first n
-abbrev pub set-first : {A : Type 0} → ℕ → List A → ℕ → A → List A
-set-first n l a x = cond (ltb a n) (set l a x) l
-
--- the words with variable a of a frame, of so many variables from a base on, replaced by another; a variable that the frame has not is not
-abbrev pub put-word : (words : List ℕ) → (base variables a w : ℕ) → List ℕ
-put-word words base variables a w = cond (ltb a variables) (set words (base + a) w) words
-
 -- the words after an object was allotted: its head and n blank cells after the other objects, its name in variable a; the rest is as it was
 pub record Allotted (m : Mode) (qual : ℕ → Qual) (words words′ : List ℕ) (r : Registers) (a head n name : ℕ) : Type 0 where
+  pub named : a < variables-in r
   pub long : length words′ ≡ length words
   pub objects : list.take (r .used + (n + 1)) (map (slot-in m qual) words′)
       ≡ list.take (r .used) (map (slot-in m qual) words) ++ (slot-in m qual head ∷ replicate n (cell empty))
   pub frame : drop (r .base) (map (slot-in m qual) words′)
-      ≡ set-first (r .variables) (drop (r .base) (map (slot-in m qual) words)) a (slot-in m qual name)
+      ≡ set (drop (r .base) (map (slot-in m qual) words)) a (slot-in m qual name)
 
 -- ---- effects that lean on a number, as the definition plans them
 

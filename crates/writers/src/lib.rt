@@ -7,26 +7,25 @@ use words::clear;
 use words::integer_word;
 use words::object_word;
 use words::record_word;
+use words::variables_in;
 use words::write;
 ghost use mathlib.Core.Path.{_≡_};
 ghost use mathlib.Core.List.{List};
 ghost use Prim.Native.Nat.{ℕ, _+_, _-_, _≤_, _<_};
-ghost use lib.ListN.{length, drop};
+ghost use lib.ListN.{length, drop, set};
 ghost use Rattle.model.specs.Qualified.{Qual};
 ghost use Rattle.model.specs.Modes.{Mode, plain};
 ghost use Rattle.model.specs.Machine.{first-of};
 ghost use Rattle.sheet.specs.Meaning.{qualOf};
 ghost use Rattle.words.specs.Answers.{MovedOk, StoredOk, given, moved-to, stored};
-ghost use Rattle.writers.specs.Memory.{Given, Sane, object-part};
-ghost use Rattle.writers.specs.Steps.{Does, onward, put-word, Allotted, jumped, put-effect, take-effect, array-effect, record-effect};
+ghost use Rattle.writers.specs.Memory.{Given, Sane, variables-in, object-part};
+ghost use Rattle.writers.specs.Steps.{Does, onward, at-next, Allotted, jumped, put-effect, take-effect, array-effect, record-effect};
 
-// The registers: the running frame's procedure, next instruction, where its instructions start in the sheet, its count of variables and where they
-// start in the memory; where the objects end; the input words taken, the output words put and the steps made, which no writer counts.
+// The registers: the word of the running procedure, its next instruction and where its variables start in the memory; where the objects end; the input
+// words taken, the output words put and the steps made, which no writer counts.
 pub struct Registers {
-    pub procedure: usize,
+    pub procedure: u64,
     pub next: usize,
-    pub first: usize,
-    pub variables: usize,
     pub base: usize,
     pub used: usize,
     pub taken: usize,
@@ -34,7 +33,8 @@ pub struct Registers {
     pub steps: u64,
 }
 
-// What a step came to: the registers after it, in the same frame or in another; the number of a stop; or main's return.
+// What a step came to: another instruction, with all other registers as they were, which is what most steps do and a loop can lean on; any other
+// registers; the number of a stop; or main's return.
 pub enum Stepped {
     Go(Registers),
     Enter(Registers),
@@ -44,13 +44,11 @@ pub enum Stepped {
 
 // The registers at another instruction of the same frame.
 pub fn at_next(r: Registers, next: usize) -> Registers
-    ensures { λ q. ⌜ q ≡ onward r next (r .used) (r .taken) (r .put) ⌝ }
+    ensures { λ q. ⌜ q ≡ at-next r next ⌝ }
 {
     Registers {
         procedure: r.procedure,
         next,
-        first: r.first,
-        variables: r.variables,
         base: r.base,
         used: r.used,
         taken: r.taken,
@@ -59,24 +57,42 @@ pub fn at_next(r: Registers, next: usize) -> Registers
     }
 }
 
-// Variable a of the running frame becomes a word.
-pub fn put_variable(memory: &mut [u64], base: usize, variables: usize, a: u8, w: u64)
-    requires { ⌜ (base + variables ≤ length (now memory)) ⌝ }
-    ensures { λ _. ⌜ now (memory .exit) ≡ put-word (now (memory .entry)) base variables a w ⌝ }
+// Where the running frame's variables end in the memory.
+pub fn frame_end(r: Registers) -> usize
+    requires { ⌜ r .base ≤ 65536 ⌝ }
+    ensures { λ e. ⌜ e ≡ r .base + variables-in r ⌝ }
 {
-    let end = base + variables;
-    write(&mut memory[base..end], a as usize, w);
+    r.base + (variables_in(r.procedure) as usize)
+}
+
+fn put_at(b: &mut [u64], i: usize, w: u64)
+    requires { ⌜ i < length (now b) ⌝ }
+    ensures { λ _. ⌜ now (b .exit) ≡ set (now (b .entry)) i w ⌝ }
+{
+    b[i] = w;
+}
+
+// Variable a of the running frame becomes a word.
+pub fn put_variable(memory: &mut [u64], r: Registers, a: u8, w: u64)
+    requires { ⌜ Sane (length (now memory)) r ⌝ }
+    requires { ⌜ a < variables-in r ⌝ }
+    ensures { λ _. ⌜ now (memory .exit) ≡ set (now (memory .entry)) (r .base + a) w ⌝ }
+{
+    let base = r.base;
+    let end = frame_end(r);
+    put_at(&mut memory[base..end], a as usize, w);
 }
 
 // Variable a becomes an integer.
 pub fn give_number(memory: &mut [u64], r: Registers, a: u8, n: Number) -> Stepped
     requires { ⌜ Sane (length (now memory)) r ⌝ }
     requires { ⌜ r .next < 1000 ⌝ }
+    requires { ⌜ a < variables-in r ⌝ }
     ensures { λ o. ⌜ ((mode : Mode) (c : Given) (out : List ℕ) → Does mode c (now (memory .entry)) (now (memory .exit)) out out r o (given mode a n)) ⌝ }
 {
     match n {
         Number::Is(x) => {
-            put_variable(memory, r.base, r.variables, a, integer_word(x));
+            put_variable(memory, r, a, integer_word(x));
             Stepped::Go(at_next(r, r.next + 1))
         }
         Number::Halt(k) => Stepped::Halt(k),
@@ -87,11 +103,12 @@ pub fn give_number(memory: &mut [u64], r: Registers, a: u8, n: Number) -> Steppe
 pub fn give_moved(memory: &mut [u64], r: Registers, a: u8, m: Moved) -> Stepped
     requires { ⌜ Sane (length (now memory)) r ⌝ }
     requires { ⌜ r .next < 1000 ⌝ }
+    requires { ⌜ a < variables-in r ⌝ }
     ensures { λ o. ⌜ ((mode : Mode) (c : Given) (out : List ℕ) → MovedOk m → Does mode c (now (memory .entry)) (now (memory .exit)) out out r o (moved-to mode (qualOf (c .sheet)) a m)) ⌝ }
 {
     match m {
         Moved::To(w) => {
-            put_variable(memory, r.base, r.variables, a, w);
+            put_variable(memory, r, a, w);
             Stepped::Go(at_next(r, r.next + 1))
         }
         Moved::Halt(k) => Stepped::Halt(k),
@@ -140,11 +157,9 @@ pub fn put_output(output: &mut [u32], r: Registers, n: Number) -> Stepped
             let at = r.put;
             if at < output.len() {
                 output[at] = x;
-                return Stepped::Go(Registers {
+                return Stepped::Enter(Registers {
                     procedure: r.procedure,
                     next: r.next + 1,
-                    first: r.first,
-                    variables: r.variables,
                     base: r.base,
                     used: r.used,
                     taken: r.taken,
@@ -162,16 +177,15 @@ pub fn put_output(output: &mut [u32], r: Registers, n: Number) -> Stepped
 pub fn take_input(input: &[u32], memory: &mut [u64], r: Registers, a: u8) -> Stepped
     requires { ⌜ Sane (length (now memory)) r ⌝ }
     requires { ⌜ r .next < 1000 ⌝ }
+    requires { ⌜ a < variables-in r ⌝ }
     ensures { λ o. ⌜ ((mode : Mode) (c : Given) (out : List ℕ) → Does mode c (now (memory .entry)) (now (memory .exit)) out out r o (take-effect mode a (first-of (drop (r .taken) (now (input .entry)))))) ⌝ }
 {
     let at = r.taken;
     if at < input.len() {
-        put_variable(memory, r.base, r.variables, a, integer_word(input[at]));
-        return Stepped::Go(Registers {
+        put_variable(memory, r, a, integer_word(input[at]));
+        return Stepped::Enter(Registers {
             procedure: r.procedure,
             next: r.next + 1,
-            first: r.first,
-            variables: r.variables,
             base: r.base,
             used: r.used,
             taken: at + 1,
@@ -186,6 +200,7 @@ pub fn take_input(input: &[u32], memory: &mut [u64], r: Registers, a: u8) -> Ste
 pub fn allot(memory: &mut [u64], r: Registers, a: u8, head: u64, n: u32, name: u64) -> Registers
     requires { ⌜ Sane (length (now memory)) r ⌝ }
     requires { ⌜ r .next < 1000 ⌝ }
+    requires { ⌜ a < variables-in r ⌝ }
     requires { ⌜ r .used + (n + 1) ≤ r .base ⌝ }
     ensures { λ q. ⌜ q ≡ onward r (r .next + 1) (r .used + (n + 1)) (r .taken) (r .put) ⌝ }
     ensures { λ q. ⌜ ((mode : Mode) (qual : ℕ → Qual) → Allotted mode qual (now (memory .entry)) (now (memory .exit)) r a head n name) ⌝ }
@@ -195,12 +210,10 @@ pub fn allot(memory: &mut [u64], r: Registers, a: u8, head: u64, n: u32, name: u
     let end = cells + (n as usize);
     memory[used] = head;
     clear(&mut memory[cells..end]);
-    put_variable(memory, r.base, r.variables, a, name);
+    put_variable(memory, r, a, name);
     Registers {
         procedure: r.procedure,
         next: r.next + 1,
-        first: r.first,
-        variables: r.variables,
         base: r.base,
         used: end,
         taken: r.taken,
@@ -213,13 +226,14 @@ pub fn allot(memory: &mut [u64], r: Registers, a: u8, head: u64, n: u32, name: u
 pub fn give_array(memory: &mut [u64], r: Registers, a: u8, n: Number) -> Stepped
     requires { ⌜ Sane (length (now memory)) r ⌝ }
     requires { ⌜ r .next < 1000 ⌝ }
+    requires { ⌜ a < variables-in r ⌝ }
     ensures { λ o. ⌜ ((c : Given) (out : List ℕ) (q : Qual) → Does plain c (now (memory .entry)) (now (memory .exit)) out out r o (array-effect plain (r .base - r .used) a q n)) ⌝ }
 {
     match n {
         Number::Is(x) => {
             if (x as usize) < r.base - r.used {
                 let name = object_word(r.used as u32, 0);
-                return Stepped::Go(allot(memory, r, a, array_word(x, 0), x, name));
+                return Stepped::Enter(allot(memory, r, a, array_word(x, 0), x, name));
             }
             Stepped::Halt(17)
         }
@@ -230,12 +244,13 @@ pub fn give_array(memory: &mut [u64], r: Registers, a: u8, n: Number) -> Stepped
 pub fn give_record(memory: &mut [u64], r: Registers, a: u8, slots: u8) -> Stepped
     requires { ⌜ Sane (length (now memory)) r ⌝ }
     requires { ⌜ r .next < 1000 ⌝ }
+    requires { ⌜ a < variables-in r ⌝ }
     ensures { λ o. ⌜ ((c : Given) (out : List ℕ) (q : Qual) (t named : ℕ) → Does plain c (now (memory .entry)) (now (memory .exit)) out out r o (record-effect plain (r .base - r .used) a q t named slots)) ⌝ }
 {
     let n = slots as u32;
     if (n as usize) < r.base - r.used {
         let name = object_word(r.used as u32, 0);
-        return Stepped::Go(allot(memory, r, a, record_word(n, 0), n, name));
+        return Stepped::Enter(allot(memory, r, a, record_word(n, 0), n, name));
     }
     Stepped::Halt(17)
 }

@@ -36,7 +36,7 @@ returns c =
     let put-variable = c .before .before .before .put-variable in
     let k : s .r .used + 1 + s .n ≡ s .r .used + (s .n + 1) = omega arith in (
       ap (λ u. onward (s .r) (s .r .next + 1) u (s .r .taken) (s .r .put)) k,
-      λ m q. allots m q (now (s .memory)) _ _ (s .r) (s .a) (s .head) (s .n) (s .name) (pre .0) (pre .1 .1) (clear .ensures) (put-variable .ensures),
+      λ m q. allots m q (now (s .memory)) _ _ (s .r) (s .a) (s .head) (s .n) (s .name) (pre .0) (pre .1 .1 .0) (pre .1 .1 .1) (clear .ensures) (put-variable .ensures),
     )
 
 pub allot-spec : {M : Type 1} → statement M

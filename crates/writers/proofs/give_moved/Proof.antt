@@ -13,7 +13,7 @@ returns c =
     let s = c .before .before .before .before .before .before .before .before .before .before .args in
     λ m g out fine. rw (c .at-next .ensures, c .before .before .before .before .before .before .before .m .given .1)
     (does-write m g _ _ out (s .r) (s .a) _
-    (puts (slot-in m (qualOf (g .sheet))) _ _ (s .r) (s .a) _ _ (c .before .before .before .before .before .before .before .before .before .before .pre .0) ((rw (c .before .before .before .before .before .before .before .m .given .1) at fine) m (qualOf (g .sheet))) (c .before .before .before .before .put-variable .ensures)))
+    (puts (slot-in m (qualOf (g .sheet))) _ _ (s .r) (s .a) _ _ (c .before .before .before .before .before .before .before .before .before .before .pre .0) (c .before .before .before .before .before .before .before .before .before .before .pre .1 .1) ((rw (c .before .before .before .before .before .before .before .m .given .1) at fine) m (qualOf (g .sheet))) (c .before .before .before .before .put-variable .ensures)))
 
 returns-2 : tie.Need-returns-2
 unfolding moved-to
