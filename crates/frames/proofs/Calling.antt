@@ -4,7 +4,7 @@ use native.Mathlib.Omega.{arith}
 use mathlib.Core.Path.{_≡_, refl, sym, ap, _∙_}
 use mathlib.Core.Bool.{Bool, true, false}
 use mathlib.Core.List.{List, [], _∷_, map}
-use mathlib.Core.Logic.{_⊎_, inl, inr, ⊎-elim}
+use mathlib.Core.Logic.{⊎-elim}
 use borrow.Author.Tests.{le-leb, lt-leb, eqb-true, eqb-false}
 use lib.Dec.{eqb}
 use lib.ListN.{length, getD, take, drop}
@@ -15,14 +15,15 @@ use Rattle.model.specs.Modes.{plain, bind, raise, demand}
 use Rattle.model.specs.Machine as M
 use Rattle.model.specs.Machine.{Value, Cell, empty, filled, Object, Frame, frame, State, state, Effect, View, view, apply, held, moved, actual, actuals, plan, plan-call}
 use Rattle.model.specs.declared.Operation.the-variants.{Call}
-use Rattle.sheet.specs.Layout.{proceduresOf, formalsAt, variablesAt, instructionAt, procedureAt}
+use Rattle.sheet.specs.Layout.{proceduresOf, formalsAt, variablesAt, procedureAt}
 use Rattle.sheet.specs.Decode.{operationAt}
 use Rattle.sheet.specs.Meaning.{programOf, qualOf}
-use Rattle.words.specs.Word.{low, payload, cell, slot-in}
+use Rattle.words.specs.Word.{low, payload, cell, slot-in, variables-of}
+use Rattle.index.specs.Indexed.{ProcedureWord}
 use Rattle.words.proofs.Laws.{blank-word, filled-word}
 use Rattle.writers.specs.declared.Registers.{Registers}
 use Rattle.writers.specs.declared.Stepped.the-variants.{Enter, Halt}
-use Rattle.writers.specs.Memory.{Given, slots, frame-part, GapOnly, Stands, StandsFor}
+use Rattle.writers.specs.Memory.{Given, slots, variables-in, frame-part, GapOnly, Stands, StandsFor}
 use Rattle.writers.specs.Steps.{After}
 use Rattle.writers.proofs.Effects.{stopped-after, gap-kept}
 use Rattle.writers.proofs.View.{room-is, variable-is}
@@ -40,7 +41,7 @@ cells-from : (ℕ → Cell plain) → (b j n : ℕ) → List (Cell plain)
 cells-from v b j zero = []
 cells-from v b j (suc n) = v (b + j) ∷ cells-from v b (suc j) n
 
-cells-there : (vs : List (Cell plain)) (b j n : ℕ) → b + (j + n) ≤ length vs → cells-from (λ x. getD vs x empty) b j n ≡ take n (drop (b + j) vs)
+cells-there : (vs : List (Cell plain)) (b j n : ℕ) → n ≤ length vs - (b + j) → cells-from (λ x. getD vs x empty) b j n ≡ take n (drop (b + j) vs)
 unfolding cells-from
 cells-there vs b j zero h = refl
 cells-there vs b j (suc n) h =
@@ -105,18 +106,10 @@ stopped : (c : Given) (words out s : List ℕ) (r : Registers) (t : State plain)
 unfolding _>>=_
 stopped c words out s r t S x e is = rw is (stopped-after plain c words out r t S (stop-number x) x refl)
 
--- the first variable that is copied, where there are formals
-abbrev pub Picked : (b f from : ℕ) → Type 0
-Picked b f from = ((f ≡ 0) × (from ≡ 0)) ⊎ ((f ≡ 0 → ⊥) × (from ≡ b))
-
-pub picked-fits : (b f from n : ℕ) → Picked b f from → ((j : ℕ) → j < f → b + j < n) → from + f ≤ n
-picked-fits b f from n (inl w) h = let x = w .0 in let y = w .1 in omega arith
-picked-fits b f from n (inr w) h =
-    let x = w .0 in
-    let y = w .1 in
-    let l : 0 < f = omega arith in
-    let m = h (f - 1) (omega arith) in
-    omega arith
+-- the variables that are passed, if any, are the frame's
+pub actuals-fit : (b f n : ℕ) → ((j : ℕ) → j < f → b + j < n) → f ≤ n - b
+actuals-fit b zero n h = omega arith
+actuals-fit b (suc f) n h = let m = h f (omega arith) in omega arith
 
 module _ (s words : List ℕ) (r : Registers) (a b k v f : ℕ) (many : v ≡ variablesAt s (procedureAt s k)) (formals : f ≡ formalsAt s (procedureAt s k)) where
   pub call-without-room : r .base - r .used < v + 2
@@ -124,86 +117,78 @@ module _ (s words : List ℕ) (r : Registers) (a b k v f : ℕ) (many : v ≡ va
   call-without-room h input out c t same from S =
       stopped c words out s r t S memory-full _ (call-full (programOf s) (view (length words) (length out) t) k b a (omega (arith, room-is plain c words out r t S)))
 
-  module _ (room : v + 2 ≤ r .base - r .used) (few : f ≤ v) (from : ℕ) (picked : Picked b f from) (fits : from + f ≤ r .variables) where
-    picked-from : (j : ℕ) → j < f → from ≡ b
-    picked-from j h = ⊎-elim (λ w. let x = w .0 in absurd (omega arith)) (λ w. w .1) picked
-
-    picked-cells : (vs : List (Cell plain)) → r .variables ≡ length vs → cells-from (λ x. getD vs x empty) b 0 f ≡ take f (drop from vs)
-    unfolding cells-from
-    picked-cells vs l = go picked
-      where
-        go : Picked b f from → cells-from (λ x. getD vs x empty) b 0 f ≡ take f (drop from vs)
-        go (inl w) = rw (w .0)
-        go (inr w) =
-            let y = w .1 in
-            let n : b + 0 ≡ from = omega arith in
-            cells-there vs b 0 f (omega arith) ∙ rw n
+  module _ (room : v + 2 ≤ r .base - r .used) (few : f ≤ v) (fits : f ≤ variables-in r - b) where
+    passed : (vs : List (Cell plain)) → variables-in r ≡ length vs → cells-from (λ x. getD vs x empty) b 0 f ≡ take f (drop b vs)
+    passed vs l =
+        let n : b + 0 ≡ b = omega arith in
+        cells-there vs b 0 f (omega arith) ∙ rw n
 
     -- the variables that are looked at, in the words that are copied
     looked-at : {c : Given} {out : List ℕ} {p i : ℕ} {vs : List (Cell plain)} {fs : List (Frame plain)} {os : List (Object plain)} {input put : List ℕ}
         → Stands plain c words out r p i vs fs os input put
-        → (j : ℕ) → j < f → slot-in plain (qualOf (c .sheet)) (getD words (r .base + from + j) 0) ≡ cell (getD vs (b + j) empty)
+        → (j : ℕ) → j < f → slot-in plain (qualOf (c .sheet)) (getD words (r .base + b + j) 0) ≡ cell (getD vs (b + j) empty)
     looked-at {c} S j h =
-        let e = picked-from j h in
-        let n : r .base + from + j ≡ r .base + (b + j) = omega arith in
-        let word : getD words (r .base + from + j) 0 ≡ getD (frame-part r words) (b + j) 0 =
+        let n : r .base + b + j ≡ r .base + (b + j) = omega arith in
+        let word : getD words (r .base + b + j) 0 ≡ getD (frame-part r words) (b + j) 0 =
         ap (λ (x : ℕ). getD words x 0) n
-        ∙ sym (getD-take (r .variables) (drop (r .base) words) (b + j) 0 (omega arith) ∙ getD-drop (r .base) words (b + j) 0) in
+        ∙ sym (getD-take (variables-in r) (drop (r .base) words) (b + j) 0 (omega arith) ∙ getD-drop (r .base) words (b + j) 0) in
         ap (slot-in plain (qualOf (c .sheet))) word ∙ variable-is S (b + j)
 
     -- n of them copied below the running frame, among words of which nothing is said
     copied-gap : {c : Given} {out : List ℕ} {p i : ℕ} {vs : List (Cell plain)} {fs : List (Frame plain)} {os : List (Object plain)} {input put : List ℕ}
         → Stands plain c words out r p i vs fs os input put
-        → (words′ : List ℕ) (n : ℕ) → n ≤ f → words′ ≡ copied words (r .base + from) (r .base - (v + 2)) n → GapOnly words words′ r
+        → (words′ : List ℕ) (n : ℕ) → n ≤ f → words′ ≡ copied words (r .base + b) (r .base - (v + 2)) n → GapOnly words words′ r
     copied-gap S words′ n h copy =
         let at = r .base - (v + 2) in
-        let src = r .base + from in
+        let src = r .base + b in
         let frame-fits = S .sane .frame in
         let below : at + n ≤ src = omega arith in
-        let inside : src + n ≤ length words = omega arith in
+        let above : at + n ≤ length words = omega arith in
+        let inside : n ≤ length words - src = omega arith in
         record {
-          long = ap length copy ∙ length-copied words src at n below inside;
-          objects = ap (take (r .used)) copy ∙ copied-before words src at n below inside (r .used) (omega arith);
-          frames = ap (drop (r .base)) copy ∙ copied-after words src at n below inside (r .base) (omega arith);
+          long = ap length copy ∙ length-copied words src at n below above inside;
+          objects = ap (take (r .used)) copy ∙ copied-before words src at n below above inside (r .used) (omega arith);
+          frames = ap (drop (r .base)) copy ∙ copied-after words src at n below above inside (r .base) (omega arith);
         }
 
-    pub call-of-blank : (words′ : List ℕ) → Copies words words′ (r .base + from) (r .base - (v + 2)) f false
+    pub call-of-blank : (words′ : List ℕ) → Copies words words′ (r .base + b) (r .base - (v + 2)) f false
         → (input out : List ℕ) → Performs plain s input words words′ out out r (Halt 13) (Call a b k)
     call-of-blank words′ C input out c (state (frame p i vs) fs os left put) same from′ S =
         let t = state (frame p i vs) fs os left put in
         let j = C .0 in
         stopped c words′ out s r t (gap-kept S words′ (copied-gap S words′ j (omega (arith, C .1)) (C .2))) blank _
         (call-blank (programOf s) (view (length words) (length out) t) k b a (omega (arith, room-is plain c words out r t S)) j (rw formals at (C .1))
-        (blank-word plain (qualOf (c .sheet)) (getD words (r .base + from + j) 0) (looked-at S j (C .1)) (C .3)))
+        (blank-word plain (qualOf (c .sheet)) (getD words (r .base + b + j) 0) (looked-at S j (C .1)) (C .3)))
 
-    module _ (words′ : List ℕ) (C : Copies words words′ (r .base + from) (r .base - (v + 2)) f true) where
+    module _ (words′ : List ℕ) (C : Copies words words′ (r .base + b) (r .base - (v + 2)) f true) where
       holds : {c : Given} {out : List ℕ} {p i : ℕ} {vs : List (Cell plain)} {fs : List (Frame plain)} {os : List (Object plain)} {input put : List ℕ}
           → Stands plain c words out r p i vs fs os input put → (j : ℕ) → j < f → Holds (getD vs (b + j) empty)
       holds {c} S j h =
-          let w = getD words (r .base + from + j) 0 in
+          let w = getD words (r .base + b + j) 0 in
           ⊎-elim (λ e. (M.word (low w), e)) (λ e. (M.object (payload w), e)) (filled-word plain (qualOf (c .sheet)) w (looked-at S j h) (C .1 j h))
 
-      pub call-goes : (words″ : List ℕ) (q : Registers) (first : ℕ) → Opened plain words′ words″ r q a k first v f → operationAt s (place-in r) ≡ Call a b k
-          → k < proceduresOf s → k < 64 → first ≡ instructionAt s (procedureAt s k) 0
+      pub call-goes : (words″ : List ℕ) (q : Registers) (w : ℕ) → Opened plain words′ words″ r q a w v f → operationAt s (place-in r) ≡ Call a b k
+          → k < proceduresOf s → ProcedureWord s k w → v ≡ variables-of w
           → (input out : List ℕ) → Performs plain s input words words″ out out r (Enter q) (Call a b k)
       unfolding _>>=_ apply
-      call-goes words″ q first P here known small starts input out c (state (frame p i vs) fs os left put) same from′ S =
+      call-goes words″ q w P here known of has input out c (state (frame p i vs) fs os left put) same from′ S =
           let t = state (frame p i vs) fs os left put in
           let at = r .base - (v + 2) in
-          let src = r .base + from in
+          let src = r .base + b in
           let copy = C .0 in
           let frame-fits = S .sane .frame in
           let below : at + f ≤ src = omega arith in
-          let inside : src + f ≤ length words = omega arith in
-          let there : slots plain c (take f (drop at words′)) ≡ map cell (take f (drop from vs)) =
+          let above : at + f ≤ length words = omega arith in
+          let inside : f ≤ length words - src = omega arith in
+          let there : slots plain c (take f (drop at words′)) ≡ map cell (take f (drop b vs)) =
           ap (λ (l : List ℕ). slots plain c (take f (drop at l))) copy
-          ∙ ap (slots plain c) (copied-there words src at f below inside)
-          ∙ actual-slots S from f fits in
+          ∙ ap (slots plain c) (copied-there words src at f below above inside)
+          ∙ actual-slots S b f fits in
           rw (
             call-opens (programOf s) (view (length words) (length out) t) k b a (omega (arith, room-is plain c words out r t S))
                 (λ j h. holds S j (rw (← formals) at h)),
             ← formals,
             ← many,
-            picked-cells vs (S .variables),
+            passed vs (S .variables),
           )
-          (P c p i vs (take f (drop from vs)) fs os left put out (gap-kept S words′ (copied-gap S words′ f (omega arith) copy)) (kept-here S a b k (rw same here)) (rw same known) small (rw same starts) (rw same many) there)
+          (P c k p i vs (take f (drop b vs)) fs os left put out (gap-kept S words′ (copied-gap S words′ f (omega arith) copy)) (kept-here S a b k (rw same here)) (rw same known) (rw same of) has there)

@@ -8,7 +8,7 @@ use lib.ListN.{length, getD, set, take, drop, length-drop}
 use lib.Seq.{take-append-le, take-take, take-at, drop-at, drop-drop, getD-drop, length-take-le, getD-append-add, paste, length-paste, length-paste-head, paste-suc, drop-paste}
 use Rattle.frames.specs.Frames.{copied}
 
-module _ (d : List ℕ) (from to n j : ℕ) (below : to + n ≤ from) (fits : from + n ≤ length d) (h : j < n) where
+module _ (d : List ℕ) (from to n j : ℕ) (below : to + n ≤ from) (room : to + n ≤ length d) (fits : n ≤ length d - from) (h : j < n) where
   pub copied-word : getD (paste d to (drop from d) j) (from + j) 0 ≡ getD d (from + j) 0
   copied-word =
       let l : length (drop from d) ≡ length d - from = length-drop from d in
@@ -27,7 +27,7 @@ module _ (d : List ℕ) (from to n j : ℕ) (below : to + n ≤ from) (fits : fr
 
 -- ---- what is where after the copy
 
-module _ (d : List ℕ) (from to n : ℕ) (below : to + n ≤ from) (fits : from + n ≤ length d) where
+module _ (d : List ℕ) (from to n : ℕ) (below : to + n ≤ from) (room : to + n ≤ length d) (fits : n ≤ length d - from) where
   pub length-copied : length (copied d from to n) ≡ length d
   length-copied =
       let l : length (drop from d) ≡ length d - from = length-drop from d in

@@ -10,9 +10,8 @@ use Rattle.model.specs.declared.Operation.the-variants.{Call}
 use Rattle.sheet.specs.Bytes.{byteAt, wordAt}
 use Rattle.sheet.specs.Layout.{codeAt, kAt}
 use Rattle.sheet.specs.Decode.{operationAt}
-use Rattle.form.proofs.WellFormed.{form-short}
 use Rattle.writers.specs.declared.Registers.{Registers}
-use Rattle.frames.specs.Performs.{Loaded}
+use Rattle.writers.specs.Memory.{first-in}
 use Rattle.frames.specs.Fetch.{place-in, Fetchable, CodeOf}
 use Rattle.frames.specs.Frames.{Callable}
 
@@ -29,23 +28,20 @@ operation-drop s n at =
 
 module _ (s : List ℕ) (r : Registers) (code : List ℕ) (K : CodeOf s r code) where
   pub code-operation : operationAt code (8 * r .next) ≡ operationAt s (place-in r)
-  code-operation = rw K (operation-drop s (r .first) (8 * r .next))
+  code-operation = rw K (operation-drop s (first-in r) (8 * r .next))
 
   pub code-whole : Fetchable s r → 8 * r .next + 8 ≤ length code
   code-whole F =
       let whole = F .whole in
-      let long : length code ≡ length s - r .first = ap length K ∙ length-drop (r .first) s in
+      let long : length code ≡ length s - first-in r = ap length K ∙ length-drop (first-in r) s in
       omega arith
 
-pub callable : (s index : List ℕ) (r : Registers) (a b k : ℕ) → Loaded s index → Fetchable s r → operationAt s (place-in r) ≡ Call a b k → Callable s r a b k
+pub callable : (s : List ℕ) (r : Registers) (a b k : ℕ) → Fetchable s r → operationAt s (place-in r) ≡ Call a b k → Callable s r a b k
 unfolding callee
-callable s index r a b k L F e =
-    let short = form-short s (L .formed) in
-    let first = F .first in
+callable s r a b k F e =
     record {
       here = e;
       next = F .next;
-      first = omega arith;
       procedure = rw e at (F .callee-there);
       actuals = F .actuals a b k e;
     }

@@ -15,7 +15,7 @@ use Rattle.sheet.specs.Layout.{instructionAt, procedureAt}
 use Rattle.sheet.specs.Decode.{operationAt}
 use Rattle.form.proofs.Laws.{instruction-from}
 use Rattle.writers.specs.declared.Registers.{Registers}
-use Rattle.writers.specs.Memory.{Given, byte-of, kept-byte, Stands}
+use Rattle.writers.specs.Memory.{Given, byte-of, kept-byte, first-in, Stands}
 use Rattle.frames.specs.Fetch.{place-in}
 
 -- 255 is none
@@ -59,7 +59,7 @@ module _ {m : Mode} {c : Given} {words out : List ℕ} {r : Registers} {p i : �
     {input put : List ℕ} (S : Stands m c words out r p i vs fs os input put) where
   -- the registers name the state's next instruction
   pub place-is : place-in r ≡ instructionAt (c .sheet) (procedureAt (c .sheet) p) i
-  place-is = rw (S .next) (instruction-from (c .sheet) (procedureAt (c .sheet) p) (r .first) i (S .first))
+  place-is = rw (S .next) (instruction-from (c .sheet) (procedureAt (c .sheet) p) (first-in r) i (S .first))
 
   -- the variable that it keeps, where it is a call
   pub kept-here : (a b k : ℕ) → operationAt (c .sheet) (place-in r) ≡ Call a b k

@@ -1,5 +1,5 @@
 -- A frame that is opened, in either machine: the words below the running frame, of which nothing is said, become its own.
-use Prim.Native.Nat.{ℕ, suc, _+_, _-_, _≤_, _<_}
+use Prim.Native.Nat.{ℕ, zero, suc, _+_, _-_, _≤_, _<_}
 use native.Mathlib.Omega.{arith}
 use native.Mathlib.Numerals.{add-one}
 use mathlib.Core.Path.{_≡_, refl, sym, ap, _∙_}
@@ -10,23 +10,26 @@ use lib.Seq.{drop-cons, drop-set-add, set-at, take-set-le, take-append-le, take-
 use Rattle.model.specs.Modes.{Mode}
 use Rattle.model.specs.Qualified.{Qual}
 use Rattle.model.specs.Machine.{Cell, empty, Object, Frame, frame}
-use Rattle.sheet.specs.Layout.{proceduresOf, variablesAt, instructionAt, procedureAt}
+use Rattle.sheet.specs.Layout.{proceduresOf, instructionAt, procedureAt}
 use Rattle.sheet.specs.Decode.{operationAt}
 use Rattle.sheet.specs.Meaning.{qualOf}
-use Rattle.words.specs.Word.{cell, back, extent, slot-in}
+use Rattle.words.specs.Word.{cell, back, procedure, slot-in, variables-of}
+use Rattle.index.specs.Indexed.{ProcedureWord}
 use Rattle.words.proofs.Laws.{slot-zero}
 use Rattle.writers.specs.declared.Registers.{Registers}
-use Rattle.writers.specs.Memory.{Given, slots, Sane, object-part, Stands, AllSound, kept-byte, back-to, flat-frames}
+use Rattle.writers.specs.Memory.{Given, slots, variables-in, Sane, object-part, Stands, AllSound, kept-byte, back-to, flat-frames}
 use Rattle.writers.proofs.Change.{map-take, map-drop, map-replicate}
 use Rattle.frames.specs.Frames.{Opened}
 
 module _ {m : Mode} {c : Given} {words out : List ℕ} {r : Registers} {p i : ℕ} {vs : List (Cell m)} {fs : List (Frame m)} {os : List (Object m)}
     {input put : List ℕ} (S : Stands m c words out r p i vs fs os input put) where
   -- n of the running frame's variables from b on, in its words
-  pub actual-slots : (b n : ℕ) → b + n ≤ r .variables → slots m c (take n (drop (r .base + b) words)) ≡ map cell (take n (drop b vs))
-  actual-slots b n h =
+  pub actual-slots : (b n : ℕ) → n ≤ variables-in r - b → slots m c (take n (drop (r .base + b) words)) ≡ map cell (take n (drop b vs))
+  actual-slots b zero h = refl
+  actual-slots b (suc k) h =
+      let n = suc k in
       let slot = slot-in m (qualOf (c .sheet)) in
-      let l : length (map cell vs) ≡ r .variables = length-map vs cell ∙ sym (S .variables) in
+      let l : length (map cell vs) ≡ variables-in r = length-map vs cell ∙ sym (S .variables) in
       let k : length (drop b (map cell vs)) ≡ length (map cell vs) - b = length-drop b (map cell vs) in
       map-take slot n (drop (r .base + b) words)
       ∙ ap (take n) (
@@ -109,16 +112,14 @@ module _ (words zeros : List ℕ) (at base v f w x : ℕ) (size : at + (v + 2) �
 -- ---- and what they stand for
 
 module _ {m : Mode} {c : Given} {words out : List ℕ} {r : Registers} {p i : ℕ} {vs : List (Cell m)} {fs : List (Frame m)} {os : List (Object m)}
-    {input put : List ℕ} (S : Stands m c words out r p i vs fs os input put) (words′ : List ℕ) (a k first at v f w x : ℕ) (cs : List (Cell m))
-    (size : at + (v + 2) ≡ r .base) (room : r .used ≤ at) (few : f ≤ v) (wide : v < 256)
-    (place-is : slot-in m (qualOf (c .sheet)) w ≡ back (r .procedure) (r .next + 1) a)
-    (extent-is : slot-in m (qualOf (c .sheet)) x ≡ extent (r .variables) (r .first))
+    {input put : List ℕ} (S : Stands m c words out r p i vs fs os input put) (words′ : List ℕ) (a k y at v f w : ℕ) (cs : List (Cell m))
+    (size : at + (v + 2) ≡ r .base) (room : r .used ≤ at) (few : f ≤ v)
+    (place-is : slot-in m (qualOf (c .sheet)) w ≡ back (r .next + 1) a)
     (long : length words′ ≡ length words) (before : object-part r words′ ≡ object-part r words)
-    (after : drop at words′ ≡ take f (drop at words) ++ (replicate (v - f) 0 ++ (w ∷ (x ∷ drop (r .base) words))))
+    (after : drop at words′ ≡ take f (drop at words) ++ (replicate (v - f) 0 ++ (w ∷ (r .procedure ∷ drop (r .base) words))))
     (there : slots m c (take f (drop at words)) ≡ map cell cs)
     (keeps : a ≡ kept-byte (operationAt (c .sheet) (instructionAt (c .sheet) (procedureAt (c .sheet) p) i)))
-    (known : k < proceduresOf (c .sheet)) (small : k < 64) (starts : first ≡ instructionAt (c .sheet) (procedureAt (c .sheet) k) 0)
-    (many : v ≡ variablesAt (c .sheet) (procedureAt (c .sheet) k)) where
+    (known : k < proceduresOf (c .sheet)) (of : ProcedureWord (c .sheet) k y) (many : v ≡ variables-of y) where
   waiting-slots : slots m c (drop (r .base) words) ≡ map cell vs ++ flat-frames (c .sheet) fs
   waiting-slots = map-drop (slot-in m (qualOf (c .sheet))) (r .base) words ∙ S .frames
 
@@ -132,28 +133,29 @@ module _ {m : Mode} {c : Given} {words out : List ℕ} {r : Registers} {p i : �
   new-slots : drop at (slots m c words′) ≡ map cell (cs ++ replicate (v - f) empty) ++ flat-frames (c .sheet) (frame p (suc i) vs ∷ fs)
   unfolding flat-frames
   new-slots =
-      let here : slot-in m (qualOf (c .sheet)) w ≡ back-to (c .sheet) p (suc i) = place-is ∙ rw (keeps, add-one, S .procedure, S .next) in
-      let more : slot-in m (qualOf (c .sheet)) x ≡ extent (length vs) (instructionAt (c .sheet) (procedureAt (c .sheet) p) 0) =
-      extent-is ∙ rw (S .variables, S .first) in
+      let here : slot-in m (qualOf (c .sheet)) w ≡ back-to (c .sheet) p (suc i) = place-is ∙ rw (keeps, add-one, S .next) in
+      let more : slot-in m (qualOf (c .sheet)) (r .procedure) ≡ procedure p (length vs) (instructionAt (c .sheet) (procedureAt (c .sheet) p) 0) =
+      S .is-procedure m (qualOf (c .sheet)) ∙ rw (S .procedure, S .variables, S .first) in
       sym (map-drop (slot-in m (qualOf (c .sheet))) at words′)
       ∙ ap (slots m c) after
       ∙ rw (map-append, map-append, map-append, map-replicate, map-replicate, slot-zero, there, waiting-slots, here, more, append-assoc)
 
   stands-opened :
       Stands m c words′ out
-      (record { procedure = k; next = 0; first = first; variables = v; base = at; used = r .used; taken = r .taken; put = r .put; steps = r .steps })
+      (record { procedure = y; next = 0; base = at; used = r .used; taken = r .taken; put = r .put; steps = r .steps })
       k 0 (cs ++ replicate (v - f) empty) (frame p (suc i) vs ∷ fs) os input put
   unfolding AllSound
   stands-opened =
       let frame-fits = S .sane .frame in
       let slot = slot-in m (qualOf (c .sheet)) in
       record {
-        procedure = refl;
+        is-procedure = of .is-procedure;
+        procedure = of .number;
         next = refl;
-        first = starts;
-        variables = sym new-long;
-        sane = record { room = room; frame = rw long (omega arith); small = rw long (S .sane .small); procedure = small; variables = wide };
-        running = record { procedure = known; variables = new-long ∙ many };
+        first = of .first;
+        variables = sym many ∙ sym new-long;
+        sane = record { room = room; frame = rw long (omega arith); small = rw long (S .sane .small) };
+        running = record { procedure = known; variables = new-long ∙ many ∙ of .variables };
         waiting = (S .running, S .waiting);
         objects = sym (map-take slot (r .used) words′) ∙ ap (map slot) before ∙ map-take slot (r .used) words ∙ S .objects;
         frames = new-slots;
@@ -163,18 +165,19 @@ module _ {m : Mode} {c : Given} {words out : List ℕ} {r : Registers} {p i : �
         put-fits = S .put-fits;
       }
 
-pub opens : (m : Mode) (words zeros : List ℕ) (r : Registers) (a k first v f w x : ℕ) → Sane (length words) r → v < 256 → v + 2 ≤ r .base - r .used → f ≤ v
+pub opens : (m : Mode) (words zeros : List ℕ) (r : Registers) (a y v f w : ℕ) → Sane (length words) r → v + 2 ≤ r .base - r .used → f ≤ v
     → zeros ≡ replicate (length (midOf (r .base - (v + 2) + f) (r .base - (v + 2) + v - (r .base - (v + 2) + f)) words)) 0
-    → ((q : ℕ → Qual) → slot-in m q w ≡ back (r .procedure) (r .next + 1) a) → ((q : ℕ → Qual) → slot-in m q x ≡ extent (r .variables) (r .first))
-    → Opened m words (opened words zeros (r .base - (v + 2)) v f w x) r
-    (record { procedure = k; next = 0; first = first; variables = v; base = r .base - (v + 2); used = r .used; taken = r .taken; put = r .put; steps = r .steps })
-    a k first v f
-opens m words zeros r a k first v f w x sane wide room few cleared place-is extent-is c p i vs cs fs os input put out S keeps known small starts many there =
+    → ((q : ℕ → Qual) → slot-in m q w ≡ back (r .next + 1) a)
+    → Opened m words (opened words zeros (r .base - (v + 2)) v f w (r .procedure)) r
+    (record { procedure = y; next = 0; base = r .base - (v + 2); used = r .used; taken = r .taken; put = r .put; steps = r .steps })
+    a y v f
+opens m words zeros r a y v f w sane room few cleared place-is c k p i vs cs fs os input put out S keeps known of many there =
     let at = r .base - (v + 2) in
+    let x = r .procedure in
     let frame-fits = sane .frame in
     let size : at + (v + 2) ≡ r .base = omega arith in
     let inside : r .base ≤ length words = omega arith in
-    stands-opened S (opened words zeros at v f w x) a k first at v f w x cs size (omega arith) few wide (place-is (qualOf (c .sheet))) (extent-is (qualOf (c .sheet)))
+    stands-opened S (opened words zeros at v f w x) a k y at v f w cs size (omega arith) few (place-is (qualOf (c .sheet)))
     (length-opened words zeros at (r .base) v f w x size few inside cleared)
     (opened-before words zeros at (r .base) v f w x size few inside cleared (r .used) (omega arith))
-    (opened-at words zeros at (r .base) v f w x size few inside cleared) there keeps known small starts many
+    (opened-at words zeros at (r .base) v f w x size few inside cleared) there keeps known of many

@@ -14,20 +14,19 @@ use Rattle.model.specs.Machine as M
 use Rattle.model.specs.Machine.{frame, State, state, Next, View, Effect, view, plan, apply, one-integer, branch, first-of}
 use Rattle.model.specs.declared.Operation.{Operation}
 use Rattle.model.specs.declared.Operation.the-variants as Op
-use Rattle.sheet.specs.Layout.{proceduresOf, procedureAt}
+use Rattle.sheet.specs.Layout.{proceduresOf, variableAt, instructionAt, procedureAt}
 use Rattle.sheet.specs.Meaning.{programOf, qualOf}
-use Rattle.index.specs.Procedures.{procedure-in}
-use Rattle.index.specs.Indexed.{ProcedureWord}
+use Rattle.index.specs.Procedures.{place-of}
 use Rattle.words.specs.Sees.{Sees}
 use Rattle.words.specs.Answers.{Unless-stuck, number-as}
 use Rattle.words.specs.declared.Number.{Number}
 use Rattle.writers.specs.declared.Registers.{Registers}
 use Rattle.writers.specs.declared.Stepped.{Stepped}
 use Rattle.writers.specs.declared.Stepped.the-variants.{Go, Enter, Halt, Done}
-use Rattle.writers.specs.Memory.{Given, object-part, SeesIn, StandsFor}
+use Rattle.writers.specs.Memory.{Given, variables-in, object-part, SeesIn, StandsFor}
 use Rattle.writers.specs.Steps.{After, Does, branched, jumped, put-effect, take-effect}
 use Rattle.writers.proofs.View.{view-sees, free-is, next-input-is}
-use Rattle.frames.specs.Performs.{Loaded, Performs}
+use Rattle.frames.specs.Performs.{Performs}
 
 -- ---- what is known unless the definition is stuck
 
@@ -64,33 +63,27 @@ module _ (m : Mode) (c : Given) (words before out : List ℕ) (r : Registers) (t
 
 -- ---- an operation
 
--- the part of a list from b to b + n, as the code cuts it
-pub part-is : (b n : ℕ) (l : List ℕ) → take (b + n - b) (drop b l) ≡ take n (drop b l)
-part-is b n l =
-    let e : b + n - b ≡ n = omega arith in
-    rw e
+-- what is seen of the memory, with the running frame's part as the code cuts it, up to an end
+abbrev pub SeesCut : (m : Mode) → (qual : ℕ → Qual) → View m → (words : List ℕ) → Registers → (end : ℕ) → Type 0
+SeesCut m qual v words r end = Sees m qual v (take (end - r .base) (drop (r .base) words)) (object-part r words)
 
--- what is seen of the memory, with the running frame's part as the code cuts it
-abbrev pub SeesCut : (m : Mode) → (qual : ℕ → Qual) → View m → (words : List ℕ) → Registers → Type 0
-SeesCut m qual v words r = Sees m qual v (take (r .base + r .variables - r .base) (drop (r .base) words)) (object-part r words)
+pub sees-cut : (m : Mode) (q : ℕ → Qual) (v : View m) (words : List ℕ) (r : Registers) (end : ℕ) → end ≡ r .base + variables-in r
+    → SeesIn m q v words r → SeesCut m q v words r end
+sees-cut m q v words r end is S =
+    let n : variables-in r ≡ end - r .base = omega arith in
+    subst (λ (k : ℕ). Sees m q v (take k (drop (r .base) words)) (object-part r words)) n S
 
-pub sees-cut : (m : Mode) (q : ℕ → Qual) (v : View m) (words : List ℕ) (r : Registers) → SeesIn m q v words r → SeesCut m q v words r
-sees-cut m q v words r S = subst (λ (f : List ℕ). Sees m q v f (object-part r words)) (sym (part-is (r .base) (r .variables) words)) S
-
--- the running procedure is the registers', and one of the sheet's
+-- the running procedure is one of the sheet's, and the registers have its word
 pub record Running {m : Mode} (s : List ℕ) (r : Registers) (v : View m) : Type 0 where
-  pub procedure : v .procedure ≡ r .procedure
   pub known : v .procedure < proceduresOf s
-
--- its word is in the index
-pub running-word : {m : Mode} (s index : List ℕ) (r : Registers) (v : View m) → Loaded s index → Running s r v
-    → ProcedureWord s (procedureAt s (v .procedure)) (procedure-in index (r .procedure))
-running-word s index r v L R = rw (← R .procedure) (L .ready .procedures (v .procedure) (R .known))
+  pub place : place-of (r .procedure) ≡ procedureAt s (v .procedure)
 
 pub runs : (m : Mode) (c : Given) (s words before : List ℕ) (r : Registers) (t : State m) → c .sheet ≡ s → StandsFor m c words before r t
     → Running s r (view (length words) (length before) t)
+unfolding place-of instructionAt variableAt
 runs m c s words before r (state (frame p i vs) fs os input put) q S =
-    record { procedure = sym (S .procedure); known = rw q at (S .running .procedure) }
+    let at : place-of (r .procedure) ≡ procedureAt (c .sheet) p = rw (S .first, S .variables, S .running .variables) (omega arith) in
+    record { known = rw q at (S .running .procedure); place = rw q at at }
 
 -- what is seen, by the sheet's map of element numbers
 pub sees : (m : Mode) (c : Given) (s words before : List ℕ) (r : Registers) (t : State m) → c .sheet ≡ s → StandsFor m c words before r t
@@ -122,11 +115,11 @@ module _ (m : Mode) (s input words words′ before out : List ℕ) (r : Register
         performs-if (λ c t q i S. planned (view (length words) (length before) t) (runs m c s words before r t q S) (sees m c s words before r t q S))
 
     -- the same, with the variables' part as the code cuts it
-    pub performs-if-frame :
-        ((v : View m) → Running s r v → SeesCut m (qualOf s) v words r
+    pub performs-if-frame : (end : ℕ) → end ≡ r .base + variables-in r →
+        ((v : View m) → Running s r v → SeesCut m (qualOf s) v words r end
         → Unless-stuck (plan m (programOf s) v op) (Fine × (e (qualOf s) ≡ plan m (programOf s) v op)))
         → Performs m s input words words′ before out r o op
-    performs-if-frame planned = performs-if-seeing (λ v R S. planned v R (sees-cut m (qualOf s) v words r S))
+    performs-if-frame end is planned = performs-if-seeing (λ v R S. planned v R (sees-cut m (qualOf s) v words r end is S))
 
   -- the three for a writer that always does what it is told
   module _ (does : (c : Given) → Does m c words words′ before out r o (e (qualOf (c .sheet)))) where
@@ -148,18 +141,18 @@ module _ (m : Mode) (s input words words′ before out : List ℕ) (r : Register
     performs-seeing planned =
         performs (λ c t q i S. planned (view (length words) (length before) t) (runs m c s words before r t q S) (sees m c s words before r t q S))
 
-    pub performs-frame :
-        ((v : View m) → Running s r v → SeesCut m (qualOf s) v words r
+    pub performs-frame : (end : ℕ) → end ≡ r .base + variables-in r →
+        ((v : View m) → Running s r v → SeesCut m (qualOf s) v words r end
         → Unless-stuck (plan m (programOf s) v op) (e (qualOf s) ≡ plan m (programOf s) v op))
         → Performs m s input words words′ before out r o op
-    performs-frame planned = performs-seeing (λ v R S. planned v R (sees-cut m (qualOf s) v words r S))
+    performs-frame end is planned = performs-seeing (λ v R S. planned v R (sees-cut m (qualOf s) v words r end is S))
 
 -- ---- the writers that take an integer, an input word or an output word
 
 -- the number n is that of variable x, in the part of the memory that the code cuts
-abbrev pub Reads : (m : Mode) → (s words : List ℕ) → Registers → Number → ℕ → Type 0
-Reads m s words r n x =
-    (v : View m) → SeesCut m (qualOf s) v words r → Unless-stuck (one-integer m (programOf s) v x) (number-as m n ≡ one-integer m (programOf s) v x)
+abbrev pub Reads : (m : Mode) → (s words : List ℕ) → Registers → (end : ℕ) → Number → ℕ → Type 0
+Reads m s words r end n x =
+    (v : View m) → SeesCut m (qualOf s) v words r end → Unless-stuck (one-integer m (programOf s) v x) (number-as m n ≡ one-integer m (programOf s) v x)
 
 module _ (m : Mode) (g : Program) (v : View m) (a : ℕ) (n : Number)
     (reads : Unless-stuck (one-integer m g v a) (number-as m n ≡ one-integer m g v a)) where
@@ -183,18 +176,19 @@ module _ (m : Mode) (g : Program) (v : View m) (a : ℕ) (n : Number)
       (λ e. rw (f, e))
 
 module _ (m : Mode) (s input words words′ before out : List ℕ) (r : Registers) (o : Stepped) (a : ℕ) where
-  pub performs-jump : (n : Number) (k : ℕ) → ((c : Given) → Does m c words words′ before out r o (jumped m k n)) → Reads m s words r n a
+  pub performs-jump : (n : Number) (k end : ℕ) → end ≡ r .base + variables-in r → ((c : Given) → Does m c words words′ before out r o (jumped m k n)) → Reads m s words r end n a
       → Performs m s input words words′ before out r o (Op.JumpZero a k)
-  performs-jump n k does reads =
-      performs-frame m s input words words′ before out r o (Op.JumpZero a k) (λ q. jumped m k n) does (λ v R S. jumps m (programOf s) v a n (reads v S) k)
+  performs-jump n k end is does reads =
+      performs-frame m s input words words′ before out r o (Op.JumpZero a k) (λ q. jumped m k n) does end is (λ v R S. jumps m (programOf s) v a n (reads v S) k)
 
-  pub performs-put : (n : Number) → ((c : Given) → Does m c words words′ before out r o (put-effect m (length before - r .put) n)) → Reads m s words r n a
+  pub performs-put : (n : Number) (end : ℕ) → end ≡ r .base + variables-in r
+      → ((c : Given) → Does m c words words′ before out r o (put-effect m (length before - r .put) n)) → Reads m s words r end n a
       → Performs m s input words words′ before out r o (Op.Put a)
-  performs-put n does reads =
+  performs-put n end is does reads =
       performs m s input words words′ before out r o (Op.Put a) (λ q. put-effect m (length before - r .put) n) does
       (λ c t q i S.
       let v = view (length words) (length before) t in
-      puts m (programOf s) v a n (reads v (sees-cut m (qualOf s) v words r (sees m c s words before r t q S))) (length before - r .put)
+      puts m (programOf s) v a n (reads v (sees-cut m (qualOf s) v words r end is (sees m c s words before r t q S))) (length before - r .put)
       (free-is m c words before r t S))
 
   pub performs-take : ((c : Given) → Does m c words words′ before out r o (take-effect m a (first-of (drop (r .taken) input))))

@@ -3,12 +3,13 @@ use Prim.Native.Nat.{ℕ, pred, _+_, _-_, _≤_, _<_}
 use native.Mathlib.Omega.{arith}
 use mathlib.Core.Path.{_≡_, refl, sym, ap, _∙_}
 use mathlib.Core.Bool.{Bool, true, false, not, _&&_}
-use mathlib.Core.List.{List, [], _∷_}
+use mathlib.Core.List.{List, [], _∷_, map}
 use mathlib.Core.Logic.{⊎-elim}
 use mathlib.Core.Option.{Option, none, some}
 use borrow.Author.Tests.{eqb-true, eqb-false, eq-eqb}
 use lib.Dec.{eqb}
 use lib.ListN.{length, getD, set, take, drop, length-set}
+use lib.Seq.{set-out}
 use Rattle.model.specs.Outcome.{blank, Res, ok, stop, stuck, _>>=_, _>>_}
 use Rattle.model.specs.Qualified.{Qual}
 use Rattle.model.specs.Program.{Program}
@@ -20,39 +21,28 @@ use Rattle.model.specs.declared.Operation.the-variants.{Return}
 use Rattle.sheet.specs.Layout.{instructionAt, procedureAt}
 use Rattle.sheet.specs.Decode.{operationAt}
 use Rattle.sheet.specs.Meaning.{programOf, qualOf}
-use Rattle.words.specs.Word.{low, back-kept, back-procedure, back-next, extent-variables, cell, slot-in}
-use Rattle.words.proofs.Laws.{blank-word, filled-word, back-word, extent-word}
+use Rattle.words.specs.Word.{back-kept, back-next, number-of, variables-of, first-of, IsProcedure, cell, slot-in}
+use Rattle.words.proofs.Laws.{blank-word, filled-word, back-word, procedure-told}
 use Rattle.writers.specs.declared.Registers.{Registers}
 use Rattle.writers.specs.declared.Stepped.{Stepped}
 use Rattle.writers.specs.declared.Stepped.the-variants.{Enter, Halt, Done}
-use Rattle.writers.specs.Memory.{Given, Sound, AllSound, Stands, StandsFor, flat-frames}
-use Rattle.writers.specs.Steps.{After, put-word}
+use Rattle.writers.specs.Memory.{Given, number-in, variables-in, Sound, AllSound, Stands, StandsFor, flat-frames}
+use Rattle.writers.specs.Steps.{After}
 use Rattle.writers.proofs.Effects.{stopped-after, goes-on}
-use Rattle.writers.proofs.View.{frames-are, view-sees, alone, waiting-back, waiting-extent, waiting-frame}
-use Rattle.writers.proofs.Change.{length-put-word, put-word-before, put-word-frame, set-variable}
+use Rattle.writers.proofs.View.{frames-are, view-sees, alone, waiting-back, waiting-procedure, waiting-frame}
+use Rattle.writers.proofs.Change.{set-before, set-frame, set-variable}
 use Rattle.frames.specs.Performs.{performed, Performs, Returns}
 use Rattle.frames.specs.Frames.{Waits, KeptIn, Keeps}
 use Rattle.frames.proofs.Kept.{optional-none, optional-some, optional-kept}
 
 -- ---- the registers of the frame that waits
 
-abbrev waiting-registers : Registers → (procedure next first variables : ℕ) → Registers
-waiting-registers r p i first v =
-    record {
-      procedure = p;
-      next = i;
-      first = first;
-      variables = v;
-      base = r .base + (r .variables + 2);
-      used = r .used;
-      taken = r .taken;
-      put = r .put;
-      steps = r .steps;
-    }
+abbrev waiting-registers : Registers → (procedure next above : ℕ) → Registers
+waiting-registers r w i above = record { procedure = w; next = i; base = above; used = r .used; taken = r .taken; put = r .put; steps = r .steps }
 
 module _ {m : Mode} {c : Given} {words out : List ℕ} {r : Registers} {p i q k : ℕ} {vs us : List (Cell m)} {gs : List (Frame m)} {os : List (Object m)}
     {input put : List ℕ} (S : Stands m c words out r p i vs (frame q k us ∷ gs) os input put) where
-  back-fits : r .base + (r .variables + 2) + (length us + 2) ≤ length words
+  back-fits : r .base + (variables-in r + 2) + (length us + 2) ≤ length words
   unfolding frame-units
   back-fits =
       let l : length words - r .base ≡ (length vs + 2) + ((length us + 2) + frame-units gs) = frames-are S in
@@ -64,22 +54,23 @@ module _ {m : Mode} {c : Given} {words out : List ℕ} {r : Registers} {p i q k 
   unfolding AllSound
   back-sound = S .waiting
 
-  stands-back : (procedure next first v : ℕ) → procedure ≡ q → next ≡ k → procedure < 64
-      → first ≡ instructionAt (c .sheet) (procedureAt (c .sheet) q) 0 → v ≡ length us → v < 256
-      → Stands m c words out (waiting-registers r procedure next first v) q k us gs os input put
-  stands-back procedure next first v at-q at-k small starts many few =
+  stands-back : (w next above : ℕ) → IsProcedure w × (q ≡ number-of w) × (length us ≡ variables-of w) × (instructionAt (c .sheet) (procedureAt (c .sheet) q) 0 ≡ first-of w)
+      → next ≡ k → above ≡ r .base + (variables-in r + 2) → Stands m c words out (waiting-registers r w next above) q k us gs os input put
+  stands-back w next above told at-k at =
       let room = S .sane .room in
       let fits = back-fits in
+      let many = told .2 in
       record {
-        procedure = at-q;
+        is-procedure = told .0;
+        procedure = sym (told .1);
         next = at-k;
-        first = starts;
-        variables = many;
-        sane = record { room = omega arith; frame = omega arith; small = S .sane .small; procedure = small; variables = few };
+        first = sym (told .3);
+        variables = sym many;
+        sane = record { room = omega arith; frame = omega arith; small = S .sane .small };
         running = back-sound .0;
         waiting = back-sound .1;
         objects = S .objects;
-        frames = waiting-frame S;
+        frames = rw at (waiting-frame S);
         input-left = S .input-left;
         put-words = S .put-words;
         output-is = S .output-is;
@@ -87,32 +78,36 @@ module _ {m : Mode} {c : Given} {words out : List ℕ} {r : Registers} {p i q k 
       }
 
 -- what the code reads of it
-pub waits : (words : List ℕ) (r : Registers) (place extent procedure next first v : ℕ)
-    → place ≡ getD words (r .base + r .variables) 0 → extent ≡ getD words (r .base + (r .variables + 1)) 0
-    → procedure ≡ back-procedure place → next ≡ back-next place → first ≡ low extent → v ≡ extent-variables extent
-    → (m : Mode) → Waits m words r (waiting-registers r procedure next first v)
-waits words r place extent procedure next first v place-is extent-is procedure-is next-is starts many m c p i q k vs us fs os input put out S =
+pub waits : (words : List ℕ) (r : Registers) (place w next end above : ℕ) → end ≡ r .base + variables-in r
+    → place ≡ getD words end 0 → w ≡ getD words (end + 1) 0 → next ≡ back-next place → above ≡ end + 2
+    → (m : Mode) → Waits m words r (waiting-registers r w next above)
+waits words r place w next end above ends place-is word-is next-is at m c p i q k vs us fs os input put out S =
     let slot = slot-in m (qualOf (c .sheet)) in
-    let at = back-word m (qualOf (c .sheet)) place (ap slot place-is ∙ waiting-back S) in
-    let of = extent-word m (qualOf (c .sheet)) extent (ap slot extent-is ∙ waiting-extent S) in
-    stands-back S procedure next first v (procedure-is ∙ sym (at .0)) (next-is ∙ sym (at .1)) (omega arith) (starts ∙ sym (of .1)) (many ∙ sym (of .0)) (omega arith)
+    let one : end + 1 ≡ r .base + (variables-in r + 1) = omega arith in
+    let two : above ≡ r .base + (variables-in r + 2) = omega arith in
+    stands-back S w next above (procedure-told m (qualOf (c .sheet)) w (ap slot (word-is ∙ ap (λ (n : ℕ). getD words n 0) one) ∙ waiting-procedure S))
+    (next-is ∙ sym (back-word m (qualOf (c .sheet)) place (ap slot (place-is ∙ ap (λ (n : ℕ). getD words n 0) ends) ∙ waiting-back S) .0)) two
 
-pub keeps-in : (words : List ℕ) (r : Registers) (place a : ℕ) → place ≡ getD words (r .base + r .variables) 0 → a ≡ back-kept place
+pub keeps-in : (words : List ℕ) (r : Registers) (place end a : ℕ) → end ≡ r .base + variables-in r → place ≡ getD words end 0 → a ≡ back-kept place
     → (m : Mode) → KeptIn m words r a
-keeps-in words r place a place-is kept-is m c p i q k vs us fs os input put out S =
-    kept-is ∙ sym (back-word m (qualOf (c .sheet)) place (ap (slot-in m (qualOf (c .sheet))) place-is ∙ waiting-back S) .2)
+keeps-in words r place end a ends place-is kept-is m c p i q k vs us fs os input put out S =
+    kept-is ∙ sym (back-word m (qualOf (c .sheet)) place (ap (slot-in m (qualOf (c .sheet))) (place-is ∙ ap (λ (n : ℕ). getD words n 0) ends) ∙ waiting-back S) .1)
 
 -- a variable of it that is written
-kept-put : (m : Mode) (words : List ℕ) (b : Registers) (a w : ℕ) → Keeps m words (put-word words (b .base) (b .variables) a w) b a w
-kept-put m words b a w c p i vs fs os input put out d is S =
-    let slot = slot-in m (qualOf (c .sheet)) in
-    goes-on S (put-word words (b .base) (b .variables) a w) (b .next) i (b .used) (set vs a d) os (S .next)
-    (length-put-word words (b .base) (b .variables) a w) (S .sane .room) (length-set vs a d)
-    (put-word-before slot words (b .base) (b .variables) a w (b .used) (S .sane .room) ∙ S .objects)
-    (put-word-frame slot words (b .base) (b .variables) a w ∙ rw (S .frames, is) (set-variable (b .variables) vs (flat-frames (c .sheet) fs) a d (S .variables)))
+module _ (m : Mode) (words words′ : List ℕ) (b : Registers) (a w : ℕ) where
+  pub keeps : a < variables-in b → words′ ≡ set words (b .base + a) w → Keeps m words words′ b a w
+  keeps l e c p i vs fs os input put out d is S =
+      let slot = slot-in m (qualOf (c .sheet)) in
+      goes-on S words′ (b .next) i (b .used) (set vs a d) os (S .next)
+      (ap length e ∙ length-set words (b .base + a) w) (S .sane .room) (length-set vs a d)
+      (ap (λ (l : List ℕ). take (b .used) (map slot l)) e ∙ set-before slot words (b .base) a w (b .used) (S .sane .room) ∙ S .objects)
+      (ap (λ (l : List ℕ). drop (b .base) (map slot l)) e ∙ set-frame slot words (b .base) a w ∙ rw (S .frames, is) (set-variable vs (flat-frames (c .sheet) fs) a d (rw (S .variables) at l)))
 
-pub keeps : (m : Mode) (words words′ : List ℕ) (b : Registers) (a w : ℕ) → words′ ≡ put-word words (b .base) (b .variables) a w → Keeps m words words′ b a w
-keeps m words words′ b a w e = rw e (kept-put m words b a w)
+  -- one that it has not is not
+  pub keeps-none : variables-in b ≤ a → words′ ≡ words → Keeps m words words′ b a w
+  keeps-none l e c p i vs fs os input put out d is S =
+      let past : length vs ≤ a = omega (arith, S .variables) in
+      rw (e, set-out vs a d past) S
 
 -- the variable that its call keeps
 kept-is : {m : Mode} {c : Given} {words out : List ℕ} {r : Registers} {p i q k : ℕ} {vs us : List (Cell m)} {gs : List (Frame m)} {os : List (Object m)}
@@ -130,7 +125,7 @@ pub planned-as : {m : Mode} (c : Given) (words out s : List ℕ) (r : Registers)
 planned-as c words out s r t o e d is h = rw is h
 
 -- main has no frame that waits
-pub returns-over : (m : Mode) (s words : List ℕ) (r : Registers) (value : Option (Cell m)) → length words ≤ r .base + (r .variables + 2)
+pub returns-over : (m : Mode) (s words : List ℕ) (r : Registers) (value : Option (Cell m)) → length words ≤ r .base + (variables-in r + 2)
     → (out : List ℕ) → Returns m s words words out r Done value
 unfolding to-caller _>>=_ apply
 returns-over m s words r value h out c (state (frame p i vs) [] os input put) same S = refl
@@ -138,7 +133,7 @@ returns-over m s words r value h out c (state (frame p i vs) (frame q k us ∷ g
     let fits = back-fits S in
     absurd (omega arith)
 
-module _ (m : Mode) (s words : List ℕ) (r : Registers) (a : ℕ) (above : r .base + (r .variables + 2) < length words) (K : KeptIn m words r a) where
+module _ (m : Mode) (s words : List ℕ) (r : Registers) (a : ℕ) (above : r .base + (variables-in r + 2) < length words) (K : KeptIn m words r a) where
   no-main : {c : Given} {out : List ℕ} {p i : ℕ} {vs : List (Cell m)} {os : List (Object m)} {input put : List ℕ}
       → Stands m c words out r p i vs [] os input put → ⊥
   no-main S = let l = alone S in omega arith
@@ -168,7 +163,7 @@ module _ (m : Mode) (s words : List ℕ) (r : Registers) (a : ℕ) (above : r .b
       -- it keeps a value: that is bound to its variable a, and kept there
       pub caller-binds : (value : Cell m) (out : List ℕ) (c : Given) (t : State m) → c .sheet ≡ s → StandsFor m c words out r t
           → to-caller m (programOf s) (view (length words) (length out) t) (view (length words) (length out) t .caller) (some value)
-          ≡ (moved m (programOf s) (view (length words) (length out) t) (programOf s .inner (b .procedure) a) value >>= λ d. ok (M.resume (some (a, d))))
+          ≡ (moved m (programOf s) (view (length words) (length out) t) (programOf s .inner (number-in b) a) value >>= λ d. ok (M.resume (some (a, d))))
       unfolding to-caller into-caller
       caller-binds value out c (state (frame p i vs) [] os input put) same S = absurd (no-main S)
       caller-binds value out c (state (frame p i vs) (frame q k us ∷ gs) os input put) same S =
@@ -194,7 +189,7 @@ Value-of qual w none = Unit {0}
 Value-of qual w (some d) = (x : Value) × ((d ≡ filled x tt) × (slot-in plain qual w ≡ cell d))
 
 -- the plain machine binds no rights; where it keeps what is not there it is stuck
-returns-kept : (s words : List ℕ) (r b : Registers) (a : ℕ) → r .base + (r .variables + 2) < length words
+returns-kept : (s words : List ℕ) (r b : Registers) (a : ℕ) → r .base + (variables-in r + 2) < length words
     → Waits plain words r b → KeptIn plain words r a → (a ≡ 255 → ⊥)
     → (w : ℕ) (words′ : List ℕ) → Keeps plain words words′ b a w
     → (value : Option (Cell plain)) (out : List ℕ) (c : Given) (t : State plain) → c .sheet ≡ s → StandsFor plain c words out r t
@@ -240,11 +235,12 @@ value-told w a h z = go (eqb a 255) refl (rw (eq-eqb w 0 z) at h)
     go false q h = absurd (let z : _≡_ {A = ℕ} 0 1 = cc in omega arith)
 
 -- the word of variable a, in the variables' part as the code cuts it
-module _ (s words : List ℕ) (r : Registers) (a w : ℕ) (word-is : w ≡ getD (take (r .base + r .variables - r .base) (drop (r .base) words)) a 0) where
+module _ (s words : List ℕ) (r : Registers) (a w end : ℕ) (ends : end ≡ r .base + variables-in r)
+    (word-is : w ≡ getD (take (end - r .base) (drop (r .base) words)) a 0) where
   variable-there : (c : Given) (out : List ℕ) (t : State plain) → StandsFor plain c words out r t
       → slot-in plain (qualOf (c .sheet)) w ≡ cell (view (length words) (length out) t .variable a)
   variable-there c out t S =
-      let e : r .base + r .variables - r .base ≡ r .variables = omega arith in
+      let e : end - r .base ≡ variables-in r = omega arith in
       ap (slot-in plain (qualOf (c .sheet))) (rw e at word-is) ∙ view-sees plain c words out r t S .variable a
 
   -- it is blank
@@ -281,12 +277,12 @@ module _ (s words : List ℕ) (r : Registers) (a w : ℕ) (word-is : w ≡ getD 
             ⊎-elim (λ y. filled-as n _ y) (λ y. filled-as n _ y)
             (filled-word plain (qualOf (c .sheet)) w (variable-there c out t S) (λ z. n (there z)))
 
-    pub gives-over : length words ≤ r .base + (r .variables + 2) → (input out : List ℕ) → Performs plain s input words words out out r Done (Return a)
+    pub gives-over : length words ≤ r .base + (variables-in r + 2) → (input out : List ℕ) → Performs plain s input words words out out r Done (Return a)
     gives-over h input out c t same from S =
         let y = handed-over c out t S in
         planned-as c words out s r t Done _ _ (y .1 .0) (returns-over plain s words r (y .0) h out c t same S)
 
-    module _ (b : Registers) (k : ℕ) (above : r .base + (r .variables + 2) < length words) (W : Waits plain words r b)
+    module _ (b : Registers) (k : ℕ) (above : r .base + (variables-in r + 2) < length words) (W : Waits plain words r b)
         (K : KeptIn plain words r k) where
       pub gives-dropped : k ≡ 255 → (input out : List ℕ) → Performs plain s input words words out out r (Enter b) (Return a)
       gives-dropped e input out c t same from S =

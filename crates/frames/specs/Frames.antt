@@ -1,6 +1,6 @@
 -- What it is to copy words, to open a frame, to find the one that waits and to keep a word in it; the last three in either machine: in each the words
 -- stand for the state with it.
-use Prim.Native.Nat.{ℕ, suc, pred, _+_, _-_, _^_, _≤_, _<_}
+use Prim.Native.Nat.{ℕ, suc, pred, _+_, _-_, _<_}
 use mathlib.Core.Path.{_≡_}
 use mathlib.Core.Bool.{Bool, true, false}
 use mathlib.Core.List.{List, _∷_, _++_, map}
@@ -8,12 +8,13 @@ use lib.ListN.{length, getD, take, drop, set, replicate}
 use Rattle.model.specs.Modes.{Mode}
 use Rattle.model.specs.Machine.{Cell, empty, Object, Frame, frame}
 use Rattle.model.specs.declared.Operation.the-variants.{Call}
-use Rattle.sheet.specs.Layout.{proceduresOf, formalsAt, variablesAt, instructionAt, procedureAt}
+use Rattle.sheet.specs.Layout.{proceduresOf, formalsAt, instructionAt, procedureAt}
 use Rattle.sheet.specs.Decode.{operationAt}
 use Rattle.sheet.specs.Meaning.{qualOf}
-use Rattle.words.specs.Word.{cell, slot-in}
+use Rattle.words.specs.Word.{cell, slot-in, variables-of}
+use Rattle.index.specs.Indexed.{ProcedureWord}
 use Rattle.writers.specs.declared.Registers.{Registers}
-use Rattle.writers.specs.Memory.{Given, kept-byte, slots, Stands}
+use Rattle.writers.specs.Memory.{Given, kept-byte, variables-in, slots, Stands}
 use Rattle.frames.specs.Fetch.{place-in}
 
 -- the words with n of them copied to another place
@@ -30,19 +31,17 @@ Copies words words′ from to n false = (j : ℕ) × (j < n) × (words′ ≡ co
 pub record Callable (s : List ℕ) (r : Registers) (a b k : ℕ) : Type 0 where
   pub here : operationAt s (place-in r) ≡ Call a b k
   pub next : r .next < 1000
-  pub first : r .first < 2 ^ 32
   pub procedure : k < proceduresOf s
-  pub actuals : (j : ℕ) → j < formalsAt s (procedureAt s k) → b + j < r .variables
+  pub actuals : (j : ℕ) → j < formalsAt s (procedureAt s k) → b + j < variables-in r
 
--- a frame of procedure k was opened below the running one, whose call keeps variable a: it has the f cells whose words stood at its place, and then
--- blank ones
-abbrev pub Opened : (m : Mode) → (words words′ : List ℕ) → (r q : Registers) → (a k first v f : ℕ) → Type 0
-Opened m words words′ r q a k first v f =
-    (c : Given) (p i : ℕ) (vs cs : List (Cell m)) (fs : List (Frame m)) (os : List (Object m)) (input put out : List ℕ) →
+-- a frame of the procedure of a word was opened below the running one, whose call keeps variable a: it has the f cells whose words stood at its place,
+-- and then blank ones
+abbrev pub Opened : (m : Mode) → (words words′ : List ℕ) → (r q : Registers) → (a w v f : ℕ) → Type 0
+Opened m words words′ r q a w v f =
+    (c : Given) (k p i : ℕ) (vs cs : List (Cell m)) (fs : List (Frame m)) (os : List (Object m)) (input put out : List ℕ) →
     Stands m c words out r p i vs fs os input put →
     a ≡ kept-byte (operationAt (c .sheet) (instructionAt (c .sheet) (procedureAt (c .sheet) p) i)) →
-    k < proceduresOf (c .sheet) → k < 64 →
-    first ≡ instructionAt (c .sheet) (procedureAt (c .sheet) k) 0 → v ≡ variablesAt (c .sheet) (procedureAt (c .sheet) k) →
+    k < proceduresOf (c .sheet) → ProcedureWord (c .sheet) k w → v ≡ variables-of w →
     slots m c (take f (drop (r .base - (v + 2)) words)) ≡ map cell cs →
     Stands m c words′ out q k 0 (cs ++ replicate (v - f) empty) (frame p (suc i) vs ∷ fs) os input put
 
@@ -58,11 +57,6 @@ KeptIn m words r a =
     (c : Given) (p i q k : ℕ) (vs us : List (Cell m)) (fs : List (Frame m)) (os : List (Object m)) (input put out : List ℕ) →
     Stands m c words out r p i vs (frame q k us ∷ fs) os input put →
     a ≡ kept-byte (operationAt (c .sheet) (instructionAt (c .sheet) (procedureAt (c .sheet) q) (pred k)))
-
--- its bounds, in a memory of n words
-pub record Reached (n : ℕ) (b : Registers) : Type 0 where
-  pub procedure : b .procedure < 64
-  pub base : b .base < n
 
 -- variable a of the running frame became the cell of a word; its next instruction is the same
 abbrev pub Keeps : (m : Mode) → (words words′ : List ℕ) → Registers → (a w : ℕ) → Type 0

@@ -8,4 +8,4 @@ returns c = c .back-word .ensures
 
 pub back-of-spec : {M : Type 1} → statement M
 back-of-spec =
-    tie.close (tie.spec (λ c. search needs) (λ c. search needs) (λ c. search needs) (λ c κs. search needs) returns)
+    tie.close (tie.spec (λ c. search needs) (λ c. search needs) (λ c κs. search needs) returns)

@@ -48,7 +48,7 @@ returns c =
       loop .j,
       turn,
       loop .inv .1 ∙ append-assoc (take (args .to) d) (take (loop .j) (drop (args .from) d)) (drop (args .to + loop .j) d),
-      sym (ap (λ l. getD l (args .from + loop .j) 0) (loop .inv .1) ∙ copied-word d (args .from) (args .to) (args .n) (loop .j) (pre .0) (pre .1) turn)
+      sym (ap (λ l. getD l (args .from + loop .j) 0) (loop .inv .1) ∙ copied-word d (args .from) (args .to) (args .n) (loop .j) (pre .0 .0) (pre .0 .1) (pre .1) turn)
           ∙ c .if1 .taken,
     )
 
@@ -74,9 +74,9 @@ loop-again c =
     let loop = c .before .before .before .loop in
     let d = now (args .memory) in
     let turn : loop .j < args .n = omega arith in
-    let word = ap (λ l. getD l (args .from + loop .j) 0) (loop .inv .1) ∙ copied-word d (args .from) (args .to) (args .n) (loop .j) (pre .0) (pre .1) turn in (
+    let word = ap (λ l. getD l (args .from + loop .j) 0) (loop .inv .1) ∙ copied-word d (args .from) (args .to) (args .n) (loop .j) (pre .0 .0) (pre .0 .1) (pre .1) turn in (
       omega arith,
-      rw (loop .inv .1) (copied-next d (args .from) (args .to) (args .n) (loop .j) (pre .0) (pre .1) turn),
+      rw (loop .inv .1) (copied-next d (args .from) (args .to) (args .n) (loop .j) (pre .0 .0) (pre .0 .1) (pre .1) turn),
       simp length-set (loop .inv .2),
       below-more (λ i. getD d (args .from + i) 0 ≡ 0 → ⊥) (loop .j) (loop .inv .3) (λ z. c .if1 .left (word ∙ z)),
     )

@@ -1,8 +1,8 @@
 -- Past the variables nothing is written, as `set` changes nothing there.
-use mathlib.Core.Path.{_∙_}
-use borrow.Author.Tests.{lt-ltb, le-ltb}
+use mathlib.Core.Path.{refl}
 use denote.Ref.{now}
-use Rattle.frames.proofs.Returning.{keeps}
+use Rattle.frames.proofs.Returning.{keeps, keeps-none}
+use native.Mathlib.Omega.{arith}
 use borrow.Author.Needs.{needs}
 use Rattle.frames.proofs.keep.Statement.{statement}
 use Rattle.frames.proofs.keep.Tie as tie
@@ -11,14 +11,18 @@ returns : tie.Need-returns
 returns c =
     let args = c .before .before .before .before .before .before .before .before .args in
     let if1 = c .before .before .before .before .before .if1 in
+    let variables-in = c .before .before .before .before .before .before .variables-in in
     let write = c .before .before .write in
-    λ m. keeps m (now (args .memory)) _ (args .b) (args .a) (args .w) (write .ensures ∙ rw (lt-ltb _ _ (if1 .taken)))
+    λ m. keeps m (now (args .memory)) _ (args .b) (args .a) (args .w) (omega (arith, if1 .taken, variables-in .ensures)) (write .ensures)
 
 returns-2 : tie.Need-returns-2
 returns-2 c =
     let args = c .before .before .before .args in
     let if1 = c .if1 in
-    λ m. keeps m (now (args .memory)) _ (args .b) (args .a) (args .w) (rw (le-ltb (args .a) (args .b .variables) (if1 .left)))
+    let variables-in = c .before .variables-in in
+    λ m. keeps-none m (now (args .memory)) _ (args .b) (args .a) (args .w) (omega (arith, if1 .left, variables-in .ensures)) refl
 
 pub keep-spec : {M : Type 1} → statement M
-keep-spec = tie.close (tie.spec (λ c. search needs) (λ c κs. search needs) (λ c. search needs) returns returns-2)
+keep-spec =
+    tie.close
+    (tie.spec (λ c κs. search needs) (λ c. search needs) (λ c κs. search needs) (λ c. search needs) returns returns-2)

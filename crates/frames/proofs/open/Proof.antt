@@ -12,13 +12,12 @@ slice-write-memory-2 c = rw length-set (omega arith)
 
 returns : tie.Need-returns
 returns c =
-    let args = c .before .before .before .before .before .before .before .before .args in
-    let pre = c .before .before .before .before .before .before .before .before .pre in
-    let clear = c .before .before .before .before .clear in
-    let back-of = c .before .back-of in
-    let extent-of = c .extent-of in
-    λ m. opens m (now (args .memory)) _ (args .r) (args .a) (args .k) (args .first) (args .v) (args .f) _ _ (pre .0) (pre .1 .1 .0 .0) (pre .1 .1 .0 .1) (pre .1 .1 .1)
-    (clear .ensures) (back-of .ensures m) (extent-of .ensures m)
+    let args = c .before .before .before .before .before .before .before .args in
+    let pre = c .before .before .before .before .before .before .before .pre in
+    let clear = c .before .before .before .clear in
+    let back-of = c .back-of in
+    λ m. opens m (now (args .memory)) _ (args .r) (args .a) (args .w) (args .v) (args .f) _ (pre .0) (pre .1 .1 .0 .1) (pre .1 .1 .1)
+    (clear .ensures) (back-of .ensures m)
 
 pub open-spec : {M : Type 1} → statement M
 open-spec =
@@ -36,7 +35,6 @@ open-spec =
     (λ c κs. search needs)
     (λ c. search needs)
     (λ c. search needs)
-    (λ c κs. search needs)
     (λ c. search needs)
     (λ c. search needs)
     slice-write-memory-2
