@@ -1,29 +1,35 @@
 -- What the plain machine's writers take, as the definition plans it.
-use Prim.Native.Nat.{ℕ, suc, _-_}
-use mathlib.Core.Path.{_≡_, refl, ap, _∙_}
+use Prim.Native.Nat.{ℕ, suc, _+_, _-_}
+use native.Mathlib.Omega.{arith}
+use mathlib.Core.Path.{_≡_, refl, ap, subst, _∙_}
 use mathlib.Core.List.{List}
 use mathlib.Core.Option.{Option}
 use lib.Dec.{leb}
-use lib.ListN.{length}
+use lib.ListN.{length, take, drop, length-drop}
+use lib.Seq.{length-take-le}
 use Rattle.model.specs.Outcome.{memory-full, Res, ok, ensure, _>>=_, _>>_}
 use Rattle.model.specs.Qualified.{Qual, integer}
 use Rattle.model.specs.Modes.{plain, bind, demand}
 use Rattle.model.specs.Program.{Program}
 use Rattle.model.specs.Machine.{View, new-array, plan, one-integer, held, moved, give, gives, plan-array, plan-record, view}
+use Rattle.model.specs.declared.Operation.{Operation}
 use Rattle.model.specs.declared.Operation.the-variants as Op
-use Rattle.sheet.specs.Layout.{slotsOf}
+use Rattle.sheet.specs.Layout.{slotsOf, ownerAt}
+use Rattle.sheet.specs.Decode.{operationAt}
 use Rattle.sheet.specs.Meaning.{programOf, qualOf}
-use Rattle.index.specs.Procedures.{procedure-in, owner-of}
+use Rattle.form.specs.Named.{Named}
+use Rattle.index.specs.Procedures.{place-of}
 use Rattle.words.specs.Answers.{Unless-stuck, number-as, given}
 use Rattle.words.specs.declared.Number.{Number}
 use Rattle.words.specs.declared.Number.the-variants.{Is}
 use Rattle.writers.specs.declared.Registers.{Registers}
 use Rattle.writers.specs.declared.Stepped.{Stepped}
-use Rattle.writers.specs.Memory.{Given}
+use Rattle.writers.specs.Memory.{Given, variables-in, Sane}
 use Rattle.writers.specs.Steps.{Does, take-effect, array-effect, record-effect}
 use Rattle.writers.proofs.View.{room-is}
-use Rattle.frames.specs.Performs.{Loaded, Performs}
-use Rattle.frames.proofs.Performs.{always, unless-then, Reads, sees-cut, sees, runs, running-word, performs}
+use Rattle.frames.specs.Performs.{Performs}
+use Rattle.frames.specs.Fetch.{place-in, Fetchable}
+use Rattle.frames.proofs.Performs.{always, unless-then, Reads, sees-cut, sees, runs, performs}
 
 -- what is planned, known whether or not the definition is stuck
 pub exactly : {A : Type 0} {e p : Res A} → e ≡ p → Unless-stuck p (e ≡ p)
@@ -54,22 +60,36 @@ records g v a room q t named n f e = rw (f, e)
 -- the plain machine keeps no types, so that any will do
 module _ (s input words words′ before out : List ℕ) (r : Registers) (o : Stepped) (a : ℕ) where
   pub performs-array : (b : ℕ) (n : Number) → ((c : Given) (q : Qual) → Does plain c words words′ before out r o (array-effect plain (r .base - r .used) a q n))
-      → Reads plain s words r n b
+      → (end : ℕ) → end ≡ r .base + variables-in r → Reads plain s words r end n b
       → Performs plain s input words words′ before out r o (Op.NewArray a b)
-  performs-array b n does reads =
+  performs-array b n does end is reads =
       performs plain s input words words′ before out r o (Op.NewArray a b) (λ q. array-effect plain (r .base - r .used) a integer n) (λ c. does c integer)
       (λ c t q i S.
       let v = view (length words) (length before) t in
       arrays (programOf s) v a b integer n (r .base - r .used) (room-is plain c words before r t S)
-      (reads v (sees-cut plain (qualOf s) v words r (sees plain c s words before r t q S))))
+      (reads v (sees-cut plain (qualOf s) v words r end is (sees plain c s words before r t q S))))
 
-  -- its slots are those of the owner in the procedure's word
-  pub performs-record : (index : List ℕ) (w n : ℕ) → Loaded s index → w ≡ procedure-in index (r .procedure) → n ≡ slotsOf s (owner-of w)
+  -- its slots are those of the owner in the procedure's PR
+  pub performs-record : (pr n : ℕ) → pr ≡ place-of (r .procedure) → n ≡ slotsOf s (ownerAt s pr)
       → ((c : Given) (q : Qual) (t named : ℕ) → Does plain c words words′ before out r o (record-effect plain (r .base - r .used) a q t named n))
       → Performs plain s input words words′ before out r o (Op.NewRecord a)
-  performs-record index w n L is e does =
+  performs-record pr n is e does =
       performs plain s input words words′ before out r o (Op.NewRecord a) (λ q. record-effect plain (r .base - r .used) a integer 0 0 n) (λ c. does c integer 0 0)
       (λ c t q i S.
       let v = view (length words) (length before) t in
       exactly (records (programOf s) v a (r .base - r .used) integer 0 0 n (room-is plain c words before r t S)
-      (e ∙ ap (slotsOf s) (ap owner-of is ∙ running-word s index r v L (runs plain c s words before r t q S) .owner))))
+      (e ∙ ap (λ (at : ℕ). slotsOf s (ownerAt s at)) (is ∙ runs plain c s words before r t q S .place))))
+
+-- ---- variables that are the frame's
+
+-- the part that the code cuts has as many words
+pub cut-length : (words : List ℕ) (r : Registers) (end : ℕ) → Sane (length words) r → end ≡ r .base + variables-in r
+    → length (take (end - r .base) (drop (r .base) words)) ≡ variables-in r
+cut-length words r end sane is =
+    let frame = sane .frame in
+    let n : end - r .base ≡ variables-in r = omega arith in
+    rw n (length-take-le (variables-in r) (drop (r .base) words) (rw length-drop (omega arith)))
+
+-- those that the instruction names
+pub named-as : {s : List ℕ} {r : Registers} {op : Operation} → Fetchable s r → operationAt s (place-in r) ≡ op → Named (variables-in r) op
+named-as {r = r} F e = subst (Named (variables-in r)) e (F .named)

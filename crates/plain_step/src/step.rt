@@ -59,7 +59,7 @@ pub fn step(
         Operation::Fetch(a, b, c) => fetch(memory, r, a, b, c),
         Operation::Store(a, b, c) => store(memory, r, a, b, c),
         Operation::Size(a, b) => size(memory, r, a, b),
-        Operation::NewRecord(a) => new_record(s, index, memory, r, a),
+        Operation::NewRecord(a) => new_record(s, memory, r, a),
         Operation::GetSlot(a, b, k) => get_slot(memory, r, a, b, k),
         Operation::SetSlot(a, b, k) => set_slot(memory, r, a, b, k),
         Operation::Call(a, b, k) => call(s, index, memory, r, a, b, k),

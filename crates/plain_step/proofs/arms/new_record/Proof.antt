@@ -9,10 +9,9 @@ returns : tie.Need-returns
 returns c =
     let args = c .before .before .before .before .before .before .before .before .args in
     let give-record = c .before .before .give-record in
-    let pre = c .before .before .before .before .before .before .before .before .pre in
-    let procedure-word = c .before .before .before .before .before .procedure-word in
-    let slots-by = c .before .before .before .before .slots-by in
-    λ input out. performs-record (now (args .s)) input (now (args .memory)) (give-record .last .0) out out (args .r) (give-record .result) (args .a) (now (args .index)) _ _ (pre .0) (procedure-word .ensures) (slots-by .ensures) (λ d. give-record .ensures d out)
+    let place-in = c .before .before .before .before .before .place-in in
+    let owner-slots = c .before .before .before .before .owner-slots in
+    λ input out. performs-record (now (args .s)) input (now (args .memory)) (give-record .last .0) out out (args .r) (give-record .result) (args .a) _ _ (place-in .ensures) (owner-slots .ensures) (λ d. give-record .ensures d out)
 
 pub new-record-spec : {M : Type 1} → statement M
 new-record-spec =

@@ -1,10 +1,10 @@
 -- The next input word is that which the state has left.
-use borrow.Author.Needs.{needs}
 use denote.Ref.{now}
 use Rattle.model.specs.Modes.{plain}
 use Rattle.sheet.specs.Meaning.{programOf}
 use Rattle.frames.proofs.Performs.{performs-take}
-use Rattle.plain_step.proofs.Laws.{takes, exactly}
+use Rattle.plain_step.proofs.Laws.{exactly, takes}
+use borrow.Author.Needs.{needs}
 use Rattle.plain_step.proofs.arms.take.Statement.{statement}
 use Rattle.plain_step.proofs.arms.take.Tie as tie
 
