@@ -1,6 +1,13 @@
 -- The operation at the place is the one matched, and its arm performs it.
-use mathlib.Core.Path.{sym, _∙_}
+use Prim.Native.Nat.{_<_}
+use mathlib.Core.Path.{_≡_, sym, _∙_}
+use lib.ListN.{length}
 use denote.Ref.{now}
+use Rattle.model.specs.declared.Operation.{Operation}
+use Rattle.sheet.specs.Decode.{operationAt}
+use Rattle.form.specs.Named.{Named}
+use Rattle.writers.specs.Memory.{Sane, variables-in}
+use Rattle.frames.specs.Fetch.{place-in}
 use Rattle.frames.proofs.Fetched.{code-operation, code-whole, callable}
 use Rattle.plain_step.proofs.Laws.{named-as}
 use borrow.Author.Needs.{needs}
@@ -12,6 +19,21 @@ operation-whole-requires c κs =
     let args = c .before .before .before .before .before .before .args in
     let pre = c .before .before .before .before .before .before .pre in
     code-whole (now (args .s)) (args .r) (now (args .code)) (pre .1 .1 .1) (pre .1 .1 .0)
+
+-- it is the operation at the place that the registers name
+fetched : (c : tie.After-operation-whole) → operationAt (c .before .before .before .before .before .before .before .args .s .now) (place-in (c .before .before .before .before .before .before .before .args .r)) ≡ c .operation-whole .result
+fetched c =
+    let args = c .before .before .before .before .before .before .before .args in
+    let pre = c .before .before .before .before .before .before .before .pre in
+    sym (c .operation-whole .ensures ∙ code-operation (now (args .s)) (args .r) (now (args .code)) (pre .1 .1 .1))
+
+-- what an arm is owed: the variables that the operation names are the frame's
+owed : (c : tie.After-operation-whole) {op : Operation} → c .operation-whole .result ≡ op
+    → let args = c .before .before .before .before .before .before .before .args in
+    Sane (length (now (args .memory))) (args .r) × ((args .r .next < 1000) × Named (variables-in (args .r)) op)
+owed c e =
+    let pre = c .before .before .before .before .before .before .before .pre in
+    (pre .1 .0, (pre .1 .1 .0 .next, named-as (pre .1 .1 .0) (fetched c ∙ e)))
 
 set-requires : tie.Need-set-requires
 set-requires c κs =
