@@ -36,11 +36,12 @@ module _ (m : Mode) (c : Given) (words out : List ℕ) (r : Registers) where
 pub counted-stands : (m : Mode) (c : Given) (words out : List ℕ) (r q : Registers) (t : State m) → StandsFor m c words out q t → StandsFor m c words out (counted r q) t
 counted-stands m c words out r q (state (frame p i vs) fs os input put) S =
     record {
+      is-procedure = S .is-procedure;
       procedure = S .procedure;
       next = S .next;
       first = S .first;
       variables = S .variables;
-      sane = record { room = S .sane .room; frame = S .sane .frame; small = S .sane .small; procedure = S .sane .procedure; variables = S .sane .variables };
+      sane = record { room = S .sane .room; frame = S .sane .frame; small = S .sane .small };
       running = S .running;
       waiting = S .waiting;
       objects = S .objects;

@@ -26,8 +26,6 @@ counted r q =
     record {
       procedure = q .procedure;
       next = q .next;
-      first = q .first;
-      variables = q .variables;
       base = q .base;
       used = q .used;
       taken = q .taken;
