@@ -1,6 +1,6 @@
 -- An operation of the watched machine does what is planned. Nothing here leaves room for a stuck definition.
 use Prim.Native.Nat.{ℕ}
-use mathlib.Core.Path.{_≡_, subst}
+use mathlib.Core.Path.{_≡_, sym, subst, _∙_}
 use mathlib.Core.List.{List}
 use lib.ListN.{length}
 use Rattle.model.specs.Outcome.{Res, ok, _>>=_}
@@ -20,8 +20,8 @@ use Rattle.frames.specs.Performs.{performed, Performs}
 use Rattle.frames.proofs.Performs.{Running}
 use Rattle.watched_calls.specs.Calls.{PlaceOf}
 
-pub at-place : (s : List ℕ) (r : Registers) (pr : ℕ) (v : View watched) → PlaceOf s r pr → Running s r v → procedureAt s (v .procedure) ≡ pr
-at-place s r pr v A R = rw (R .procedure) (A (rw (← R .procedure) (R .known)))
+pub at-place : (s : List ℕ) (r : Registers) (pr : ℕ) (v : View watched) → PlaceOf r pr → Running s r v → procedureAt s (v .procedure) ≡ pr
+at-place s r pr v A R = sym (R .place) ∙ A
 
 -- a stop that was planned
 pub stopped-as : (c : Given) (words out s : List ℕ) (r : Registers) (t : State watched) → StandsFor watched c words out r t
