@@ -1,4 +1,5 @@
 -- Main's return, a result that is dropped, and one that is bound to the variable that keeps it.
+use native.Mathlib.Omega.{arith}
 use borrow.Author.Needs.{needs}
 use denote.Ref.{now}
 use Rattle.model.specs.Modes.{watched}
@@ -6,7 +7,6 @@ use Rattle.frames.proofs.Returning.{returns-over, returns-dropped}
 use Rattle.watched_calls.proofs.Returning.{returns-kept, returns-refused}
 use Rattle.watched_calls.proofs.resume_with.Statement.{statement}
 use Rattle.watched_calls.proofs.resume_with.Tie as tie
-use native.Mathlib.Omega.{arith}
 
 returns : tie.Need-returns
 returns c =

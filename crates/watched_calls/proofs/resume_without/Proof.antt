@@ -1,4 +1,5 @@
 -- Main's return, a result that is dropped, and one that is kept and is not there.
+use native.Mathlib.Omega.{arith}
 use mathlib.Core.Option.{none}
 use borrow.Author.Needs.{needs}
 use denote.Ref.{now}
@@ -7,7 +8,6 @@ use Rattle.frames.proofs.Returning.{returns-over, returns-dropped}
 use Rattle.watched_calls.proofs.Returning.{returns-lacking}
 use Rattle.watched_calls.proofs.resume_without.Statement.{statement}
 use Rattle.watched_calls.proofs.resume_without.Tie as tie
-use native.Mathlib.Omega.{arith}
 
 returns : tie.Need-returns
 returns c =
