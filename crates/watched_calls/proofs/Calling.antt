@@ -16,12 +16,11 @@ use Rattle.model.specs.Modes.{watched, demand}
 use Rattle.model.specs.Machine as M
 use Rattle.model.specs.Machine.{Cell, frame, state, View, view, apply, actual, actuals, plan, plan-call}
 use Rattle.model.specs.declared.Operation.the-variants.{Call}
-use Rattle.sheet.specs.Layout.{proceduresOf, procedureAt, formalsAt, variablesAt, instructionAt, resultAt}
+use Rattle.sheet.specs.Layout.{proceduresOf, procedureAt, formalsAt, variablesAt, resultAt}
 use Rattle.sheet.specs.Decode.{operationAt}
 use Rattle.sheet.specs.Meaning.{qualOf, programOf, resultIn}
-use Rattle.index.specs.Procedures.{formals-of, variables-of, result-of}
 use Rattle.index.specs.Indexed.{ProcedureWord}
-use Rattle.words.specs.Word.{cell, slot-in, as-cell}
+use Rattle.words.specs.Word.{cell, slot-in, as-cell, formals-of, variables-of}
 use Rattle.words.specs.Sees.{Sees}
 use Rattle.words.specs.Answers.{halted, IsCell}
 use Rattle.words.specs.declared.Number.the-variants as N
@@ -30,7 +29,7 @@ use Rattle.words.specs.declared.Moved.the-variants as Mv
 use Rattle.binding.specs.Binds.{moved-cell}
 use Rattle.writers.specs.declared.Registers.{Registers}
 use Rattle.writers.specs.declared.Stepped.the-variants.{Enter, Halt}
-use Rattle.writers.specs.Memory.{object-part, frame-part, SeesIn}
+use Rattle.writers.specs.Memory.{variables-in, object-part, frame-part, SeesIn}
 use Rattle.writers.proofs.Effects.{halted-then, does-stop, gap-kept, gap-stands}
 use Rattle.writers.proofs.View.{room-is}
 use Rattle.frames.specs.Performs.{Performs}
@@ -69,7 +68,7 @@ module _ {s words words′ : List ℕ} {r : Registers} {k b at j n : ℕ} (B : B
   sees-still : (v : View watched) → SeesIn watched (qualOf s) v words r → SeesIn watched (qualOf s) v words′ r
   sees-still v S =
       subst (λ (h : List ℕ). Sees watched (qualOf s) v (frame-part r words′) h) (sym (B .gap .objects))
-      (subst (λ (d : List ℕ). Sees watched (qualOf s) v (take (r .variables) d) (object-part r words)) (sym (B .gap .frames)) S)
+      (subst (λ (d : List ℕ). Sees watched (qualOf s) v (take (variables-in r) d) (object-part r words)) (sym (B .gap .frames)) S)
 
   module _ (m : Moved) (n′ : ℕ) (left : n ≡ suc n′)
       (is : (v : View watched) → SeesIn watched (qualOf s) v words′ r → moved-cell (qualOf s) m ≡ actual watched (programOf s) v k b j) where
@@ -163,12 +162,13 @@ module _ (g : Program) (v : View watched) (a b k : ℕ) where
     plan-bound h x e = rw (kept, le-leb (g .variables k + 2) (v .room) h, e)
 
 -- its word has no more formals than variables
-pub formals-few : {s : List ℕ} {at w f v : ℕ} → ProcedureWord s at w → formalsAt s at ≤ variablesAt s at → f ≡ formals-of w → v ≡ variables-of w → f ≤ v
+pub formals-few : {s : List ℕ} {k w f v : ℕ} → ProcedureWord s k w → formalsAt s (procedureAt s k) ≤ variablesAt s (procedureAt s k) → f ≡ formals-of w → v ≡ variables-of w → f ≤ v
 formals-few C few is-f is-v = rw (is-f, is-v, C .formals, C .variables) few
 
-module _ (s words : List ℕ) (r : Registers) (a b k w : ℕ) (C : ProcedureWord s (procedureAt s k) w) {t : ℕ} (result : t ≡ result-of w) where
+module _ (s words : List ℕ) (r : Registers) (a b k w : ℕ) (C : ProcedureWord s k w) {t pr : ℕ} (at : pr ≡ procedureAt s k)
+    (result : t ≡ resultAt s pr) where
   keeps-told : {x : Bool} → not (eqb a 255) && eqb t 255 ≡ x → keeps (optional a) (programOf s .result k) ≡ not x
-  keeps-told e = keeps-is s (procedureAt s k) a ∙ rw (← C .result, ← result, e)
+  keeps-told e = keeps-is s (procedureAt s k) a ∙ rw (← at, ← result, e)
 
   pub call-unkept : not (eqb a 255) && eqb t 255 ≡ true → (input out : List ℕ) → Performs watched s input words words out out r (Halt 18) (Call a b k)
   call-unkept e input out =
@@ -205,17 +205,16 @@ module _ (s words : List ℕ) (r : Registers) (a b k w : ℕ) (C : ProcedureWord
           (call-is seen (room-is watched c words out r t S) (halted watched x) (stops .1 seen (sees watched c s words out r t same S))
           ∙ halted-then watched x (λ cs. ok (M.call k cs)))
 
-      pub call-goes : (words′ words″ : List ℕ) (q : Registers) (first : ℕ) → Bound s words words′ r k b (r .base - (v + 2)) f 0
-          → first ≡ instructionAt s (procedureAt s k) 0 → k < proceduresOf s → k < 64
-          → Opened watched words′ words″ r q a k first v f → operationAt s (place-in r) ≡ Call a b k
+      pub call-goes : (words′ words″ : List ℕ) (q : Registers) → Bound s words words′ r k b (r .base - (v + 2)) f 0
+          → k < proceduresOf s → Opened watched words′ words″ r q a w v f → operationAt s (place-in r) ≡ Call a b k
           → (input out : List ℕ) → Performs watched s input words words″ out out r (Enter q) (Call a b k)
       unfolding _>>=_ apply
-      call-goes words′ words″ q first B starts known small P here input out c (state (frame p i vs) fs os left put) same from S =
+      call-goes words′ words″ q B known P here input out c (state (frame p i vs) fs os left put) same from S =
           let t = state (frame p i vs) fs os left put in
           let seen = view (length words) (length out) t in
           let cs = cells-at s words′ (r .base - (v + 2)) f in
           let is : plan watched (programOf s) seen (Call a b k) ≡ ok (M.call k cs) =
           call-is seen (room-is watched c words out r t S) (ok cs) (bound-all B seen (sees watched c s words out r t same S)) in
           rw (is, variables-are, formals-are)
-          (P c p i vs cs fs os left put out (gap-kept S words′ (B .gap)) (kept-here S a b k (rw same here)) (rw same known) small
-          (rw same starts) (rw same (sym variables-are)) (rw same (B .cells)))
+          (P c k p i vs cs fs os left put out (gap-kept S words′ (B .gap)) (kept-here S a b k (rw same here)) (rw same known) (rw same C) many
+          (rw same (B .cells)))

@@ -14,10 +14,9 @@ use Rattle.model.specs.Modes.{watched, demand, amiss}
 use Rattle.model.specs.Machine as M
 use Rattle.model.specs.Machine.{Cell, frame, State, state, View, view, moved, handed, to-caller, plan, plan-return}
 use Rattle.model.specs.declared.Operation.the-variants.{Return}
-use Rattle.sheet.specs.Layout.{proceduresOf, resultAt, procedureAt, innerAt}
+use Rattle.sheet.specs.Layout.{resultAt, procedureAt, innerAt}
 use Rattle.sheet.specs.Meaning.{qualOf, programOf, innerIn, resultIn}
-use Rattle.index.specs.Procedures.{procedure-in, place-of}
-use Rattle.index.specs.Indexed.{Ready}
+use Rattle.index.specs.Procedures.{place-of}
 use Rattle.words.specs.Word.{slot-in, as-cell}
 use Rattle.words.specs.Answers.{halted, IsCell}
 use Rattle.words.specs.declared.Moved.{Moved}
@@ -26,7 +25,7 @@ use Rattle.binding.specs.Binds.{moved-cell, handed-cell, BindsWord}
 use Rattle.writers.specs.declared.Registers.{Registers}
 use Rattle.writers.specs.declared.Stepped.{Stepped}
 use Rattle.writers.specs.declared.Stepped.the-variants.{Enter, Halt}
-use Rattle.writers.specs.Memory.{Given, object-part, StandsFor}
+use Rattle.writers.specs.Memory.{Given, number-in, variables-in, object-part, StandsFor}
 use Rattle.writers.proofs.Effects.{halted-then}
 use Rattle.writers.proofs.View.{alone}
 use Rattle.frames.specs.Performs.{Performs, Returns}
@@ -78,20 +77,22 @@ module _ (s : List ℕ) (v : View watched) (pr a : ℕ) (at : procedureAt s (v .
 
 -- ---- the frame that waits
 
-module _ (s words : List ℕ) (r : Registers) (a : ℕ) (above : r .base + (r .variables + 2) < length words) (K : KeptIn watched words r a)
+module _ (s words : List ℕ) (r : Registers) (a : ℕ) (above : r .base + (variables-in r + 2) < length words) (K : KeptIn watched words r a)
     (n : a ≡ 255 → ⊥) where
   pub returns-lacking : (out : List ℕ) → Returns watched s words words out r (Halt 18) none
   unfolding halted
   returns-lacking out c t same S = stopped-as c words out s r t S 18 _ (caller-lacks watched s words r a above K n out c t same S)
 
   module _ (b : Registers) (W : Waits watched words r b) where
-    back-known : (c : Given) (out : List ℕ) (t : State watched) → c .sheet ≡ s → StandsFor watched c words out r t → b .procedure < proceduresOf s
-    back-known c out (state (frame p i vs) [] os input put) same S = let l = alone S in absurd (omega arith)
-    back-known c out (state (frame p i vs) (frame q k us ∷ gs) os input put) same S =
+    -- where its PR stands
+    back-place : (c : Given) (out : List ℕ) (t : State watched) → c .sheet ≡ s → StandsFor watched c words out r t
+        → place-of (b .procedure) ≡ procedureAt s (number-in b)
+    back-place c out (state (frame p i vs) [] os input put) same S = let l = alone S in absurd (omega arith)
+    back-place c out (state (frame p i vs) (frame q k us ∷ gs) os input put) same S =
         let B = W c p i q k vs us gs os input put out S in
-        rw (B .procedure) (rw same at (B .running .procedure))
+        runs watched c s words out b (state (frame q k us) gs os input put) same B .place ∙ ap (procedureAt s) (sym (B .procedure))
 
-    module _ (index : List ℕ) (ready : Ready s index) (w pr : ℕ) (is-cell : IsCell w) (m : Moved) (at : pr ≡ place-of (procedure-in index (b .procedure)))
+    module _ (w pr : ℕ) (is-cell : IsCell w) (m : Moved) (at : pr ≡ place-of (b .procedure))
         (is : BindsWord (qualOf s) (object-part r words) (innerAt s pr a) w m) where
       -- the value, bound to the variable that is kept
       bound-kept : (out : List ℕ) (c : Given) (t : State watched) → c .sheet ≡ s → StandsFor watched c words out r t
@@ -99,13 +100,12 @@ module _ (s words : List ℕ) (r : Registers) (a : ℕ) (above : r .base + (r .v
           ≡ (moved-cell (qualOf s) m >>= λ d. ok (M.resume (some (a, d))))
       unfolding innerIn
       bound-kept out c t same S =
-          let known = back-known c out t same S in
           let v = view (length words) (length out) t in
           let value = as-cell (slot-in watched (qualOf s) w) in
           caller-binds watched s words r a above K b W n value out c t same S
           ∙ ap (λ (x : Res (Cell watched)). x >>= λ d. ok (M.resume (some (a, d))))
           (sym (is .moves (programOf s) v value (sees watched c s words out r t same S .head) (is-cell watched (qualOf s))
-          ∙ ap (λ (p : ℕ). moved watched (programOf s) v (qualOf s (innerAt s p a)) value) (at ∙ ready .places (b .procedure) (omega arith))))
+          ∙ ap (λ (p : ℕ). moved watched (programOf s) v (qualOf s (innerAt s p a)) value) (at ∙ back-place c out t same S)))
 
       pub returns-refused : {k : ℕ} → m ≡ Mv.Halt k → (out : List ℕ)
           → Returns watched s words words out r (Halt k) (some (as-cell (slot-in watched (qualOf s) w)))
@@ -134,7 +134,7 @@ returned : (g : Program) (v : View watched) (a : ℕ) → plan watched g v (Retu
 unfolding plan plan-return hands
 returned g v a = tested-both _ (handed watched g v (optional a)) (λ c. to-caller watched g v (v .caller) c)
 
-module _ (s words words′ : List ℕ) (r : Registers) (a pr : ℕ) (A : PlaceOf s r pr) (h : Handed)
+module _ (s words words′ : List ℕ) (r : Registers) (a pr : ℕ) (A : PlaceOf r pr) (h : Handed)
     (is : HandsOver s words r pr a h) where
   return-is : (c : Given) (out : List ℕ) (t : State watched) → c .sheet ≡ s → StandsFor watched c words out r t
       → plan watched (programOf s) (view (length words) (length out) t) (Return a)

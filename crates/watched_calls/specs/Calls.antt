@@ -1,5 +1,5 @@
 -- What a call and a return of the watched machine ask for, and what the code answers there.
-use Prim.Native.Nat.{ℕ, _+_, _<_}
+use Prim.Native.Nat.{ℕ, _+_}
 use mathlib.Core.Path.{_≡_}
 use mathlib.Core.List.{List, _++_, map}
 use mathlib.Core.Option.{Option, none}
@@ -10,8 +10,9 @@ use Rattle.model.specs.Rules.{optional}
 use Rattle.model.specs.Outcome.{Res, ok, _>>=_, _>>_}
 use Rattle.model.specs.Modes.{watched, demand}
 use Rattle.model.specs.Machine.{Cell, View, actual, actuals, handed, returns-well}
-use Rattle.sheet.specs.Layout.{proceduresOf, procedureAt}
+use Rattle.sheet.specs.Layout.{procedureAt}
 use Rattle.sheet.specs.Meaning.{qualOf, programOf}
+use Rattle.index.specs.Procedures.{place-of}
 use Rattle.words.specs.Word.{cell, slot-in, as-cell}
 use Rattle.words.specs.Answers.{halted, IsCell, MovedOk}
 use Rattle.words.specs.declared.Number.{Number}
@@ -24,9 +25,9 @@ use Rattle.writers.specs.Memory.{SeesIn, GapOnly}
 use Rattle.watched_calls.specs.declared.Handed.{Handed}
 use Rattle.watched_calls.specs.declared.Handed.the-variants as H
 
--- pr is the place of the registers' procedure, where that is one of the sheet's
-abbrev pub PlaceOf : List ℕ → Registers → ℕ → Type 0
-PlaceOf s r pr = r .procedure < proceduresOf s → procedureAt s (r .procedure) ≡ pr
+-- pr is where the running procedure's PR stands
+abbrev pub PlaceOf : Registers → ℕ → Type 0
+PlaceOf r pr = place-of (r .procedure) ≡ pr
 
 -- ---- a call
 

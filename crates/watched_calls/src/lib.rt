@@ -3,25 +3,23 @@
 use binding::actual_word;
 use binding::bind_word;
 use binding::result_word;
-use frames::first_in;
 use frames::keep;
 use frames::kept_in;
 use frames::open;
 use frames::waiting;
 use index::Index;
-use index::procedures::formals_in;
 use index::procedures::place_in;
-use index::procedures::place_of;
-use index::procedures::procedure_word;
-use index::procedures::result_in;
-use index::procedures::variables_in;
+use index::procedures::procedure_in;
 use sheet::fields::field;
 use sheet::fields::inner_of;
 use words::Moved;
 use words::Number;
+use words::formals_in;
 use words::read;
+use words::variables_in;
 use writers::Registers;
 use writers::Stepped;
+use writers::frame_end;
 ghost use mathlib.Core.Path.{_≡_};
 ghost use mathlib.Core.List.{List};
 ghost use mathlib.Core.Option.{none, some};
@@ -47,7 +45,7 @@ fn actual_in(s: &[u8], index: &Index, pr: u32, memory: &[u64], r: Registers, b: 
     ensures { λ m. ⌜ ActualIn (now (s .entry)) (now (memory .entry)) r pr b j m ⌝ }
 {
     let base = r.base;
-    let end = base + r.variables;
+    let end = frame_end(r);
     let used = r.used;
     let w = read(&memory[base..end], (b as usize) + (j as usize));
     actual_word(s, index, &memory[..used], pr, j, w)
@@ -99,8 +97,9 @@ pub fn call(
     requires { ⌜ Callable (now s) r a b k ⌝ }
     ensures { λ o. ⌜ PerformsInside watched (now (s .entry)) (now (memory .entry)) (now (memory .exit)) r o (Op.Call a b k) ⌝ }
 {
-    let callee = procedure_word(index, k as usize);
-    if (a != 255) & (result_in(callee) == 255) {
+    let callee = procedure_in(index, k as usize);
+    let pr = place_in(callee);
+    if (a != 255) & (field(s, pr, 5) == 255) {
         return Stepped::Halt(18);
     }
     let v = variables_in(callee) as usize;
@@ -108,17 +107,8 @@ pub fn call(
         return Stepped::Halt(17);
     }
     let f = formals_in(callee);
-    match bind_actuals(
-        s,
-        index,
-        place_in(callee),
-        memory,
-        r,
-        b,
-        r.base - (v + 2),
-        f,
-    ) {
-        Number::Is(_) => { Stepped::Enter(open(memory, r, a, k as usize, first_in(callee), v, f)) }
+    match bind_actuals(s, index, pr, memory, r, b, r.base - (v + 2), f) {
+        Number::Is(_) => Stepped::Enter(open(memory, r, a, callee, v, f)),
         Number::Halt(n) => Stepped::Halt(n),
     }
 }
@@ -147,7 +137,7 @@ fn handed_by(s: &[u8], index: &Index, pr: u32, memory: &[u64], r: Registers, a: 
         return Handed::Halt(18);
     }
     let base = r.base;
-    let end = base + r.variables;
+    let end = frame_end(r);
     let used = r.used;
     let w = read(&memory[base..end], a as usize);
     match result_word(s, index, &memory[..used], pr, w) {
@@ -161,7 +151,7 @@ fn resume_without(memory: &[u64], r: Registers) -> Stepped
     requires { ⌜ Sane (length (now memory)) r ⌝ }
     ensures { λ o. ⌜ ((s out : List ℕ) → Returns watched s (now (memory .entry)) (now (memory .entry)) out r o none) ⌝ }
 {
-    if memory.len() <= r.base + (r.variables + 2) {
+    if memory.len() <= frame_end(r) + 2 {
         return Stepped::Done;
     }
     if kept_in(memory, r) == 255 {
@@ -186,7 +176,7 @@ fn resume_with(s: &[u8], index: &Index, memory: &mut [u64], r: Registers, w: u64
     requires { ⌜ IsCell w ⌝ }
     ensures { λ o. ⌜ ((out : List ℕ) → Returns watched (now (s .entry)) (now (memory .entry)) (now (memory .exit)) out r o (some (as-cell (slot-in watched (qualOf (now (s .entry))) w)))) ⌝ }
 {
-    if memory.len() <= r.base + (r.variables + 2) {
+    if memory.len() <= frame_end(r) + 2 {
         return Stepped::Done;
     }
     let back = waiting(memory, r);
@@ -194,8 +184,8 @@ fn resume_with(s: &[u8], index: &Index, memory: &mut [u64], r: Registers, w: u64
     if kept == 255 {
         return Stepped::Enter(back);
     }
-    let p = back.procedure;
-    match bind_kept(s, index, place_of(index, p), memory, r.used, kept, w) {
+    let pr = place_in(back.procedure);
+    match bind_kept(s, index, pr, memory, r.used, kept, w) {
         Moved::To(x) => {
             keep(memory, back, kept, x);
             Stepped::Enter(back)
@@ -214,7 +204,7 @@ pub fn give_back(
 ) -> Stepped
     requires { ⌜ Ready (now s) (now index) ⌝ }
     requires { ⌜ Sane (length (now memory)) r ⌝ }
-    requires { ⌜ PlaceOf (now s) r pr ⌝ }
+    requires { ⌜ PlaceOf r pr ⌝ }
     ensures { λ o. ⌜ PerformsInside watched (now (s .entry)) (now (memory .entry)) (now (memory .exit)) r o (Op.Return a) ⌝ }
 {
     match handed_by(s, index, pr, memory, r, a) {

@@ -1,25 +1,25 @@
 // One instruction.
-use crate::arms::add;
-use crate::arms::bind;
-use crate::arms::fetch;
-use crate::arms::get_slot;
-use crate::arms::jump_zero;
-use crate::arms::less;
-use crate::arms::new_array;
-use crate::arms::new_record;
-use crate::arms::put;
-use crate::arms::set;
-use crate::arms::set_slot;
-use crate::arms::size;
-use crate::arms::store;
-use crate::arms::subtract;
-use crate::arms::take;
 use index::Index;
-use index::procedures::place_of;
+use index::procedures::place_in;
 use model::Operation;
 use sheet::fetch::operation_whole;
 use watched_calls::call;
 use watched_calls::give_back;
+use watched_objects::fetch;
+use watched_objects::get_slot;
+use watched_objects::new_array;
+use watched_objects::new_record;
+use watched_objects::set_slot;
+use watched_objects::size;
+use watched_objects::store;
+use watched_values::add;
+use watched_values::bind;
+use watched_values::jump_zero;
+use watched_values::less;
+use watched_values::put;
+use watched_values::set;
+use watched_values::subtract;
+use watched_values::take;
 use writers::Registers;
 use writers::Stepped;
 ghost use lib.ListN.{length};
@@ -45,7 +45,7 @@ fn step_at(
     requires { ⌜ Sane (length (now memory)) r ⌝ }
     requires { ⌜ Fetchable (now s) r ⌝ }
     requires { ⌜ CodeOf (now s) r (now code) ⌝ }
-    requires { ⌜ PlaceOf (now s) r pr ⌝ }
+    requires { ⌜ PlaceOf r pr ⌝ }
     ensures { λ o. ⌜ Performs watched (now (s .entry)) (now (input .entry)) (now (memory .entry)) (now (memory .exit)) (now (output .entry)) (now (output .exit)) r o (operationAt (now (s .entry)) (place-in r)) ⌝ }
 {
     let operation = operation_whole(code, 8 * r.next);
@@ -86,6 +86,14 @@ pub fn guarded_step(
     requires { ⌜ CodeOf (now s) r (now code) ⌝ }
     ensures { λ o. ⌜ Performs watched (now (s .entry)) (now (input .entry)) (now (memory .entry)) (now (memory .exit)) (now (output .entry)) (now (output .exit)) r o (operationAt (now (s .entry)) (place-in r)) ⌝ }
 {
-    let p = r.procedure;
-    step_at(s, index, code, place_of(index, p), input, memory, output, r)
+    step_at(
+        s,
+        index,
+        code,
+        place_in(r.procedure),
+        input,
+        memory,
+        output,
+        r,
+    )
 }

@@ -19,13 +19,14 @@ returns c =
     let actual-word = c .actual-word in
     let args = c .before .before .before .before .before .before .before .args in
     let read = c .before .before .read in
-    (actual-word .ensures .fine, λ v k at S. actual-word .ensures .moves v k (args .b) (S .head) at (ap (slot-in watched (qualOf (now (args .s)))) (read .ensures) ∙ sees-cut watched (qualOf (now (args .s))) v (now (args .memory)) (args .r) S .variable _))
+    let frame-end = c .before .before .before .before .frame-end in
+    (actual-word .ensures .fine, λ v k at S. actual-word .ensures .moves v k (args .b) (S .head) at (ap (slot-in watched (qualOf (now (args .s)))) (read .ensures) ∙ sees-cut watched (qualOf (now (args .s))) v (now (args .memory)) (args .r) _ (frame-end .ensures) S .variable _))
 
 pub actual-in-spec : {M : Type 1} → statement M
 actual-in-spec =
     tie.close
     (tie.spec
-    (λ c. search needs)
+    (λ c κs. search needs)
     (λ c. search needs)
     (λ c. search needs)
     (λ c. search needs)

@@ -18,27 +18,27 @@ unfolding resultAt
 returns c =
     let args = c .before .before .before .before .before .args in
     let field = c .before .before .field in
-    let first-test = c .before .if1 in
-    let second-test = c .if2 in
-    (tt, λ v at S. hands-nothing (now (args .s)) v (args .pr) (args .a) at (field .ensures) (first-test .taken) (second-test .taken))
+    let if1 = c .before .if1 in
+    let if2 = c .if2 in
+    (tt, λ v at S. hands-nothing (now (args .s)) v (args .pr) (args .a) at (field .ensures) (if1 .taken) (if2 .taken))
 
 returns-2 : tie.Need-returns-2
 unfolding resultAt
 returns-2 c =
     let args = c .before .before .before .before .before .args in
     let field = c .before .before .field in
-    let first-test = c .before .if1 in
-    let second-test = c .if2 in
-    (tt, λ v at S. hands-too-little (now (args .s)) v (args .pr) (args .a) at (field .ensures) (first-test .taken) (second-test .left))
+    let if1 = c .before .if1 in
+    let if2 = c .if2 in
+    (tt, λ v at S. hands-too-little (now (args .s)) v (args .pr) (args .a) at (field .ensures) (if1 .taken) (if2 .left))
 
 returns-3 : tie.Need-returns-3
 unfolding resultAt
 returns-3 c =
     let args = c .before .before .before .before .before .args in
     let field = c .before .before .field in
-    let first-test = c .before .if1 in
-    let third-test = c .if3 in
-    (tt, λ v at S. hands-too-much (now (args .s)) v (args .pr) (args .a) at (field .ensures) (first-test .left) (third-test .taken))
+    let if1 = c .before .if1 in
+    let if3 = c .if3 in
+    (tt, λ v at S. hands-too-much (now (args .s)) v (args .pr) (args .a) at (field .ensures) (if1 .left) (if3 .taken))
 
 slice-aggregate-result-word : tie.Need-slice-aggregate-result-word
 slice-aggregate-result-word c = sym (length-take-le _ _ (omega arith))
@@ -46,26 +46,28 @@ slice-aggregate-result-word c = sym (length-take-le _ _ (omega arith))
 returns-4 : tie.Need-returns-4
 unfolding resultAt
 returns-4 c =
-    let known = c .before .x in
+    let x = c .before .x in
     let result-word = c .before .before .before .result-word in
     let args = c .before .before .before .before .before .before .before .before .before .before .before .before .before .args in
     let field = c .before .before .before .before .before .before .before .before .before .before .field in
-    let first-test = c .before .before .before .before .before .before .before .before .before .if1 in
-    let third-test = c .before .before .before .before .before .before .before .before .if3 in
+    let if1 = c .before .before .before .before .before .before .before .before .before .if1 in
+    let if3 = c .before .before .before .before .before .before .before .before .if3 in
     let read = c .before .before .before .before .before .read in
-    (rw (known .given .1) at (result-word .ensures .fine), λ v at S. hands-word (now (args .s)) v (args .pr) (args .a) at (field .ensures) (first-test .left) (third-test .left) (result-word .result) (result-word .ensures .moves v (args .a) (S .head) at (ap (slot-in watched (qualOf (now (args .s)))) (read .ensures) ∙ sees-cut watched (qualOf (now (args .s))) v (now (args .memory)) (args .r) S .variable _)) (known .given .1))
+    let frame-end = c .before .before .before .before .before .before .before .frame-end in
+    (rw (x .given .1) at (result-word .ensures .fine), λ v at S. hands-word (now (args .s)) v (args .pr) (args .a) at (field .ensures) (if1 .left) (if3 .left) (result-word .result) (result-word .ensures .moves v (args .a) (S .head) at (ap (slot-in watched (qualOf (now (args .s)))) (read .ensures) ∙ sees-cut watched (qualOf (now (args .s))) v (now (args .memory)) (args .r) _ (frame-end .ensures) S .variable _)) (x .given .1))
 
 returns-5 : tie.Need-returns-5
 unfolding resultAt
 returns-5 c =
     let args = c .before .before .before .before .before .before .before .before .before .before .before .before .before .args in
     let field = c .before .before .before .before .before .before .before .before .before .before .field in
-    let first-test = c .before .before .before .before .before .before .before .before .before .if1 in
-    let third-test = c .before .before .before .before .before .before .before .before .if3 in
+    let if1 = c .before .before .before .before .before .before .before .before .before .if1 in
+    let if3 = c .before .before .before .before .before .before .before .before .if3 in
     let result-word = c .before .before .before .result-word in
     let read = c .before .before .before .before .before .read in
-    let known = c .before .k in
-    (tt, λ v at S. hands-halt (now (args .s)) v (args .pr) (args .a) at (field .ensures) (first-test .left) (third-test .left) (result-word .result) (result-word .ensures .moves v (args .a) (S .head) at (ap (slot-in watched (qualOf (now (args .s)))) (read .ensures) ∙ sees-cut watched (qualOf (now (args .s))) v (now (args .memory)) (args .r) S .variable _)) (known .given .1))
+    let frame-end = c .before .before .before .before .before .before .before .frame-end in
+    let k = c .before .k in
+    (tt, λ v at S. hands-halt (now (args .s)) v (args .pr) (args .a) at (field .ensures) (if1 .left) (if3 .left) (result-word .result) (result-word .ensures .moves v (args .a) (S .head) at (ap (slot-in watched (qualOf (now (args .s)))) (read .ensures) ∙ sees-cut watched (qualOf (now (args .s))) v (now (args .memory)) (args .r) _ (frame-end .ensures) S .variable _)) (k .given .1))
 
 pub handed-by-spec : {M : Type 1} → statement M
 handed-by-spec =
@@ -75,7 +77,7 @@ handed-by-spec =
     returns
     returns-2
     returns-3
-    (λ c. search needs)
+    (λ c κs. search needs)
     (λ c. search needs)
     (λ c. search needs)
     (λ c. search needs)

@@ -1,4 +1,5 @@
 -- Main's return, a result that is dropped, and one that is bound to the variable that keeps it.
+use native.Mathlib.Omega.{arith}
 use borrow.Author.Needs.{needs}
 use denote.Ref.{now}
 use Rattle.model.specs.Modes.{watched}
@@ -9,51 +10,55 @@ use Rattle.watched_calls.proofs.resume_with.Tie as tie
 
 returns : tie.Need-returns
 returns c =
-    let args = c .before .before .before .before .before .args in
-    let first-test = c .if1 in
-    returns-over watched (now (args .s)) (now (args .memory)) (args .r) _ (first-test .taken)
+    let args = c .before .before .before .before .args in
+    let if1 = c .if1 in
+    let frame-end = c .before .frame-end in
+    returns-over watched (now (args .s)) (now (args .memory)) (args .r) _ (omega (arith, if1 .taken, frame-end .ensures))
 
 returns-2 : tie.Need-returns-2
 returns-2 c =
-    let args = c .before .before .before .before .before .before .before .before .before .before .args in
+    let args = c .before .before .before .before .before .before .before .before .before .args in
     let kept-in = c .before .kept-in in
-    let first-test = c .before .before .before .before .before .if1 in
+    let if1 = c .before .before .before .before .before .if1 in
+    let frame-end = c .before .before .before .before .before .before .frame-end in
     let waiting = c .before .before .before .waiting in
-    let second-test = c .if2 in
-    returns-dropped watched (now (args .s)) (now (args .memory)) (args .r) (kept-in .result) (first-test .left) (kept-in .ensures watched) (waiting .result) (waiting .ensures .0 watched) (second-test .taken) _
+    let if2 = c .if2 in
+    returns-dropped watched (now (args .s)) (now (args .memory)) (args .r) (kept-in .result) (omega (arith, if1 .left, frame-end .ensures)) (kept-in .ensures watched) (waiting .result) (waiting .ensures .0 watched) (if2 .taken) _
 
 returns-3 : tie.Need-returns-3
 returns-3 c =
-    let args = c .before .before .before .before .before .before .before .before .before .before .before .before .before .before .before .before .before .before .before .before .args in
+    let args = c .before .before .before .before .before .before .before .before .before .before .before .before .before .before .before .before .before .before .before .args in
     let kept-in = c .before .before .before .before .before .before .before .before .before .before .before .kept-in in
-    let first-test = c .before .before .before .before .before .before .before .before .before .before .before .before .before .before .before .if1 in
-    let second-test = c .before .before .before .before .before .before .before .before .before .before .if2 in
+    let if1 = c .before .before .before .before .before .before .before .before .before .before .before .before .before .before .before .if1 in
+    let frame-end = c .before .before .before .before .before .before .before .before .before .before .before .before .before .before .before .before .frame-end in
+    let if2 = c .before .before .before .before .before .before .before .before .before .before .if2 in
     let waiting = c .before .before .before .before .before .before .before .before .before .before .before .before .before .waiting in
-    let pre = c .before .before .before .before .before .before .before .before .before .before .before .before .before .before .before .before .before .before .before .before .pre in
+    let pre = c .before .before .before .before .before .before .before .before .before .before .before .before .before .before .before .before .before .before .before .pre in
     let bind-kept = c .before .before .before .before .before .before .before .bind-kept in
-    let place-of = c .before .before .before .before .before .before .before .before .before .place-of in
-    let known = c .before .before .before .before .before .x in
+    let place-in = c .before .before .before .before .before .before .before .before .before .place-in in
+    let x = c .before .before .before .before .before .x in
     let keep = c .before .before .keep in
-    returns-kept (now (args .s)) (now (args .memory)) (args .r) (kept-in .result) (first-test .left) (kept-in .ensures watched) (second-test .left) (waiting .result) (waiting .ensures .0 watched) (now (args .index)) (pre .0) (args .w) _ (pre .1 .1) (bind-kept .result) (place-of .ensures) (bind-kept .ensures) (known .given .1) (keep .last .0) (keep .ensures watched)
+    returns-kept (now (args .s)) (now (args .memory)) (args .r) (kept-in .result) (omega (arith, if1 .left, frame-end .ensures)) (kept-in .ensures watched) (if2 .left) (waiting .result) (waiting .ensures .0 watched) (args .w) _ (pre .1 .1) (bind-kept .result) (place-in .ensures) (bind-kept .ensures) (x .given .1) (keep .last .0) (keep .ensures watched)
 
 returns-4 : tie.Need-returns-4
 returns-4 c =
-    let args = c .before .before .before .before .before .before .before .before .before .before .before .before .before .before .before .before .args in
+    let args = c .before .before .before .before .before .before .before .before .before .before .before .before .before .before .before .args in
     let kept-in = c .before .before .before .before .before .before .before .kept-in in
-    let first-test = c .before .before .before .before .before .before .before .before .before .before .before .if1 in
-    let second-test = c .before .before .before .before .before .before .if2 in
+    let if1 = c .before .before .before .before .before .before .before .before .before .before .before .if1 in
+    let frame-end = c .before .before .before .before .before .before .before .before .before .before .before .before .frame-end in
+    let if2 = c .before .before .before .before .before .before .if2 in
     let waiting = c .before .before .before .before .before .before .before .before .before .waiting in
-    let pre = c .before .before .before .before .before .before .before .before .before .before .before .before .before .before .before .before .pre in
+    let pre = c .before .before .before .before .before .before .before .before .before .before .before .before .before .before .before .pre in
     let bind-kept = c .before .before .before .bind-kept in
-    let place-of = c .before .before .before .before .before .place-of in
-    let known = c .before .k in
-    returns-refused (now (args .s)) (now (args .memory)) (args .r) (kept-in .result) (first-test .left) (kept-in .ensures watched) (second-test .left) (waiting .result) (waiting .ensures .0 watched) (now (args .index)) (pre .0) (args .w) _ (pre .1 .1) (bind-kept .result) (place-of .ensures) (bind-kept .ensures) (known .given .1)
+    let place-in = c .before .before .before .before .before .place-in in
+    let k = c .before .k in
+    returns-refused (now (args .s)) (now (args .memory)) (args .r) (kept-in .result) (omega (arith, if1 .left, frame-end .ensures)) (kept-in .ensures watched) (if2 .left) (waiting .result) (waiting .ensures .0 watched) (args .w) _ (pre .1 .1) (bind-kept .result) (place-in .ensures) (bind-kept .ensures) (k .given .1)
 
 pub resume-with-spec : {M : Type 1} → statement M
 resume-with-spec =
     tie.close
     (tie.spec
-    (λ c. search needs)
+    (λ c κs. search needs)
     (λ c. search needs)
     returns
     (λ c κs. search needs)

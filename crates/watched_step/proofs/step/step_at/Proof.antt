@@ -1,8 +1,11 @@
 -- The operation is that which was read; its arm performs it.
-use mathlib.Core.Path.{_≡_, sym, _∙_}
+use mathlib.Core.Path.{_≡_, sym, subst, _∙_}
 use borrow.Author.Needs.{needs}
 use denote.Ref.{now}
+use Rattle.model.specs.declared.Operation.{Operation}
 use Rattle.sheet.specs.Decode.{operationAt}
+use Rattle.form.specs.Named.{Named}
+use Rattle.writers.specs.Memory.{variables-in}
 use Rattle.frames.specs.Fetch.{place-in}
 use Rattle.frames.proofs.Fetched.{code-operation, code-whole, callable}
 use Rattle.watched_step.proofs.step.step_at.Statement.{statement}
@@ -21,60 +24,75 @@ fetched c =
     let pre = c .before .before .before .before .before .before .before .pre in
     sym (c .operation-whole .ensures ∙ code-operation (now (args .s)) (args .r) (now (args .code)) (pre .1 .1 .1 .0))
 
+-- the variables that it names are the frame's
+named-here : (c : tie.After-operation-whole) {op : Operation} → c .operation-whole .result ≡ op → Named (variables-in (c .before .before .before .before .before .before .before .args .r)) op
+named-here c is = subst (Named _) (fetched c ∙ is) (c .before .before .before .before .before .before .before .pre .1 .1 .0 .named)
+
 set-requires : tie.Need-set-requires
 set-requires c κs =
     let pre = c .before .before .before .before .before .before .before .before .before .before .before .pre in
-    (pre .0 .ready, (pre .1 .0, (pre .1 .1 .0 .next, pre .1 .1 .1 .1)))
+    let operation = c .before .before .operation in
+    (pre .0 .ready, (pre .1 .0, (pre .1 .1 .0 .next, (named-here (c .before .before .before .before) (operation .given .1), pre .1 .1 .1 .1))))
 
 add-requires : tie.Need-add-requires
 add-requires c κs =
     let pre = c .before .before .before .before .before .before .before .before .before .before .before .pre in
-    (pre .0 .ready, (pre .1 .0, (pre .1 .1 .0 .next, pre .1 .1 .1 .1)))
+    let operation = c .before .before .operation2 in
+    (pre .0 .ready, (pre .1 .0, (pre .1 .1 .0 .next, (named-here (c .before .before .before .before) (operation .given .1) .0, pre .1 .1 .1 .1))))
 
 subtract-requires : tie.Need-subtract-requires
 subtract-requires c κs =
     let pre = c .before .before .before .before .before .before .before .before .before .before .before .pre in
-    (pre .0 .ready, (pre .1 .0, (pre .1 .1 .0 .next, pre .1 .1 .1 .1)))
+    let operation = c .before .before .operation3 in
+    (pre .0 .ready, (pre .1 .0, (pre .1 .1 .0 .next, (named-here (c .before .before .before .before) (operation .given .1) .0, pre .1 .1 .1 .1))))
 
 less-requires : tie.Need-less-requires
 less-requires c κs =
     let pre = c .before .before .before .before .before .before .before .before .before .before .before .pre in
-    (pre .0 .ready, (pre .1 .0, (pre .1 .1 .0 .next, pre .1 .1 .1 .1)))
+    let operation = c .before .before .operation4 in
+    (pre .0 .ready, (pre .1 .0, (pre .1 .1 .0 .next, (named-here (c .before .before .before .before) (operation .given .1) .0, pre .1 .1 .1 .1))))
 
 bind-requires : tie.Need-bind-requires
 bind-requires c κs =
     let pre = c .before .before .before .before .before .before .before .before .before .before .before .pre in
-    (pre .0 .ready, (pre .1 .0, (pre .1 .1 .0 .next, pre .1 .1 .1 .1)))
+    let operation = c .before .before .operation6 in
+    (pre .0 .ready, (pre .1 .0, (pre .1 .1 .0 .next, (named-here (c .before .before .before .before) (operation .given .1) .0, pre .1 .1 .1 .1))))
 
 take-requires : tie.Need-take-requires
 take-requires c κs =
     let pre = c .before .before .before .before .before .before .before .before .before .before .before .pre in
-    (pre .0 .ready, (pre .1 .0, (pre .1 .1 .0 .next, pre .1 .1 .1 .1)))
+    let operation = c .before .before .operation7 in
+    (pre .0 .ready, (pre .1 .0, (pre .1 .1 .0 .next, (named-here (c .before .before .before .before) (operation .given .1), pre .1 .1 .1 .1))))
 
 new-array-requires : tie.Need-new-array-requires
 new-array-requires c κs =
     let pre = c .before .before .before .before .before .before .before .before .before .before .before .pre in
-    (pre .0 .ready, (pre .1 .0, (pre .1 .1 .0 .next, pre .1 .1 .1 .1)))
+    let operation = c .before .before .operation9 in
+    (pre .0 .ready, (pre .1 .0, (pre .1 .1 .0 .next, (named-here (c .before .before .before .before) (operation .given .1) .0, pre .1 .1 .1 .1))))
 
 fetch-requires : tie.Need-fetch-requires
 fetch-requires c κs =
     let pre = c .before .before .before .before .before .before .before .before .before .before .before .pre in
-    (pre .0 .ready, (pre .1 .0, (pre .1 .1 .0 .next, pre .1 .1 .1 .1)))
+    let operation = c .before .before .operation10 in
+    (pre .0 .ready, (pre .1 .0, (pre .1 .1 .0 .next, (named-here (c .before .before .before .before) (operation .given .1) .0, pre .1 .1 .1 .1))))
 
 size-requires : tie.Need-size-requires
 size-requires c κs =
     let pre = c .before .before .before .before .before .before .before .before .before .before .before .pre in
-    (pre .0 .ready, (pre .1 .0, (pre .1 .1 .0 .next, pre .1 .1 .1 .1)))
+    let operation = c .before .before .operation12 in
+    (pre .0 .ready, (pre .1 .0, (pre .1 .1 .0 .next, (named-here (c .before .before .before .before) (operation .given .1) .0, pre .1 .1 .1 .1))))
 
 new-record-requires : tie.Need-new-record-requires
 new-record-requires c κs =
     let pre = c .before .before .before .before .before .before .before .before .before .before .before .pre in
-    (pre .0 .ready, (pre .1 .0, (pre .1 .1 .0 .next, pre .1 .1 .1 .1)))
+    let operation = c .before .before .operation13 in
+    (pre .0 .ready, (pre .1 .0, (pre .1 .1 .0 .next, (named-here (c .before .before .before .before) (operation .given .1), pre .1 .1 .1 .1))))
 
 get-slot-requires : tie.Need-get-slot-requires
 get-slot-requires c κs =
     let pre = c .before .before .before .before .before .before .before .before .before .before .before .pre in
-    (pre .0 .ready, (pre .1 .0, (pre .1 .1 .0 .next, pre .1 .1 .1 .1)))
+    let operation = c .before .before .operation14 in
+    (pre .0 .ready, (pre .1 .0, (pre .1 .1 .0 .next, (named-here (c .before .before .before .before) (operation .given .1) .0, pre .1 .1 .1 .1))))
 
 set-slot-requires : tie.Need-set-slot-requires
 set-slot-requires c κs =
@@ -86,7 +104,7 @@ call-requires c κs =
     let pre = c .before .before .before .before .before .before .before .before .before .before .before .pre in
     let args = c .before .before .before .before .before .before .before .before .before .before .before .args in
     let operation16 = c .before .before .operation16 in
-    (pre .0, (pre .1 .0, callable (now (args .s)) (now (args .index)) (args .r) _ _ _ (pre .0) (pre .1 .1 .0) (fetched (c .before .before .before .before) ∙ operation16 .given .1)))
+    (pre .0, (pre .1 .0, callable (now (args .s)) (args .r) _ _ _ (pre .1 .1 .0) (fetched (c .before .before .before .before) ∙ operation16 .given .1)))
 
 give-back-requires : tie.Need-give-back-requires
 give-back-requires c κs =
