@@ -12,7 +12,8 @@ use Rattle.model.specs.Qualified.{Qual}
 use Rattle.model.specs.Machine.{empty}
 use Rattle.model.specs.Run.{opened}
 use Rattle.model.specs.declared.Verdict.the-variants.{Accepted}
-use Rattle.sheet.specs.Layout.{variablesAt, instructionAt, procedureAt}
+use Rattle.sheet.specs.Layout.{variablesAt, procedureAt}
+use Rattle.index.specs.Indexed.{ProcedureWord}
 use Rattle.sheet.specs.Meaning.{programOf, qualOf}
 use Rattle.form.specs.WellFormed.{form-tests}
 use Rattle.form.proofs.WellFormed.{form-small}
@@ -49,21 +50,23 @@ module _ (words zeros : List ℕ) (v : ℕ) (room : v + 2 ≤ length words)
       rw (← map-drop, d, map-replicate, slot-zero, map-replicate) (blank-after v (cell empty))
 
 -- the registers of that frame
-pub begins : (m : Mode) (s words zeros input out : List ℕ) (v first : ℕ) → verdict (form-tests s) ≡ Accepted → v ≡ variablesAt s (procedureAt s 0) → v < 256
-    → v + 2 ≤ length words → length words ≤ 65536 → first ≡ instructionAt s (procedureAt s 0) 0
+pub begins : (m : Mode) (s words zeros input out : List ℕ) (v w : ℕ) → verdict (form-tests s) ≡ Accepted → ProcedureWord s 0 w
+    → v ≡ variablesAt s (procedureAt s 0) → v + 2 ≤ length words → length words ≤ 65536
     → zeros ≡ replicate (length (midOf (length words - (v + 2)) (length words - (length words - (v + 2))) words)) 0
     → StandsFor m (record { sheet = s; input = input; output = out }) (framed words zeros v) out
-    (record { procedure = 0; next = 0; first = first; variables = v; base = length words - (v + 2); used = 0; taken = 0; put = 0; steps = 0 })
+    (record { procedure = w; next = 0; base = length words - (v + 2); used = 0; taken = 0; put = 0; steps = 0 })
     (opened m (programOf s) (length words) (length out) input)
 unfolding opened AllSound flat-objects flat-frames
-begins m s words zeros input out v first wf e few room small f cleared =
+begins m s words zeros input out v w wf of e room small cleared =
     let l = length-framed words zeros v room cleared in
+    let has = of .variables in
     record {
-      procedure = refl;
+      is-procedure = of .is-procedure;
+      procedure = of .number;
       next = refl;
-      first = f;
-      variables = e ∙ sym (length-replicate _ empty);
-      sane = record { room = zero-le; frame = rw l (omega arith); small = rw l small; procedure = omega arith; variables = few };
+      first = of .first;
+      variables = has ∙ sym (length-replicate _ empty);
+      sane = record { room = zero-le; frame = rw l (omega arith); small = rw l small };
       running = record { procedure = form-small s wf .2; variables = length-replicate _ empty };
       waiting = tt;
       objects = refl;

@@ -21,12 +21,12 @@ use Rattle.sheet.specs.Decode.{operationAt}
 use Rattle.sheet.specs.Meaning.{programOf}
 use Rattle.form.specs.WellFormed.{form-tests}
 use Rattle.theorem.proofs.Formed.{formed}
-use Rattle.form.proofs.WellFormed.{instructions-few, instruction-whole, actuals-there, callee-below}
+use Rattle.form.proofs.WellFormed.{instructions-few, instruction-whole, variables-named, actuals-there, callee-below}
 use Rattle.writers.specs.declared.Registers.{Registers}
 use Rattle.writers.specs.declared.Stepped.{Stepped}
 use Rattle.writers.specs.declared.Stepped.the-variants as S
-use Rattle.writers.specs.Memory.{Given, Sane, StandsFor}
-use Rattle.writers.specs.Steps.{After, onward}
+use Rattle.writers.specs.Memory.{Given, number-in, first-in, Sane, StandsFor}
+use Rattle.writers.specs.Steps.{After, at-next}
 use Rattle.frames.specs.Performs.{Loaded, performed}
 use Rattle.frames.specs.Fetch.{place-in, Fetchable, CodeOf}
 use Rattle.frames.proofs.Kept.{place-is}
@@ -42,7 +42,7 @@ use Rattle.run_by_frames.specs.Turn.{Never-stuck, whole-run, Going, RunO
 
 -- what is told at a stop after so many steps
 abbrev pub told : Registers → (number steps : ℕ) → Ended
-told r k n = record { number = k; steps = n; put = r .put; procedure = r .procedure; instruction = r .next }
+told r k n = record { number = k; steps = n; put = r .put; procedure = number-in r; instruction = r .next }
 
 module _ (m : Mode) (c : Given) (words out : List ℕ) (r : Registers) where
   sane : (t : State m) → StandsFor m c words out r t → Sane (length words) r
@@ -58,6 +58,7 @@ module _ (m : Mode) (c : Given) (words out : List ℕ) (r : Registers) where
         whole = rw e (instruction-whole s wf p l i n);
         first = let w : place-in r + 8 ≤ length s = rw e (instruction-whole s wf p l i n) in omega arith;
         next = rw (S .next) (omega (arith, instructions-few s wf p l));
+        named = rw (e, S .variables, S .running .variables) (variables-named s wf p l i n);
         callee-there = rw e (callee-below s wf p l i n);
         actuals = rw (e, S .variables, S .running .variables) (actuals-there s wf p l i n);
       }
@@ -87,7 +88,7 @@ module _ (m : Mode) (c : Given) (words out : List ℕ) (r : Registers) where
 
     -- one that goes on gives the next state, in the same frame or in another
     went : (b : State m) (q : Registers) (p : Res (Next m)) → (p ≡ stuck → ⊥) → After m c words′ out out′ r b (S.Go q) p
-        → (q ≡ onward r (q .next) (q .used) (q .taken) (q .put)) × ((t : State m) × ((p ≡ ok (go t)) × StandsFor m c words′ out′ q t))
+        → (q ≡ at-next r (q .next)) × ((t : State m) × ((p ≡ ok (go t)) × StandsFor m c words′ out′ q t))
     went b q (ok (go t)) free h = (h .0, (t, (refl, h .1)))
     went b q (ok finished) free h = absurd h
     went b q (stop x) free h = absurd h
@@ -163,26 +164,24 @@ pub begun-kept : {m : Mode} {s input : List ℕ} {until : ℕ} {words out words�
     → Going m (B .some-run .given) (length words) (B .some-run .fuel) words′ out′ r
 begun-kept K B = K (B .some-run) (B .going)
 
--- the registers as the loop keeps them: what tells the frame is `start`'s, the rest the step's
+-- the registers as the loop keeps them: the next instruction and the steps are the step's, the rest is `start`'s
 abbrev pub kept-with : (start q : Registers) → Registers
 kept-with start q =
     record {
       procedure = start .procedure;
       next = q .next;
-      first = start .first;
-      variables = start .variables;
       base = start .base;
-      used = q .used;
-      taken = q .taken;
-      put = q .put;
+      used = start .used;
+      taken = start .taken;
+      put = start .put;
       steps = q .steps;
     }
 
 pub same-code : (s : List ℕ) (start r : Registers) (code : List ℕ) → r ≡ kept-with start r → CodeOf s start code → CodeOf s r code
-same-code s start r code e part = part ∙ ap (λ (x : Registers). drop (x .first) s) (sym e)
+same-code s start r code e part = part ∙ ap (λ (x : Registers). drop (first-in x) s) (sym e)
 
-same-frame : (start r p : Registers) → r ≡ kept-with start r → p ≡ onward r (p .next) (p .used) (p .taken) (p .put) → counted r p ≡ kept-with start (counted r p)
-same-frame start r p e f = ap (counted r) f ∙ ap (λ (x : Registers). counted r (onward x (p .next) (p .used) (p .taken) (p .put))) e
+same-frame : (start r p : Registers) → r ≡ kept-with start r → p ≡ at-next r (p .next) → counted r p ≡ kept-with start (counted r p)
+same-frame start r p e f = ap (counted r) f ∙ ap (λ (x : Registers). counted r (at-next x (p .next))) e
 
 module _ (m : Mode) (s index input : List ℕ) (loaded : Loaded s index) (until : ℕ) (d : RunOf s input until)
     (memory : ℕ) (words out : List ℕ) (r : Registers) (G : Going m (d .given) memory (d .fuel) words out r) (h : r .steps < until) where

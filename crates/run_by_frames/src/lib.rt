@@ -12,7 +12,7 @@ pub struct Ended {
     pub instruction: usize,
 }
 
-// What the run of a frame came to: another frame, a rest, or the end.
+// What the run of a frame came to: other registers, a rest, or the end.
 pub enum Paused {
     Enter(Registers),
     Rest(Registers),

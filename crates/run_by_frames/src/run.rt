@@ -4,15 +4,15 @@ use crate::Halted;
 use crate::Paused;
 use frames::instructions_of;
 use index::Index;
-use index::procedures::place_of;
-use index::procedures::procedure_word;
-use index::procedures::variables_in;
+use index::procedures::procedure_in;
 use lent_step::count;
 use lent_step::count_step;
 use lent_step::step_by;
-use sheet::places::instruction_at;
 use watched_step::step::guarded_step;
 use words::clear;
+use words::first_in;
+use words::number_in;
+use words::variables_in;
 use writers::Registers;
 use writers::Stepped;
 ghost use mathlib.Core.Path.{_≡_};
@@ -23,7 +23,7 @@ ghost use Rattle.model.specs.Modes.{Mode};
 ghost use Rattle.model.specs.Run.{run, opened};
 ghost use Rattle.sheet.specs.Layout.{variablesAt, procedureAt};
 ghost use Rattle.sheet.specs.Meaning.{programOf};
-ghost use Rattle.writers.specs.Memory.{StandsFor};
+ghost use Rattle.writers.specs.Memory.{StandsFor, number-in};
 ghost use Rattle.frames.specs.Performs.{Loaded};
 ghost use Rattle.frames.specs.Fetch.{CodeOf};
 ghost use Rattle.lent_step.specs.Counts.{Steppable, TurnIs};
@@ -42,10 +42,8 @@ fn open_main(s: &[u8], index: &Index, memory: &mut [u64], v: usize) -> Registers
     let at = len - (v + 2);
     clear(&mut memory[at..len]);
     Registers {
-        procedure: 0,
+        procedure: procedure_in(index, 0),
         next: 0,
-        first: instruction_at(s, place_of(index, 0), 0),
-        variables: v,
         base: at,
         used: 0,
         taken: 0,
@@ -55,13 +53,13 @@ fn open_main(s: &[u8], index: &Index, memory: &mut [u64], v: usize) -> Registers
 }
 
 fn ended(number: u8, r: Registers) -> Ended
-    ensures { λ e. ⌜ e ≡ record { number = number; steps = r .steps; put = r .put; procedure = r .procedure; instruction = r .next } ⌝ }
+    ensures { λ e. ⌜ e ≡ record { number = number; steps = r .steps; put = r .put; procedure = number-in r; instruction = r .next } ⌝ }
 {
     Ended {
         number: number as u64,
         steps: r.steps,
         put: r.put,
-        procedure: r.procedure,
+        procedure: number_in(r.procedure) as usize,
         instruction: r.next,
     }
 }
@@ -87,7 +85,8 @@ fn turn(
     step_by(s, index, code, input, memory, output, r)
 }
 
-// The run of one frame: to another frame, to a number of steps, or to the end. What tells the frame does not change in it, which is what makes the loop fast.
+// The run of one frame: to other registers, to a number of steps, or to the end. Only the next instruction and the count of steps change in it, which is what
+// makes the loop fast.
 fn run_frame(
     s: &[u8],
     index: &Index,
@@ -105,9 +104,10 @@ fn run_frame(
     ensures { λ p. ⌜ FrameRuns (mode-of watch) (now (s .entry)) (now (input .entry)) until (now (memory .entry)) (now (memory .exit)) (now (output .entry)) (now (output .exit)) start p ⌝ }
 {
     let procedure = start.procedure;
-    let first = start.first;
-    let variables = start.variables;
     let base = start.base;
+    let used = start.used;
+    let taken = start.taken;
+    let put = start.put;
     let mut r = start;
     while r.steps < until {
         match turn(s, index, code, input, memory, output, r, watch) {
@@ -115,12 +115,10 @@ fn run_frame(
                 r = Registers {
                     procedure,
                     next: q.next,
-                    first,
-                    variables,
                     base,
-                    used: q.used,
-                    taken: q.taken,
-                    put: q.put,
+                    used,
+                    taken,
+                    put,
                     steps: q.steps,
                 };
             }
@@ -155,8 +153,7 @@ pub fn run_until(
 {
     let mut r = start;
     loop {
-        let first = r.first;
-        let code = instructions_of(s, first);
+        let code = instructions_of(s, first_in(r.procedure) as usize);
         match run_frame(s, index, code, input, memory, output, r, until, watch) {
             Paused::Enter(q) => {
                 r = q;
@@ -186,7 +183,7 @@ pub fn run_in(
     requires { ⌜ Never-stuck (run (mode-of watch) (programOf (now s)) (length (now memory)) (length (now output)) (now input) fuel) ⌝ }
     ensures { λ e. ⌜ EndedIs e (now (output .entry)) (now (output .exit)) (run (mode-of watch) (programOf (now (s .entry))) (length (now (memory .entry))) (length (now (output .entry))) (now (input .entry)) fuel) ⌝ }
 {
-    let v = variables_in(procedure_word(index, 0)) as usize;
+    let v = variables_in(procedure_in(index, 0)) as usize;
     if memory.len() < v + 2 {
         return Ended {
             number: 17,

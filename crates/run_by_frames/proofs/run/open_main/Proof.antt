@@ -1,7 +1,7 @@
 -- The cleared words are blank variables, and the two blank words that end the frame which no other waits for.
-use Prim.Native.Nat.{ℕ, zero-le}
-use mathlib.Core.Path.{ap, _∙_}
-use Rattle.sheet.specs.Layout.{instructionAt}
+use mathlib.Core.Path.{refl}
+use denote.Ref.{now}
+use Rattle.form.proofs.WellFormed.{form-small}
 use Rattle.run_by_frames.proofs.Begin.{begins}
 use borrow.Author.Needs.{needs}
 use Rattle.run_by_frames.proofs.run.open_main.Statement.{statement}
@@ -9,7 +9,12 @@ use Rattle.run_by_frames.proofs.run.open_main.Tie as tie
 
 returns : tie.Need-returns
 returns c =
-    let args = c .before .before .before .before .before .before .before .before .args in let pre = c .before .before .before .before .before .before .before .before .pre in let s = args .s .now in let first = c .instruction-at .ensures .0 ∙ ap (λ (at : ℕ). instructionAt s at 0) (c .before .place-of .ensures ∙ pre .0 .ready .places 0 zero-le) in (search needs, λ m input out. begins m s (args .memory .now) _ input out (args .v) _ (pre .0 .formed) (pre .1 .0 .0) (pre .1 .0 .1) (pre .1 .1 .0) (pre .1 .1 .1) first (c .before .before .before .before .clear .ensures))
+    let args = c .before .before .before .before .before .before .before .args in
+    let pre = c .before .before .before .before .before .before .before .pre in
+    let procedure-in = c .procedure-in in
+    let clear = c .before .before .before .clear in
+    let s = now (args .s) in
+    (refl, λ m input out. begins m s (now (args .memory)) _ input out (args .v) _ (pre .0 .formed) (rw (procedure-in .ensures) (pre .0 .ready .procedures 0 (form-small s (pre .0 .formed) .2))) (pre .1 .0 .0) (pre .1 .1 .0) (pre .1 .1 .1) (clear .ensures))
 
 pub open-main-spec : {M : Type 1} → statement M
 open-main-spec =
@@ -21,7 +26,6 @@ open-main-spec =
     (λ c. search needs)
     (λ c. search needs)
     (λ c. search needs)
-    (λ c κs. search needs)
     (λ c κs. search needs)
     (λ c κs. search needs)
     (λ c. search needs)

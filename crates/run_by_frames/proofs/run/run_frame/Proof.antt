@@ -11,13 +11,13 @@ use Rattle.run_by_frames.proofs.run.run_frame.Statement.{statement}
 use Rattle.run_by_frames.proofs.run.run_frame.Tie as tie
 
 abbrev Inv-loop : tie.InvT-loop
-Inv-loop s index code input memory₀ output₀ until watch procedure first variables base r₀ memory output r =
+Inv-loop s index code input memory₀ output₀ until watch procedure base used taken put r₀ memory output r =
     (r₀ .steps ≤ r .steps)
     × ((r .steps ≤ until)
     × ((r ≡ kept-with r₀ r) × Kept (mode-of watch) s input until (length memory₀) memory₀ output₀ r₀ memory output r))
 
 abbrev μ-loop : tie.MeasureT-loop
-μ-loop s index code input memory₀ output₀ until watch procedure first variables base r₀ memory output r = until - r .steps
+μ-loop s index code input memory₀ output₀ until watch procedure base used taken put r₀ memory output r = until - r .steps
 
 loop-holds : tie.Need-loop-holds Inv-loop μ-loop
 loop-holds c =

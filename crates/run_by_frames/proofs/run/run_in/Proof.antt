@@ -5,7 +5,7 @@ use lib.ListN.{length}
 use denote.Ref.{now}
 use Rattle.model.specs.Run.{opened}
 use Rattle.sheet.specs.Layout.{variablesAt, procedureAt}
-use Rattle.index.specs.Procedures.{variables-of}
+use Rattle.words.specs.Word.{variables-of}
 use Rattle.form.proofs.WellFormed.{form-small}
 use Rattle.run_by_frames.specs.Reply.{ended}
 use Rattle.run_by_frames.specs.Turn.{mode-of, Going}
@@ -19,7 +19,7 @@ main-variables : (c : tie.After-variables-in) → c .variables-in .result ≡ va
 main-variables c =
     let args = c .before .before .before .before .before .before .args in
     let loaded = c .before .before .before .before .before .before .pre .0 in
-    c .variables-in .ensures ∙ ap variables-of (c .before .procedure-word .ensures) ∙ loaded .ready .procedures 0 (form-small (args .s .now) (loaded .formed) .2) .variables
+    c .variables-in .ensures ∙ ap variables-of (c .before .procedure-in .ensures) ∙ loaded .ready .procedures 0 (form-small (args .s .now) (loaded .formed) .2) .variables
 
 returns : tie.Need-returns
 returns c =
