@@ -36,285 +36,140 @@ owed c e =
     (pre .1 .0, (pre .1 .1 .0 .next, named-as (pre .1 .1 .0) (fetched c ∙ e)))
 
 set-requires : tie.Need-set-requires
-set-requires c κs =
-    let pre = c .before .before .before .before .before .before .before .before .before .before .before .pre in
-    let operation-whole = c .before .before .before .before .operation-whole in
-    let args = c .before .before .before .before .before .before .before .before .before .before .before .args in
-    let operation = c .before .before .operation in
-    (pre .1 .0, (pre .1 .1 .0 .next, named-as (pre .1 .1 .0) (sym (operation-whole .ensures ∙ code-operation (now (args .s)) (args .r) (now (args .code)) (pre .1 .1 .1)) ∙ operation .given .1)))
+set-requires c κs = owed (c .before .before .before .before) (c .before .before .operation .given .1)
 
 add-requires : tie.Need-add-requires
-add-requires c κs =
-    let pre = c .before .before .before .before .before .before .before .before .before .before .before .pre in
-    let operation-whole = c .before .before .before .before .operation-whole in
-    let args = c .before .before .before .before .before .before .before .before .before .before .before .args in
-    let operation2 = c .before .before .operation2 in
-    (pre .1 .0, (pre .1 .1 .0 .next, named-as (pre .1 .1 .0) (sym (operation-whole .ensures ∙ code-operation (now (args .s)) (args .r) (now (args .code)) (pre .1 .1 .1)) ∙ operation2 .given .1)))
+add-requires c κs = owed (c .before .before .before .before) (c .before .before .operation2 .given .1)
 
 subtract-requires : tie.Need-subtract-requires
-subtract-requires c κs =
-    let pre = c .before .before .before .before .before .before .before .before .before .before .before .pre in
-    let operation-whole = c .before .before .before .before .operation-whole in
-    let args = c .before .before .before .before .before .before .before .before .before .before .before .args in
-    let operation3 = c .before .before .operation3 in
-    (pre .1 .0, (pre .1 .1 .0 .next, named-as (pre .1 .1 .0) (sym (operation-whole .ensures ∙ code-operation (now (args .s)) (args .r) (now (args .code)) (pre .1 .1 .1)) ∙ operation3 .given .1)))
+subtract-requires c κs = owed (c .before .before .before .before) (c .before .before .operation3 .given .1)
 
 less-requires : tie.Need-less-requires
-less-requires c κs =
-    let pre = c .before .before .before .before .before .before .before .before .before .before .before .pre in
-    let operation-whole = c .before .before .before .before .operation-whole in
-    let args = c .before .before .before .before .before .before .before .before .before .before .before .args in
-    let operation4 = c .before .before .operation4 in
-    (pre .1 .0, (pre .1 .1 .0 .next, named-as (pre .1 .1 .0) (sym (operation-whole .ensures ∙ code-operation (now (args .s)) (args .r) (now (args .code)) (pre .1 .1 .1)) ∙ operation4 .given .1)))
+less-requires c κs = owed (c .before .before .before .before) (c .before .before .operation4 .given .1)
 
 jump-zero-requires : tie.Need-jump-zero-requires
-jump-zero-requires c κs =
-    let pre = c .before .before .before .before .before .before .before .before .before .before .before .pre in
-    let operation-whole = c .before .before .before .before .operation-whole in
-    let args = c .before .before .before .before .before .before .before .before .before .before .before .args in
-    let operation5 = c .before .before .operation5 in
-    (pre .1 .0, (pre .1 .1 .0 .next, named-as (pre .1 .1 .0) (sym (operation-whole .ensures ∙ code-operation (now (args .s)) (args .r) (now (args .code)) (pre .1 .1 .1)) ∙ operation5 .given .1)))
+jump-zero-requires c κs = owed (c .before .before .before .before) (c .before .before .operation5 .given .1)
 
 bind-requires : tie.Need-bind-requires
-bind-requires c κs =
-    let pre = c .before .before .before .before .before .before .before .before .before .before .before .pre in
-    let operation-whole = c .before .before .before .before .operation-whole in
-    let args = c .before .before .before .before .before .before .before .before .before .before .before .args in
-    let operation6 = c .before .before .operation6 in
-    (pre .1 .0, (pre .1 .1 .0 .next, named-as (pre .1 .1 .0) (sym (operation-whole .ensures ∙ code-operation (now (args .s)) (args .r) (now (args .code)) (pre .1 .1 .1)) ∙ operation6 .given .1)))
+bind-requires c κs = owed (c .before .before .before .before) (c .before .before .operation6 .given .1)
 
 take-requires : tie.Need-take-requires
-take-requires c κs =
-    let pre = c .before .before .before .before .before .before .before .before .before .before .before .pre in
-    let operation-whole = c .before .before .before .before .operation-whole in
-    let args = c .before .before .before .before .before .before .before .before .before .before .before .args in
-    let operation7 = c .before .before .operation7 in
-    (pre .1 .0, (pre .1 .1 .0 .next, named-as (pre .1 .1 .0) (sym (operation-whole .ensures ∙ code-operation (now (args .s)) (args .r) (now (args .code)) (pre .1 .1 .1)) ∙ operation7 .given .1)))
+take-requires c κs = owed (c .before .before .before .before) (c .before .before .operation7 .given .1)
 
 put-requires : tie.Need-put-requires
-put-requires c κs =
-    let pre = c .before .before .before .before .before .before .before .before .before .before .before .before .pre in
-    let operation-whole = c .before .before .before .before .before .operation-whole in
-    let args = c .before .before .before .before .before .before .before .before .before .before .before .before .args in
-    let operation8 = c .before .before .before .operation8 in
-    (pre .1 .0, (pre .1 .1 .0 .next, named-as (pre .1 .1 .0) (sym (operation-whole .ensures ∙ code-operation (now (args .s)) (args .r) (now (args .code)) (pre .1 .1 .1)) ∙ operation8 .given .1)))
+put-requires c κs = owed (c .before .before .before .before .before) (c .before .before .before .operation8 .given .1)
 
 new-array-requires : tie.Need-new-array-requires
-new-array-requires c κs =
-    let pre = c .before .before .before .before .before .before .before .before .before .before .before .pre in
-    let operation-whole = c .before .before .before .before .operation-whole in
-    let args = c .before .before .before .before .before .before .before .before .before .before .before .args in
-    let operation9 = c .before .before .operation9 in
-    (pre .1 .0, (pre .1 .1 .0 .next, named-as (pre .1 .1 .0) (sym (operation-whole .ensures ∙ code-operation (now (args .s)) (args .r) (now (args .code)) (pre .1 .1 .1)) ∙ operation9 .given .1)))
+new-array-requires c κs = owed (c .before .before .before .before) (c .before .before .operation9 .given .1)
 
 fetch-requires : tie.Need-fetch-requires
-fetch-requires c κs =
-    let pre = c .before .before .before .before .before .before .before .before .before .before .before .pre in
-    let operation-whole = c .before .before .before .before .operation-whole in
-    let args = c .before .before .before .before .before .before .before .before .before .before .before .args in
-    let operation10 = c .before .before .operation10 in
-    (pre .1 .0, (pre .1 .1 .0 .next, named-as (pre .1 .1 .0) (sym (operation-whole .ensures ∙ code-operation (now (args .s)) (args .r) (now (args .code)) (pre .1 .1 .1)) ∙ operation10 .given .1)))
+fetch-requires c κs = owed (c .before .before .before .before) (c .before .before .operation10 .given .1)
 
 store-requires : tie.Need-store-requires
-store-requires c κs =
-    let pre = c .before .before .before .before .before .before .before .before .before .before .before .pre in
-    let operation-whole = c .before .before .before .before .operation-whole in
-    let args = c .before .before .before .before .before .before .before .before .before .before .before .args in
-    let operation11 = c .before .before .operation11 in
-    (pre .1 .0, (pre .1 .1 .0 .next, named-as (pre .1 .1 .0) (sym (operation-whole .ensures ∙ code-operation (now (args .s)) (args .r) (now (args .code)) (pre .1 .1 .1)) ∙ operation11 .given .1)))
+store-requires c κs = owed (c .before .before .before .before) (c .before .before .operation11 .given .1)
 
 size-requires : tie.Need-size-requires
-size-requires c κs =
-    let pre = c .before .before .before .before .before .before .before .before .before .before .before .pre in
-    let operation-whole = c .before .before .before .before .operation-whole in
-    let args = c .before .before .before .before .before .before .before .before .before .before .before .args in
-    let operation12 = c .before .before .operation12 in
-    (pre .1 .0, (pre .1 .1 .0 .next, named-as (pre .1 .1 .0) (sym (operation-whole .ensures ∙ code-operation (now (args .s)) (args .r) (now (args .code)) (pre .1 .1 .1)) ∙ operation12 .given .1)))
+size-requires c κs = owed (c .before .before .before .before) (c .before .before .operation12 .given .1)
 
 new-record-requires : tie.Need-new-record-requires
-new-record-requires c κs =
-    let pre = c .before .before .before .before .before .before .before .before .before .before .before .pre in
-    let operation-whole = c .before .before .before .before .operation-whole in
-    let args = c .before .before .before .before .before .before .before .before .before .before .before .args in
-    let operation13 = c .before .before .operation13 in
-    (pre .1 .0, (pre .1 .1 .0 .next, named-as (pre .1 .1 .0) (sym (operation-whole .ensures ∙ code-operation (now (args .s)) (args .r) (now (args .code)) (pre .1 .1 .1)) ∙ operation13 .given .1)))
+new-record-requires c κs = owed (c .before .before .before .before) (c .before .before .operation13 .given .1)
 
 get-slot-requires : tie.Need-get-slot-requires
-get-slot-requires c κs =
-    let pre = c .before .before .before .before .before .before .before .before .before .before .before .pre in
-    let operation-whole = c .before .before .before .before .operation-whole in
-    let args = c .before .before .before .before .before .before .before .before .before .before .before .args in
-    let operation14 = c .before .before .operation14 in
-    (pre .1 .0, (pre .1 .1 .0 .next, named-as (pre .1 .1 .0) (sym (operation-whole .ensures ∙ code-operation (now (args .s)) (args .r) (now (args .code)) (pre .1 .1 .1)) ∙ operation14 .given .1)))
+get-slot-requires c κs = owed (c .before .before .before .before) (c .before .before .operation14 .given .1)
 
 set-slot-requires : tie.Need-set-slot-requires
-set-slot-requires c κs =
-    let pre = c .before .before .before .before .before .before .before .before .before .before .before .pre in
-    let operation-whole = c .before .before .before .before .operation-whole in
-    let args = c .before .before .before .before .before .before .before .before .before .before .before .args in
-    let operation15 = c .before .before .operation15 in
-    (pre .1 .0, (pre .1 .1 .0 .next, named-as (pre .1 .1 .0) (sym (operation-whole .ensures ∙ code-operation (now (args .s)) (args .r) (now (args .code)) (pre .1 .1 .1)) ∙ operation15 .given .1)))
+set-slot-requires c κs = owed (c .before .before .before .before) (c .before .before .operation15 .given .1)
 
 call-requires : tie.Need-call-requires
 call-requires c κs =
-    let pre = c .before .before .before .before .before .before .before .before .before .before .before .pre in
     let args = c .before .before .before .before .before .before .before .before .before .before .before .args in
-    let operation-whole = c .before .before .before .before .operation-whole in
-    let operation16 = c .before .before .operation16 in
-    (pre .0, (pre .1 .0, callable (now (args .s)) (args .r) _ _ _ (pre .1 .1 .0) (sym (operation-whole .ensures ∙ code-operation (now (args .s)) (args .r) (now (args .code)) (pre .1 .1 .1)) ∙ operation16 .given .1)))
+    let pre = c .before .before .before .before .before .before .before .before .before .before .before .pre in
+    (pre .0, (pre .1 .0, callable (now (args .s)) (args .r) _ _ _ (pre .1 .1 .0) (fetched (c .before .before .before .before) ∙ c .before .before .operation16 .given .1)))
 
 returns : tie.Need-returns
 returns c =
-    let operation-whole = c .before .before .before .before .before .before .before .operation-whole in
     let args = c .before .before .before .before .before .before .before .before .before .before .before .before .before .before .args in
-    let pre = c .before .before .before .before .before .before .before .before .before .before .before .before .before .before .pre in
-    let operation = c .before .before .before .before .before .operation in
-    let set = c .before .before .set in
-    rw (sym (operation-whole .ensures ∙ code-operation (now (args .s)) (args .r) (now (args .code)) (pre .1 .1 .1)) ∙ operation .given .1) (set .ensures (now (args .s)) (now (args .input)) (now (args .output)))
+    rw (fetched (c .before .before .before .before .before .before .before) ∙ c .before .before .before .before .before .operation .given .1) (c .before .before .set .ensures (now (args .s)) (now (args .input)) (now (args .output)))
 
 returns-2 : tie.Need-returns-2
 returns-2 c =
-    let operation-whole = c .before .before .before .before .before .before .before .operation-whole in
     let args = c .before .before .before .before .before .before .before .before .before .before .before .before .before .before .args in
-    let pre = c .before .before .before .before .before .before .before .before .before .before .before .before .before .before .pre in
-    let operation2 = c .before .before .before .before .before .operation2 in
-    let add = c .before .before .add in
-    rw (sym (operation-whole .ensures ∙ code-operation (now (args .s)) (args .r) (now (args .code)) (pre .1 .1 .1)) ∙ operation2 .given .1) (add .ensures (now (args .s)) (now (args .input)) (now (args .output)))
+    rw (fetched (c .before .before .before .before .before .before .before) ∙ c .before .before .before .before .before .operation2 .given .1) (c .before .before .add .ensures (now (args .s)) (now (args .input)) (now (args .output)))
 
 returns-3 : tie.Need-returns-3
 returns-3 c =
-    let operation-whole = c .before .before .before .before .before .before .before .operation-whole in
     let args = c .before .before .before .before .before .before .before .before .before .before .before .before .before .before .args in
-    let pre = c .before .before .before .before .before .before .before .before .before .before .before .before .before .before .pre in
-    let operation3 = c .before .before .before .before .before .operation3 in
-    let subtract = c .before .before .subtract in
-    rw (sym (operation-whole .ensures ∙ code-operation (now (args .s)) (args .r) (now (args .code)) (pre .1 .1 .1)) ∙ operation3 .given .1) (subtract .ensures (now (args .s)) (now (args .input)) (now (args .output)))
+    rw (fetched (c .before .before .before .before .before .before .before) ∙ c .before .before .before .before .before .operation3 .given .1) (c .before .before .subtract .ensures (now (args .s)) (now (args .input)) (now (args .output)))
 
 returns-4 : tie.Need-returns-4
 returns-4 c =
-    let operation-whole = c .before .before .before .before .before .before .before .operation-whole in
     let args = c .before .before .before .before .before .before .before .before .before .before .before .before .before .before .args in
-    let pre = c .before .before .before .before .before .before .before .before .before .before .before .before .before .before .pre in
-    let operation4 = c .before .before .before .before .before .operation4 in
-    let less = c .before .before .less in
-    rw (sym (operation-whole .ensures ∙ code-operation (now (args .s)) (args .r) (now (args .code)) (pre .1 .1 .1)) ∙ operation4 .given .1) (less .ensures (now (args .s)) (now (args .input)) (now (args .output)))
+    rw (fetched (c .before .before .before .before .before .before .before) ∙ c .before .before .before .before .before .operation4 .given .1) (c .before .before .less .ensures (now (args .s)) (now (args .input)) (now (args .output)))
 
 returns-5 : tie.Need-returns-5
 returns-5 c =
-    let operation-whole = c .before .before .before .before .before .operation-whole in
     let args = c .before .before .before .before .before .before .before .before .before .before .before .before .args in
-    let pre = c .before .before .before .before .before .before .before .before .before .before .before .before .pre in
-    let operation5 = c .before .before .before .operation5 in
-    let jump-zero = c .jump-zero in
-    rw (sym (operation-whole .ensures ∙ code-operation (now (args .s)) (args .r) (now (args .code)) (pre .1 .1 .1)) ∙ operation5 .given .1) (jump-zero .ensures (now (args .s)) (now (args .input)) (now (args .output)))
+    rw (fetched (c .before .before .before .before .before) ∙ c .before .before .before .operation5 .given .1) (c .jump-zero .ensures (now (args .s)) (now (args .input)) (now (args .output)))
 
 returns-6 : tie.Need-returns-6
 returns-6 c =
-    let operation-whole = c .before .before .before .before .before .before .before .operation-whole in
     let args = c .before .before .before .before .before .before .before .before .before .before .before .before .before .before .args in
-    let pre = c .before .before .before .before .before .before .before .before .before .before .before .before .before .before .pre in
-    let operation6 = c .before .before .before .before .before .operation6 in
-    let bind = c .before .before .bind in
-    rw (sym (operation-whole .ensures ∙ code-operation (now (args .s)) (args .r) (now (args .code)) (pre .1 .1 .1)) ∙ operation6 .given .1) (bind .ensures (now (args .s)) (now (args .input)) (now (args .output)))
+    rw (fetched (c .before .before .before .before .before .before .before) ∙ c .before .before .before .before .before .operation6 .given .1) (c .before .before .bind .ensures (now (args .s)) (now (args .input)) (now (args .output)))
 
 returns-7 : tie.Need-returns-7
 returns-7 c =
-    let operation-whole = c .before .before .before .before .before .before .before .operation-whole in
     let args = c .before .before .before .before .before .before .before .before .before .before .before .before .before .before .args in
-    let pre = c .before .before .before .before .before .before .before .before .before .before .before .before .before .before .pre in
-    let operation7 = c .before .before .before .before .before .operation7 in
-    let take = c .before .before .take in
-    rw (sym (operation-whole .ensures ∙ code-operation (now (args .s)) (args .r) (now (args .code)) (pre .1 .1 .1)) ∙ operation7 .given .1) (take .ensures (now (args .s)) (now (args .output)))
+    rw (fetched (c .before .before .before .before .before .before .before) ∙ c .before .before .before .before .before .operation7 .given .1) (c .before .before .take .ensures (now (args .s)) (now (args .output)))
 
 returns-8 : tie.Need-returns-8
 returns-8 c =
-    let operation-whole = c .before .before .before .before .before .before .before .before .operation-whole in
     let args = c .before .before .before .before .before .before .before .before .before .before .before .before .before .before .before .args in
-    let pre = c .before .before .before .before .before .before .before .before .before .before .before .before .before .before .before .pre in
-    let operation8 = c .before .before .before .before .before .before .operation8 in
-    let put = c .before .before .put in
-    rw (sym (operation-whole .ensures ∙ code-operation (now (args .s)) (args .r) (now (args .code)) (pre .1 .1 .1)) ∙ operation8 .given .1) (put .ensures (now (args .s)) (now (args .input)))
+    rw (fetched (c .before .before .before .before .before .before .before .before) ∙ c .before .before .before .before .before .before .operation8 .given .1) (c .before .before .put .ensures (now (args .s)) (now (args .input)))
 
 returns-9 : tie.Need-returns-9
 returns-9 c =
-    let operation-whole = c .before .before .before .before .before .before .before .operation-whole in
     let args = c .before .before .before .before .before .before .before .before .before .before .before .before .before .before .args in
-    let pre = c .before .before .before .before .before .before .before .before .before .before .before .before .before .before .pre in
-    let operation9 = c .before .before .before .before .before .operation9 in
-    let new-array = c .before .before .new-array in
-    rw (sym (operation-whole .ensures ∙ code-operation (now (args .s)) (args .r) (now (args .code)) (pre .1 .1 .1)) ∙ operation9 .given .1) (new-array .ensures (now (args .s)) (now (args .input)) (now (args .output)))
+    rw (fetched (c .before .before .before .before .before .before .before) ∙ c .before .before .before .before .before .operation9 .given .1) (c .before .before .new-array .ensures (now (args .s)) (now (args .input)) (now (args .output)))
 
 returns-10 : tie.Need-returns-10
 returns-10 c =
-    let operation-whole = c .before .before .before .before .before .before .before .operation-whole in
     let args = c .before .before .before .before .before .before .before .before .before .before .before .before .before .before .args in
-    let pre = c .before .before .before .before .before .before .before .before .before .before .before .before .before .before .pre in
-    let operation10 = c .before .before .before .before .before .operation10 in
-    let fetch = c .before .before .fetch in
-    rw (sym (operation-whole .ensures ∙ code-operation (now (args .s)) (args .r) (now (args .code)) (pre .1 .1 .1)) ∙ operation10 .given .1) (fetch .ensures (now (args .s)) (now (args .input)) (now (args .output)))
+    rw (fetched (c .before .before .before .before .before .before .before) ∙ c .before .before .before .before .before .operation10 .given .1) (c .before .before .fetch .ensures (now (args .s)) (now (args .input)) (now (args .output)))
 
 returns-11 : tie.Need-returns-11
 returns-11 c =
-    let operation-whole = c .before .before .before .before .before .before .before .operation-whole in
     let args = c .before .before .before .before .before .before .before .before .before .before .before .before .before .before .args in
-    let pre = c .before .before .before .before .before .before .before .before .before .before .before .before .before .before .pre in
-    let operation11 = c .before .before .before .before .before .operation11 in
-    let store = c .before .before .store in
-    rw (sym (operation-whole .ensures ∙ code-operation (now (args .s)) (args .r) (now (args .code)) (pre .1 .1 .1)) ∙ operation11 .given .1) (store .ensures (now (args .s)) (now (args .input)) (now (args .output)))
+    rw (fetched (c .before .before .before .before .before .before .before) ∙ c .before .before .before .before .before .operation11 .given .1) (c .before .before .store .ensures (now (args .s)) (now (args .input)) (now (args .output)))
 
 returns-12 : tie.Need-returns-12
 returns-12 c =
-    let operation-whole = c .before .before .before .before .before .before .before .operation-whole in
     let args = c .before .before .before .before .before .before .before .before .before .before .before .before .before .before .args in
-    let pre = c .before .before .before .before .before .before .before .before .before .before .before .before .before .before .pre in
-    let operation12 = c .before .before .before .before .before .operation12 in
-    let size = c .before .before .size in
-    rw (sym (operation-whole .ensures ∙ code-operation (now (args .s)) (args .r) (now (args .code)) (pre .1 .1 .1)) ∙ operation12 .given .1) (size .ensures (now (args .s)) (now (args .input)) (now (args .output)))
+    rw (fetched (c .before .before .before .before .before .before .before) ∙ c .before .before .before .before .before .operation12 .given .1) (c .before .before .size .ensures (now (args .s)) (now (args .input)) (now (args .output)))
 
 returns-13 : tie.Need-returns-13
 returns-13 c =
-    let operation-whole = c .before .before .before .before .before .before .before .operation-whole in
     let args = c .before .before .before .before .before .before .before .before .before .before .before .before .before .before .args in
-    let pre = c .before .before .before .before .before .before .before .before .before .before .before .before .before .before .pre in
-    let operation13 = c .before .before .before .before .before .operation13 in
-    let new-record = c .before .before .new-record in
-    rw (sym (operation-whole .ensures ∙ code-operation (now (args .s)) (args .r) (now (args .code)) (pre .1 .1 .1)) ∙ operation13 .given .1) (new-record .ensures (now (args .input)) (now (args .output)))
+    rw (fetched (c .before .before .before .before .before .before .before) ∙ c .before .before .before .before .before .operation13 .given .1) (c .before .before .new-record .ensures (now (args .input)) (now (args .output)))
 
 returns-14 : tie.Need-returns-14
 returns-14 c =
-    let operation-whole = c .before .before .before .before .before .before .before .operation-whole in
     let args = c .before .before .before .before .before .before .before .before .before .before .before .before .before .before .args in
-    let pre = c .before .before .before .before .before .before .before .before .before .before .before .before .before .before .pre in
-    let operation14 = c .before .before .before .before .before .operation14 in
-    let get-slot = c .before .before .get-slot in
-    rw (sym (operation-whole .ensures ∙ code-operation (now (args .s)) (args .r) (now (args .code)) (pre .1 .1 .1)) ∙ operation14 .given .1) (get-slot .ensures (now (args .s)) (now (args .input)) (now (args .output)))
+    rw (fetched (c .before .before .before .before .before .before .before) ∙ c .before .before .before .before .before .operation14 .given .1) (c .before .before .get-slot .ensures (now (args .s)) (now (args .input)) (now (args .output)))
 
 returns-15 : tie.Need-returns-15
 returns-15 c =
-    let operation-whole = c .before .before .before .before .before .before .before .operation-whole in
     let args = c .before .before .before .before .before .before .before .before .before .before .before .before .before .before .args in
-    let pre = c .before .before .before .before .before .before .before .before .before .before .before .before .before .before .pre in
-    let operation15 = c .before .before .before .before .before .operation15 in
-    let set-slot = c .before .before .set-slot in
-    rw (sym (operation-whole .ensures ∙ code-operation (now (args .s)) (args .r) (now (args .code)) (pre .1 .1 .1)) ∙ operation15 .given .1) (set-slot .ensures (now (args .s)) (now (args .input)) (now (args .output)))
+    rw (fetched (c .before .before .before .before .before .before .before) ∙ c .before .before .before .before .before .operation15 .given .1) (c .before .before .set-slot .ensures (now (args .s)) (now (args .input)) (now (args .output)))
 
 returns-16 : tie.Need-returns-16
 returns-16 c =
-    let operation-whole = c .before .before .before .before .before .before .before .operation-whole in
     let args = c .before .before .before .before .before .before .before .before .before .before .before .before .before .before .args in
-    let pre = c .before .before .before .before .before .before .before .before .before .before .before .before .before .before .pre in
-    let operation16 = c .before .before .before .before .before .operation16 in
-    let call = c .before .before .call in
-    rw (sym (operation-whole .ensures ∙ code-operation (now (args .s)) (args .r) (now (args .code)) (pre .1 .1 .1)) ∙ operation16 .given .1) (call .ensures (now (args .input)) (now (args .output)))
+    rw (fetched (c .before .before .before .before .before .before .before) ∙ c .before .before .before .before .before .operation16 .given .1) (c .before .before .call .ensures (now (args .input)) (now (args .output)))
 
 returns-17 : tie.Need-returns-17
 returns-17 c =
-    let operation-whole = c .before .before .before .before .before .before .before .operation-whole in
     let args = c .before .before .before .before .before .before .before .before .before .before .before .before .before .before .args in
-    let pre = c .before .before .before .before .before .before .before .before .before .before .before .before .before .before .pre in
-    let operation17 = c .before .before .before .before .before .operation17 in
-    let give-back = c .before .before .give-back in
-    rw (sym (operation-whole .ensures ∙ code-operation (now (args .s)) (args .r) (now (args .code)) (pre .1 .1 .1)) ∙ operation17 .given .1) (give-back .ensures (now (args .s)) (now (args .input)) (now (args .output)))
+    rw (fetched (c .before .before .before .before .before .before .before) ∙ c .before .before .before .before .before .operation17 .given .1) (c .before .before .give-back .ensures (now (args .s)) (now (args .input)) (now (args .output)))
 
 pub step-spec : {M : Type 1} → statement M
 step-spec =
