@@ -21,26 +21,14 @@ Inv-loop s index pr to b f j₀ j = Testing (actual s pr to b) (formalsAt s to) 
 abbrev μ-loop : tie.MeasureT-loop
 μ-loop s index pr to b f j₀ j = f - j
 
-field-requires : tie.Need-field-requires Inv-loop μ-loop
-field-requires c κs = search needs
-
 loop-holds : tie.Need-loop-holds Inv-loop μ-loop
 loop-holds c = test-start _ _
-
-actual-rule-requires : tie.Need-actual-rule-requires Inv-loop μ-loop
-actual-rule-requires c κs = search needs
 
 returns : tie.Need-returns Inv-loop μ-loop
 unfolding formalsAt
 returns c =
     let d = c .before .before .before in
     test-stop _ _ _ (d .loop .inv) (omega arith) _ (c .before .actual-rule .ensures) (λ z. omega arith)
-
-add-j : tie.Need-add-j Inv-loop μ-loop
-add-j c = omega arith
-
-loop-less : tie.Need-loop-less Inv-loop μ-loop
-loop-less c = omega arith
 
 loop-again : tie.Need-loop-again Inv-loop μ-loop
 unfolding formalsAt
@@ -58,11 +46,11 @@ actuals-rule-spec =
     (tie.spec
     Inv-loop
     μ-loop
-    field-requires
+    (λ c κs. search needs)
     loop-holds
-    actual-rule-requires
+    (λ c κs. search needs)
     returns
-    add-j
-    loop-less
+    (λ c. omega arith)
+    (λ c. omega arith)
     loop-again
     returns-2)

@@ -15,23 +15,8 @@ Inv-loop s index at slots k₀ k = Testing (λ k. closed-rule (qualOf s (byteAt 
 abbrev μ-loop : tie.MeasureT-loop
 μ-loop s index at slots k₀ k = slots - k
 
-byte-requires : tie.Need-byte-requires Inv-loop μ-loop
-byte-requires c κs = search needs
-
 loop-holds : tie.Need-loop-holds Inv-loop μ-loop
 loop-holds c = test-start _ _
-
-cast-byte : tie.Need-cast-byte Inv-loop μ-loop
-cast-byte c = omega arith
-
-add-byte : tie.Need-add-byte Inv-loop μ-loop
-add-byte c = omega arith
-
-byte-requires-2 : tie.Need-byte-requires-2 Inv-loop μ-loop
-byte-requires-2 c κs = search needs
-
-closed-rule-requires : tie.Need-closed-rule-requires Inv-loop μ-loop
-closed-rule-requires c κs = search needs
 
 returns : tie.Need-returns Inv-loop μ-loop
 returns c =
@@ -40,12 +25,6 @@ returns c =
     let e = rw (d .before .byte2 .ensures, l .before .before .before .before .pre .types _) at (d .closed-rule .ensures) in
     rw (← l .before .before .byte .ensures)
     (test-stop _ _ _ (l .before .loop .inv) (l .loop-test .taken) _ e (λ z. omega arith))
-
-add-k : tie.Need-add-k Inv-loop μ-loop
-add-k c = omega arith
-
-loop-less : tie.Need-loop-less Inv-loop μ-loop
-loop-less c = omega arith
 
 loop-again : tie.Need-loop-again Inv-loop μ-loop
 loop-again c =
@@ -64,14 +43,14 @@ slots-rule-spec =
     (tie.spec
     Inv-loop
     μ-loop
-    byte-requires
+    (λ c κs. search needs)
     loop-holds
-    cast-byte
-    add-byte
-    byte-requires-2
-    closed-rule-requires
+    (λ c. omega arith)
+    (λ c. omega arith)
+    (λ c κs. search needs)
+    (λ c κs. search needs)
     returns
-    add-k
-    loop-less
+    (λ c. omega arith)
+    (λ c. omega arith)
     loop-again
     returns-2)

@@ -26,15 +26,6 @@ loop-holds c =
     let args = c .args in
     (omega arith, paste-zero (now (args .memory)) (args .to) (drop (args .from) (now (args .memory))), refl, λ i h. absurd (omega arith))
 
-add-w : tie.Need-add-w Inv-loop μ-loop
-add-w c = omega arith
-
-mul-w : tie.Need-mul-w Inv-loop μ-loop
-mul-w c = omega arith
-
-slice-read-w : tie.Need-slice-read-w Inv-loop μ-loop
-slice-read-w c = omega arith
-
 same-length : tie.Need-same-length Inv-loop μ-loop
 same-length c = c .before .before .before .loop .inv .2
 
@@ -51,21 +42,6 @@ returns c =
       sym (ap (λ l. getD l (args .from + loop .j) 0) (loop .inv .1) ∙ copied-word d (args .from) (args .to) (args .n) (loop .j) (pre .0 .0) (pre .0 .1) (pre .1) turn)
           ∙ c .if1 .taken,
     )
-
-add-memory : tie.Need-add-memory Inv-loop μ-loop
-add-memory c = omega arith
-
-mul-memory : tie.Need-mul-memory Inv-loop μ-loop
-mul-memory c = omega arith
-
-slice-write-memory : tie.Need-slice-write-memory Inv-loop μ-loop
-slice-write-memory c = omega arith
-
-add-j : tie.Need-add-j Inv-loop μ-loop
-add-j c = omega arith
-
-loop-less : tie.Need-loop-less Inv-loop μ-loop
-loop-less c = omega arith
 
 loop-again : tie.Need-loop-again Inv-loop μ-loop
 loop-again c =
@@ -103,16 +79,16 @@ copy-filled-spec =
     Inv-loop
     μ-loop
     loop-holds
-    add-w
-    mul-w
-    slice-read-w
+    (λ c. omega arith)
+    (λ c. omega arith)
+    (λ c. omega arith)
     same-length
     returns
-    add-memory
-    mul-memory
-    slice-write-memory
-    add-j
-    loop-less
+    (λ c. omega arith)
+    (λ c. omega arith)
+    (λ c. omega arith)
+    (λ c. omega arith)
+    (λ c. omega arith)
     loop-again
     same-length-2
     returns-2)

@@ -29,26 +29,11 @@ actual-in-requires c κs =
     let loop = c .before .before .loop in
     (pre .0, rw (loop .inv .1) (pre .1 .0))
 
-enum-known-w : tie.Need-enum-known-w Inv-loop μ-loop
-enum-known-w c = search needs
-
-cast-memory : tie.Need-cast-memory Inv-loop μ-loop
-cast-memory c = search needs
-
-add-memory : tie.Need-add-memory Inv-loop μ-loop
-add-memory c = search needs
-
-mul-memory : tie.Need-mul-memory Inv-loop μ-loop
-mul-memory c = search needs
-
 slice-write-memory : tie.Need-slice-write-memory Inv-loop μ-loop
 slice-write-memory c =
     let pre = c .before .before .before .before .before .before .before .before .before .pre in
     let loop = c .before .before .before .before .before .before .loop in
     let frame = pre .1 .0 .frame in let room = pre .1 .1 .1 in let long = loop .inv .1 in omega arith
-
-enum-known-k : tie.Need-enum-known-k Inv-loop μ-loop
-enum-known-k c = search needs
 
 same-length : tie.Need-same-length Inv-loop μ-loop
 same-length c =
@@ -62,12 +47,6 @@ returns c =
     let actual-in = c .before .before .before .actual-in in
     let k = c .before .k in
     let turn : loop .j < args .f = omega arith in let e : loop .j + (args .f - loop .j) ≡ args .f = omega arith in λ p at. (loop .inv .2 p at .gap, λ v S. rw e at (bound-stop (loop .inv .2 p at) (actual-in .result) (args .f - (loop .j + 1)) (omega arith) (λ u T. actual-in .ensures .1 u p at T) (k .given .1) v S))
-
-add-j : tie.Need-add-j Inv-loop μ-loop
-add-j c = omega arith
-
-loop-less : tie.Need-loop-less Inv-loop μ-loop
-loop-less c = omega arith
 
 loop-again : tie.Need-loop-again Inv-loop μ-loop
 loop-again c =
@@ -97,16 +76,16 @@ bind-actuals-spec =
     μ-loop
     loop-holds
     actual-in-requires
-    enum-known-w
-    cast-memory
-    add-memory
-    mul-memory
+    (λ c. search needs)
+    (λ c. search needs)
+    (λ c. search needs)
+    (λ c. search needs)
     slice-write-memory
-    enum-known-k
+    (λ c. search needs)
     same-length
     returns
-    add-j
-    loop-less
+    (λ c. omega arith)
+    (λ c. omega arith)
     loop-again
     same-length-2
     returns-2)

@@ -19,9 +19,6 @@ abbrev μ-loop : tie.MeasureT-loop
 loop-holds : tie.Need-loop-holds Inv-loop μ-loop
 loop-holds c = pass-start _ _
 
-place-of-requires : tie.Need-place-of-requires Inv-loop μ-loop
-place-of-requires c κs = search needs
-
 procedure-access-requires : tie.Need-procedure-access-requires Inv-loop μ-loop
 procedure-access-requires c κs =
     let a = c .before .before .before .before in
@@ -30,21 +27,9 @@ procedure-access-requires c κs =
     let at = c .place-of .ensures ∙ a .pre .0 .places p (omega arith) in
     (a .pre .0, (at, rw at (a .pre .1 .0 .each p inside)))
 
-enum-told : tie.Need-enum-told Inv-loop μ-loop
-enum-told c = search needs
-
-enum-told-2 : tie.Need-enum-told-2 Inv-loop μ-loop
-enum-told-2 c = search needs
-
 returns : tie.Need-returns Inv-loop μ-loop
 returns c =
     pass-stop _ _ _ (c .before .before .before .before .before .loop .inv) (c .before .before .before .before .loop-test .taken) _ _ _ (c .before .before .procedure-access .ensures) (c .enum-told2 .given .1)
-
-add-p : tie.Need-add-p Inv-loop μ-loop
-add-p c = omega arith
-
-loop-less : tie.Need-loop-less Inv-loop μ-loop
-loop-less c = omega arith
 
 loop-again : tie.Need-loop-again Inv-loop μ-loop
 loop-again c =
@@ -60,12 +45,12 @@ procedures-access-spec =
     Inv-loop
     μ-loop
     loop-holds
-    place-of-requires
+    (λ c κs. search needs)
     procedure-access-requires
-    enum-told
-    enum-told-2
+    (λ c. search needs)
+    (λ c. search needs)
     returns
-    add-p
-    loop-less
+    (λ c. omega arith)
+    (λ c. omega arith)
     loop-again
     returns-2)

@@ -15,31 +15,13 @@ Inv-loop s index p pr n x₀ x = Passing (variable-rules (placeOf s) (programOf 
 abbrev μ-loop : tie.MeasureT-loop
 μ-loop s index p pr n x₀ x = n - x
 
-field-requires : tie.Need-field-requires Inv-loop μ-loop
-field-requires c κs = search needs
-
 loop-holds : tie.Need-loop-holds Inv-loop μ-loop
 loop-holds c = pass-start _ _
-
-variable-access-requires : tie.Need-variable-access-requires Inv-loop μ-loop
-variable-access-requires c κs = search needs
-
-enum-told : tie.Need-enum-told Inv-loop μ-loop
-enum-told c = search needs
-
-enum-told-2 : tie.Need-enum-told-2 Inv-loop μ-loop
-enum-told-2 c = search needs
 
 returns : tie.Need-returns Inv-loop μ-loop
 unfolding variablesAt
 returns c =
     rw (← c .before .before .before .before .before .field .ensures) (pass-stop _ _ _ (c .before .before .before .before .loop .inv) (c .before .before .before .loop-test .taken) _ _ _ (c .before .before .variable-access .ensures) (c .enum-told2 .given .1))
-
-add-x : tie.Need-add-x Inv-loop μ-loop
-add-x c = omega arith
-
-loop-less : tie.Need-loop-less Inv-loop μ-loop
-loop-less c = omega arith
 
 loop-again : tie.Need-loop-again Inv-loop μ-loop
 loop-again c =
@@ -56,13 +38,13 @@ variables-access-spec =
     (tie.spec
     Inv-loop
     μ-loop
-    field-requires
+    (λ c κs. search needs)
     loop-holds
-    variable-access-requires
-    enum-told
-    enum-told-2
+    (λ c κs. search needs)
+    (λ c. search needs)
+    (λ c. search needs)
     returns
-    add-x
-    loop-less
+    (λ c. omega arith)
+    (λ c. omega arith)
     loop-again
     returns-2)

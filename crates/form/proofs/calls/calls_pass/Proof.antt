@@ -17,35 +17,8 @@ Inv-loop s index pr vars n first i₀ i = Passing (call-tests s pr) n i
 abbrev μ-loop : tie.MeasureT-loop
 μ-loop s index pr vars n first i₀ i = n - i
 
-byte-requires : tie.Need-byte-requires Inv-loop μ-loop
-byte-requires c κs = search needs
-
-word-requires : tie.Need-word-requires Inv-loop μ-loop
-word-requires c κs = search needs
-
-instruction-at-requires : tie.Need-instruction-at-requires Inv-loop μ-loop
-instruction-at-requires c κs = search needs
-
 loop-holds : tie.Need-loop-holds Inv-loop μ-loop
 loop-holds c = pass-start _ _
-
-cast-call-record : tie.Need-cast-call-record Inv-loop μ-loop
-cast-call-record c = omega arith
-
-mul-call-record : tie.Need-mul-call-record Inv-loop μ-loop
-mul-call-record c = omega arith
-
-add-call-record : tie.Need-add-call-record Inv-loop μ-loop
-add-call-record c = omega arith
-
-call-record-requires : tie.Need-call-record-requires Inv-loop μ-loop
-call-record-requires c κs = search needs
-
-enum-told : tie.Need-enum-told Inv-loop μ-loop
-enum-told c = search needs
-
-enum-told-2 : tie.Need-enum-told-2 Inv-loop μ-loop
-enum-told-2 c = search needs
 
 as-defined : (c : tie.After-call-record Inv-loop μ-loop) →
     let a = c .before .before .before .before .before .before .before .args in
@@ -63,12 +36,6 @@ returns c =
     rw (← l .before .before .before .word .ensures)
     (pass-stop _ _ _ (l .before .loop .inv) (l .loop-test .taken) _ _ _ (as-defined (c .before .before)) (c .enum-told2 .given .1))
 
-add-i : tie.Need-add-i Inv-loop μ-loop
-add-i c = omega arith
-
-loop-less : tie.Need-loop-less Inv-loop μ-loop
-loop-less c = omega arith
-
 loop-again : tie.Need-loop-again Inv-loop μ-loop
 loop-again c =
     let l = c .before .before .before in
@@ -84,18 +51,18 @@ calls-pass-spec =
     (tie.spec
     Inv-loop
     μ-loop
-    byte-requires
-    word-requires
-    instruction-at-requires
+    (λ c κs. search needs)
+    (λ c κs. search needs)
+    (λ c κs. search needs)
     loop-holds
-    cast-call-record
-    mul-call-record
-    add-call-record
-    call-record-requires
-    enum-told
-    enum-told-2
+    (λ c. omega arith)
+    (λ c. omega arith)
+    (λ c. omega arith)
+    (λ c κs. search needs)
+    (λ c. search needs)
+    (λ c. search needs)
     returns
-    add-i
-    loop-less
+    (λ c. omega arith)
+    (λ c. omega arith)
     loop-again
     returns-2)

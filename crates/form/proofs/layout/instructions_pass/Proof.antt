@@ -17,32 +17,8 @@ Inv-loop s pr l n first i₀ i = Passing (instruction-tests s pr) n i
 abbrev μ-loop : tie.MeasureT-loop
 μ-loop s pr l n first i₀ i = n - i
 
-limits-at-requires : tie.Need-limits-at-requires Inv-loop μ-loop
-limits-at-requires c κs = search needs
-
-instruction-at-requires : tie.Need-instruction-at-requires Inv-loop μ-loop
-instruction-at-requires c κs = search needs
-
 loop-holds : tie.Need-loop-holds Inv-loop μ-loop
 loop-holds c = pass-start _ _
-
-cast-instruction-record : tie.Need-cast-instruction-record Inv-loop μ-loop
-cast-instruction-record c = omega arith
-
-mul-instruction-record : tie.Need-mul-instruction-record Inv-loop μ-loop
-mul-instruction-record c = omega arith
-
-add-instruction-record : tie.Need-add-instruction-record Inv-loop μ-loop
-add-instruction-record c = omega arith
-
-instruction-record-requires : tie.Need-instruction-record-requires Inv-loop μ-loop
-instruction-record-requires c κs = search needs
-
-enum-told : tie.Need-enum-told Inv-loop μ-loop
-enum-told c = search needs
-
-enum-told-2 : tie.Need-enum-told-2 Inv-loop μ-loop
-enum-told-2 c = search needs
 
 as-defined : (c : tie.After-instruction-record Inv-loop μ-loop) →
     let a = c .before .before .before .before .before .before .args in
@@ -57,12 +33,6 @@ returns c =
     let l = c .before .before .before in
     rw (← ap (λ (x : Limits). x .instructions) (l .before .before .before .limits-at .ensures))
     (pass-stop _ _ _ (l .before .loop .inv) (l .loop-test .taken) _ _ _ (as-defined (c .before .before)) (c .enum-told2 .given .1))
-
-add-i : tie.Need-add-i Inv-loop μ-loop
-add-i c = omega arith
-
-loop-less : tie.Need-loop-less Inv-loop μ-loop
-loop-less c = omega arith
 
 loop-again : tie.Need-loop-again Inv-loop μ-loop
 loop-again c =
@@ -79,17 +49,17 @@ instructions-pass-spec =
     (tie.spec
     Inv-loop
     μ-loop
-    limits-at-requires
-    instruction-at-requires
+    (λ c κs. search needs)
+    (λ c κs. search needs)
     loop-holds
-    cast-instruction-record
-    mul-instruction-record
-    add-instruction-record
-    instruction-record-requires
-    enum-told
-    enum-told-2
+    (λ c. omega arith)
+    (λ c. omega arith)
+    (λ c. omega arith)
+    (λ c κs. search needs)
+    (λ c. search needs)
+    (λ c. search needs)
     returns
-    add-i
-    loop-less
+    (λ c. omega arith)
+    (λ c. omega arith)
     loop-again
     returns-2)

@@ -18,18 +18,6 @@ abbrev μ-loop : tie.MeasureT-loop
 loop-holds : tie.Need-loop-holds Inv-loop μ-loop
 loop-holds c = pass-start _ _
 
-place-of-requires : tie.Need-place-of-requires Inv-loop μ-loop
-place-of-requires c κs = search needs
-
-procedure-pass-requires : tie.Need-procedure-pass-requires Inv-loop μ-loop
-procedure-pass-requires c κs = search needs
-
-enum-told : tie.Need-enum-told Inv-loop μ-loop
-enum-told c = search needs
-
-enum-told-2 : tie.Need-enum-told-2 Inv-loop μ-loop
-enum-told-2 c = search needs
-
 as-defined : (c : tie.After-procedure-pass Inv-loop μ-loop) →
     let l = c .before .before .before in
     c .procedure-pass .result ≡ verdict (procedure-tests (l .before .before .args .s .now) (l .loop .p))
@@ -44,12 +32,6 @@ returns : tie.Need-returns Inv-loop μ-loop
 returns c =
     let l = c .before .before .before .before in
     pass-stop _ _ _ (l .before .loop .inv) (l .loop-test .taken) _ _ _ (as-defined (c .before .before)) (c .enum-told2 .given .1)
-
-add-p : tie.Need-add-p Inv-loop μ-loop
-add-p c = omega arith
-
-loop-less : tie.Need-loop-less Inv-loop μ-loop
-loop-less c = omega arith
 
 loop-again : tie.Need-loop-again Inv-loop μ-loop
 loop-again c =
@@ -66,12 +48,12 @@ procedures-pass-spec =
     Inv-loop
     μ-loop
     loop-holds
-    place-of-requires
-    procedure-pass-requires
-    enum-told
-    enum-told-2
+    (λ c κs. search needs)
+    (λ c κs. search needs)
+    (λ c. search needs)
+    (λ c. search needs)
     returns
-    add-p
-    loop-less
+    (λ c. omega arith)
+    (λ c. omega arith)
     loop-again
     returns-2)

@@ -14,20 +14,8 @@ Inv-loop s pr n x₀ x = Passing (variable-tests s pr) n x
 abbrev μ-loop : tie.MeasureT-loop
 μ-loop s pr n x₀ x = n - x
 
-byte-requires : tie.Need-byte-requires Inv-loop μ-loop
-byte-requires c κs = search needs
-
 loop-holds : tie.Need-loop-holds Inv-loop μ-loop
 loop-holds c = pass-start _ _
-
-variable-record-requires : tie.Need-variable-record-requires Inv-loop μ-loop
-variable-record-requires c κs = search needs
-
-enum-told : tie.Need-enum-told Inv-loop μ-loop
-enum-told c = search needs
-
-enum-told-2 : tie.Need-enum-told-2 Inv-loop μ-loop
-enum-told-2 c = search needs
 
 returns : tie.Need-returns Inv-loop μ-loop
 unfolding variablesAt
@@ -35,12 +23,6 @@ returns c =
     let l = c .before .before .before in
     rw (← l .before .before .byte .ensures)
     (pass-stop _ _ _ (l .before .loop .inv) (l .loop-test .taken) _ _ _ (c .before .before .variable-record .ensures) (c .enum-told2 .given .1))
-
-add-x : tie.Need-add-x Inv-loop μ-loop
-add-x c = omega arith
-
-loop-less : tie.Need-loop-less Inv-loop μ-loop
-loop-less c = omega arith
 
 loop-again : tie.Need-loop-again Inv-loop μ-loop
 loop-again c =
@@ -57,13 +39,13 @@ variables-pass-spec =
     (tie.spec
     Inv-loop
     μ-loop
-    byte-requires
+    (λ c κs. search needs)
     loop-holds
-    variable-record-requires
-    enum-told
-    enum-told-2
+    (λ c κs. search needs)
+    (λ c. search needs)
+    (λ c. search needs)
     returns
-    add-x
-    loop-less
+    (λ c. omega arith)
+    (λ c. omega arith)
     loop-again
     returns-2)

@@ -27,9 +27,6 @@ turn-requires : tie.Need-turn-requires Inv-loop μ-loop
 turn-requires c κs =
     ready _ _ _ _ (c .before .before .before .before .before .before .before .before .before .before .pre .0) _ (c .before .before .before .before .before .before .before .before .before .before .pre .1 .1 .some-run) _ _ _ _ (begun-kept (c .before .before .before .before .loop .inv .1 .1 .1) (c .before .before .before .before .before .before .before .before .before .before .pre .1 .1)) (c .before .before .if1 .taken) (c .before .before .before .before .before .before .before .before .before .before .fits .until .fits) _ (same-code _ (c .before .before .before .before .before .before .before .before .before .before .args .start) _ _ (c .before .before .before .before .loop .inv .1 .1 .0) (c .before .before .before .before .before .before .before .before .before .before .pre .1 .0))
 
-enum-known-q : tie.Need-enum-known-q Inv-loop μ-loop
-enum-known-q c = search needs
-
 loop-less : tie.Need-loop-less Inv-loop μ-loop
 loop-less c =
     let a = keeps-on (c .before .before .before .before .before .before .before .before .before .before .before .before .before .before .before .before .before .before .pre .0) (c .before .before .before .before .before .before .before .before .before .before .before .before .loop .inv .1 .1 .1) (c .before .before .before .before .before .before .before .before .before .before .before .before .before .before .before .before .before .before .pre .1 .1) (c .before .before .before .before .before .before .before .before .before .before .if1 .taken) (c .before .before .before .before .before .before .before .turn .ensures) (c .before .before .before .before .before .before .before .turn .kept .1 .1 .1 .1 .0) (c .before .before .before .before .before .before .before .turn .kept .1 .1 .1 .1 .1 .0) _ (c .before .before .before .before .before .before .before .before .before .before .before .before .loop .inv .1 .1 .0) (c .before .q .given .1) .0 in omega arith
@@ -37,9 +34,6 @@ loop-less c =
 loop-again : tie.Need-loop-again Inv-loop μ-loop
 loop-again c =
     let a = keeps-on (c .before .before .before .before .before .before .before .before .before .before .before .before .before .before .before .before .before .before .pre .0) (c .before .before .before .before .before .before .before .before .before .before .before .before .loop .inv .1 .1 .1) (c .before .before .before .before .before .before .before .before .before .before .before .before .before .before .before .before .before .before .pre .1 .1) (c .before .before .before .before .before .before .before .before .before .before .if1 .taken) (c .before .before .before .before .before .before .before .turn .ensures) (c .before .before .before .before .before .before .before .turn .kept .1 .1 .1 .1 .0) (c .before .before .before .before .before .before .before .turn .kept .1 .1 .1 .1 .1 .0) _ (c .before .before .before .before .before .before .before .before .before .before .before .before .loop .inv .1 .1 .0) (c .before .q .given .1) in let e = a .0 in let h = c .before .before .before .before .before .before .before .before .before .before .before .before .loop .inv .0 in (omega arith, (omega arith, (refl, a .1)))
-
-enum-known-q-2 : tie.Need-enum-known-q-2 Inv-loop μ-loop
-enum-known-q-2 c = search needs
 
 same-length : tie.Need-same-length Inv-loop μ-loop
 same-length c =
@@ -53,12 +47,6 @@ returns : tie.Need-returns Inv-loop μ-loop
 returns c =
     λ d G. let a = enters _ _ _ _ (c .before .before .before .before .before .before .before .before .before .before .before .before .before .before .before .before .before .before .pre .0) _ d _ _ _ _ (c .before .before .before .before .before .before .before .before .before .before .before .before .loop .inv .1 .1 .1 d G) (c .before .before .before .before .before .before .before .before .before .before .if1 .taken) _ _ _ (c .before .before .before .before .before .before .before .turn .ensures) (c .before .before .before .before .before .before .before .turn .kept .1 .1 .1 .1 .0) (c .before .before .before .before .before .before .before .turn .kept .1 .1 .1 .1 .1 .0) _ (c .before .q2 .given .1) in let e = a .0 in let h = c .before .before .before .before .before .before .before .before .before .before .before .before .loop .inv .0 in let l = c .before .before .before .before .before .before .before .before .before .before .if1 .taken in (omega arith, (omega arith, a .1))
 
-enum-known-k : tie.Need-enum-known-k Inv-loop μ-loop
-enum-known-k c = search needs
-
-ended-requires : tie.Need-ended-requires Inv-loop μ-loop
-ended-requires c κs = search needs
-
 same-length-3 : tie.Need-same-length-3 Inv-loop μ-loop
 same-length-3 c =
     c .before .before .before .before .before .before .before .before .turn .kept .1 .1 .1 .1 .0 ∙ begun-kept (c .before .before .before .before .before .before .before .before .before .before .before .before .before .loop .inv .1 .1 .1) (c .before .before .before .before .before .before .before .before .before .before .before .before .before .before .before .before .before .before .before .pre .1 .1) .long
@@ -71,15 +59,9 @@ returns-2 : tie.Need-returns-2 Inv-loop μ-loop
 returns-2 c =
     λ d G. rw (c .ended .ensures) (halts _ _ _ _ (c .before .before .before .before .before .before .before .before .before .before .before .before .before .before .before .before .before .before .before .pre .0) _ d _ _ _ _ (c .before .before .before .before .before .before .before .before .before .before .before .before .before .loop .inv .1 .1 .1 d G) (c .before .before .before .before .before .before .before .before .before .before .before .if1 .taken) _ _ _ (c .before .before .before .before .before .before .before .before .turn .ensures) _ (c .before .before .k .given .1))
 
-enum-told : tie.Need-enum-told Inv-loop μ-loop
-enum-told c = search needs
-
 count-requires : tie.Need-count-requires Inv-loop μ-loop
 count-requires c κs =
     omega (arith, c .before .before .before .before .before .before .before .before .before .if1 .taken)
-
-ended-requires-2 : tie.Need-ended-requires-2 Inv-loop μ-loop
-ended-requires-2 c κs = search needs
 
 same-length-5 : tie.Need-same-length-5 Inv-loop μ-loop
 same-length-5 c =
@@ -113,21 +95,21 @@ run-frame-spec =
     μ-loop
     loop-holds
     turn-requires
-    enum-known-q
+    (λ c. search needs)
     loop-less
     loop-again
-    enum-known-q-2
+    (λ c. search needs)
     same-length
     same-length-2
     returns
-    enum-known-k
-    ended-requires
+    (λ c. search needs)
+    (λ c κs. search needs)
     same-length-3
     same-length-4
     returns-2
-    enum-told
+    (λ c. search needs)
     count-requires
-    ended-requires-2
+    (λ c κs. search needs)
     same-length-5
     same-length-6
     returns-3

@@ -19,21 +19,9 @@ abbrev μ-loop : tie.MeasureT-loop
 loop-holds : tie.Need-loop-holds Inv-loop μ-loop
 loop-holds c = (c .before .before .before .before .pre .1 .soon, λ d G. G)
 
-first-in-requires : tie.Need-first-in-requires Inv-loop μ-loop
-first-in-requires c κs = search needs
-
-cast-instructions-of : tie.Need-cast-instructions-of Inv-loop μ-loop
-cast-instructions-of c = search needs
-
-instructions-of-requires : tie.Need-instructions-of-requires Inv-loop μ-loop
-instructions-of-requires c κs = search needs
-
 run-frame-requires : tie.Need-run-frame-requires Inv-loop μ-loop
 run-frame-requires c κs =
     (c .before .before .before .before .before .before .before .before .before .pre .0, (c .before .before .instructions-of .ensures ∙ ap (λ n. drop n (c .before .before .before .before .before .before .before .before .before .args .s .now)) (c .before .before .before .first-in .ensures), begins (c .before .before .before .before .loop .inv .1) (c .before .before .before .before .before .before .before .before .before .pre .1) (c .before .before .before .before .loop .inv .0)))
-
-enum-known-q : tie.Need-enum-known-q Inv-loop μ-loop
-enum-known-q c = search needs
 
 loop-less : tie.Need-loop-less Inv-loop μ-loop
 loop-less c =
@@ -42,9 +30,6 @@ loop-less c =
 loop-again : tie.Need-loop-again Inv-loop μ-loop
 loop-again c =
     enters-frame (c .before .before .before .before .before .before .before .before .before .before .before .before .loop .inv .1) _ _ _ (c .before .before .before .before .before .before .before .run-frame .ensures) _ (c .before .q .given .1) (c .before .before .before .before .before .before .before .before .before .before .before .before .before .before .before .before .before .pre .1) .1
-
-enum-known-q-2 : tie.Need-enum-known-q-2 Inv-loop μ-loop
-enum-known-q-2 c = search needs
 
 same-length : tie.Need-same-length Inv-loop μ-loop
 same-length c =
@@ -57,9 +42,6 @@ same-length-2 c =
 returns : tie.Need-returns Inv-loop μ-loop
 returns c =
     rests (c .before .before .before .before .before .before .before .before .before .before .before .before .loop .inv .1) _ _ _ (c .before .before .before .before .before .before .before .run-frame .ensures) _ (c .before .q2 .given .1)
-
-enum-known-e : tie.Need-enum-known-e Inv-loop μ-loop
-enum-known-e c = search needs
 
 same-length-3 : tie.Need-same-length-3 Inv-loop μ-loop
 same-length-3 c =
@@ -80,18 +62,18 @@ run-until-spec =
     Inv-loop
     μ-loop
     loop-holds
-    first-in-requires
-    cast-instructions-of
-    instructions-of-requires
+    (λ c κs. search needs)
+    (λ c. search needs)
+    (λ c κs. search needs)
     run-frame-requires
-    enum-known-q
+    (λ c. search needs)
     loop-less
     loop-again
-    enum-known-q-2
+    (λ c. search needs)
     same-length
     same-length-2
     returns
-    enum-known-e
+    (λ c. search needs)
     same-length-3
     same-length-4
     returns-2)
