@@ -2,7 +2,7 @@
 use crate::Index;
 ghost use mathlib.Core.Path.{_≡_};
 ghost use Rattle.model.specs.Qualified.{base, rights, isInteger, isArray};
-ghost use Rattle.index.specs.Types.{word-in, base-of, rights-of, element-below, qualIn, ElementIn};
+ghost use Rattle.index.specs.Types.{word-in, base-of, rights-of, element-of, element-below, qualIn, ElementIn};
 
 // The word of QT j.
 pub fn type_word(index: &Index, j: u8) -> u64
@@ -14,7 +14,7 @@ pub fn type_word(index: &Index, j: u8) -> u64
     0
 }
 
-// The base in such a word, the rights, and the number of the element where it is below j; else 255, which names no QT.
+// The base in such a word, and the rights.
 pub fn base_in(w: u64) -> u8
     ensures { λ r. ⌜ r ≡ base-of w ⌝ }
 {
@@ -27,10 +27,18 @@ pub fn rights_in(w: u64) -> u32
     (w % 4294967296) as u32
 }
 
+// The number of the element in such a word, as it stands.
+pub fn element_number(w: u64) -> u8
+    ensures { λ r. ⌜ r ≡ element-of w ⌝ }
+{
+    (w / 1099511627776 % 256) as u8
+}
+
+// The same where it is below j; else 255, which names no QT.
 pub fn element_in(w: u64, j: u8) -> u8
     ensures { λ r. ⌜ r ≡ element-below w j ⌝ }
 {
-    let e = (w / 1099511627776 % 256) as u8;
+    let e = element_number(w);
     if e < j {
         return e;
     }

@@ -1,19 +1,19 @@
 -- Equality and order of two qualified types by their words, as the code asks them.
 use Prim.Native.Nat.{ℕ, zero, suc}
-use mathlib.Core.Path.{_≡_, refl, ap₂, _∙_}
+use mathlib.Core.Path.{_≡_, refl, sym, ap₂, _∙_}
 use mathlib.Core.List.{List}
-use mathlib.Core.Bool.{Bool, true, false, _&&_, _||_, cond}
+use mathlib.Core.Bool.{Bool, true, false, false≢true, _&&_, _||_, cond}
 use native.Mathlib.Omega.{arith}
-use lib.Dec.{eqb}
+use lib.Dec.{eqb, ltb}
 use borrow.Author.Tests.{eqb-true, ne-eqb}
 use Rattle.model.specs.Rights.{within}
-use Rattle.model.specs.Qualified.{Qual, rights, same, alike, order}
+use Rattle.model.specs.Qualified.{Qual, integer, array, declared, rights, isInteger, same, alike, order}
 use Rattle.model.specs.Refusal.{failure}
 use Rattle.model.specs.Rules.{moves}
 use Rattle.model.proofs.Verdicts.{both-true}
 use Rattle.sheet.specs.Meaning.{shaped}
-use Rattle.index.specs.Types.{word-in, rights-of, base-of, element-below, qualIn}
-use Rattle.index.proofs.Trees.{qual-shaped}
+use Rattle.index.specs.Types.{word-in, rights-of, base-of, element-of, element-below, qualIn}
+use Rattle.index.proofs.Trees.{qual-shaped, none-qual}
 
 -- same rights, of two types of base b; an integer has none
 abbrev same-rights : (b r u : ℕ) → Bool
@@ -82,3 +82,35 @@ module _ (t : List ℕ) (i j : ℕ) where
       (same (qualIn t (element-below (word-in t i) i)) (qualIn t (element-below (word-in t j) j)))
       (eqb (base-of (word-in t i)) (base-of (word-in t j)))
   alike-words = ap₂ alike (qual-shaped t i) (qual-shaped t j) ∙ alike-shaped _ _ _ _ _ _
+
+-- ---- of two elements, by their numbers as they stand
+-- below their arrays' they are read as they stand
+pub elements-stand : (v w i j : ℕ) → ltb (element-of v) i && ltb (element-of w) j ≡ true
+    → (element-below v i ≡ element-of v) × (element-below w j ≡ element-of w)
+unfolding element-below
+elements-stand v w i j h = let b = both-true (ltb (element-of v) i) (ltb (element-of w) j) h in (rw (b .0), rw (b .1))
+
+same-integer : (q : Qual) → same q integer ≡ isInteger q && isInteger integer
+unfolding same isInteger
+same-integer integer = refl
+same-integer (array r e) = refl
+same-integer (declared t r) = refl
+
+integer-same : (q : Qual) → same integer q ≡ isInteger integer && isInteger q
+unfolding same isInteger
+integer-same integer = refl
+integer-same (array r e) = refl
+integer-same (declared t r) = refl
+
+-- where one is not, it is read as an integer, and the other must be one too
+pub same-outside : (t : List ℕ) (v w i j : ℕ) → ltb (element-of v) i && ltb (element-of w) j ≡ false
+    → same (qualIn t (element-below v i)) (qualIn t (element-below w j)) ≡ isInteger (qualIn t (element-below v i)) && isInteger (qualIn t (element-below w j))
+unfolding element-below
+same-outside t v w i j h = go (ltb (element-of v) i) (ltb (element-of w) j) h
+  where
+    go : (a b : Bool) → a && b ≡ false
+        → same (qualIn t (cond a (element-of v) 255)) (qualIn t (cond b (element-of w) 255))
+        ≡ isInteger (qualIn t (cond a (element-of v) 255)) && isInteger (qualIn t (cond b (element-of w) 255))
+    go true true l = absurd (false≢true (sym l))
+    go true false l = rw (none-qual t 255 (omega arith)) (same-integer (qualIn t (element-of v)))
+    go false b l = rw (none-qual t 255 (omega arith)) (integer-same (qualIn t (cond b (element-of w) 255)))

@@ -3,6 +3,8 @@ use index::Index;
 use index::types::base_in;
 use index::types::base_of;
 use index::types::element_in;
+use index::types::element_number;
+use index::types::is_integer;
 use index::types::rights_in;
 use index::types::rights_of;
 use index::types::type_word;
@@ -31,9 +33,13 @@ fn equal_in(index: &Index, i: u8, j: u8) -> bool
     if b == base_in(w) {
         let head = (b == 0) | (rights_in(v) == rights_in(w));
         if head & (b == 1) {
-            let e = element_in(v, i);
-            let f = element_in(w, j);
-            return equal_in(index, e, f);
+            let e = element_number(v);
+            let f = element_number(w);
+            // An element's number falls; one that does not is read as an integer.
+            if (e < i) & (f < j) {
+                return equal_in(index, e, f);
+            }
+            return is_integer(index, element_in(v, i)) & is_integer(index, element_in(w, j));
         }
         return head;
     }
