@@ -23,23 +23,6 @@ Inv-loop s index₀ p at₀ i₀ index at i =
 abbrev μ-loop : tie.MeasureT-loop
 μ-loop s index₀ p at₀ i₀ index at i = 64 - i
 
-byte-requires : tie.Need-byte-requires Inv-loop μ-loop
-byte-requires c κs = search needs
-
-cast-p : tie.Need-cast-p Inv-loop μ-loop
-cast-p c =
-    omega arith
-
-byte-requires-2 : tie.Need-byte-requires-2 Inv-loop μ-loop
-byte-requires-2 c κs = search needs
-
-qual-at-requires : tie.Need-qual-at-requires Inv-loop μ-loop
-qual-at-requires c κs = search needs
-
-cast-at : tie.Need-cast-at Inv-loop μ-loop
-cast-at c =
-    omega arith
-
 loop-holds : tie.Need-loop-holds Inv-loop μ-loop
 unfolding procedureAt qualsOf
 loop-holds c =
@@ -51,31 +34,9 @@ procedure-entry-requires c κs =
     let b = both-below (l .i) (c .before .before .before .before .byte .result) 64 (c .loop-test .taken) in
     (b .1, omega (arith, l .inv .4))
 
-add-index : tie.Need-add-index Inv-loop μ-loop
-add-index c = search needs
-
-mul-index : tie.Need-mul-index Inv-loop μ-loop
-mul-index c = search needs
-
-element-write-index : tie.Need-element-write-index Inv-loop μ-loop
-element-write-index c = search needs
-
-cast-word : tie.Need-cast-word Inv-loop μ-loop
-cast-word c =
-    omega arith
-
-word-requires : tie.Need-word-requires Inv-loop μ-loop
-word-requires c κs = search needs
-
-instruction-at-requires : tie.Need-instruction-at-requires Inv-loop μ-loop
-instruction-at-requires c κs = search needs
-
 cast-at-2 : tie.Need-cast-at-2 Inv-loop μ-loop
 cast-at-2 c =
     omega (arith, c .instruction-at .ensures .1)
-
-add-i : tie.Need-add-i Inv-loop μ-loop
-add-i c = search needs
 
 loop-less : tie.Need-loop-less Inv-loop μ-loop
 loop-less c =
@@ -104,18 +65,6 @@ loop-again c =
 add-procedure-word : tie.Need-add-procedure-word Inv-loop μ-loop
 add-procedure-word c = omega (arith, c .before .loop .inv .4)
 
-procedure-word-requires : tie.Need-procedure-word-requires Inv-loop μ-loop
-procedure-word-requires c κs = search needs
-
-add-index-2 : tie.Need-add-index-2 Inv-loop μ-loop
-add-index-2 c = search needs
-
-mul-index-2 : tie.Need-mul-index-2 Inv-loop μ-loop
-mul-index-2 c = search needs
-
-element-write-index-2 : tie.Need-element-write-index-2 Inv-loop μ-loop
-element-write-index-2 c = search needs
-
 returns : tie.Need-returns Inv-loop μ-loop
 unfolding proceduresOf procedure-in
 returns c =
@@ -142,26 +91,26 @@ fill-procedures-spec =
     (tie.spec
     Inv-loop
     μ-loop
-    byte-requires
-    cast-p
-    byte-requires-2
-    qual-at-requires
-    cast-at
+    (λ c κs. search needs)
+    (λ c. omega arith)
+    (λ c κs. search needs)
+    (λ c κs. search needs)
+    (λ c. omega arith)
     loop-holds
     procedure-entry-requires
-    add-index
-    mul-index
-    element-write-index
-    cast-word
-    word-requires
-    instruction-at-requires
+    (λ c. search needs)
+    (λ c. search needs)
+    (λ c. search needs)
+    (λ c. omega arith)
+    (λ c κs. search needs)
+    (λ c κs. search needs)
     cast-at-2
-    add-i
+    (λ c. search needs)
     loop-less
     loop-again
     add-procedure-word
-    procedure-word-requires
-    add-index-2
-    mul-index-2
-    element-write-index-2
+    (λ c κs. search needs)
+    (λ c. search needs)
+    (λ c. search needs)
+    (λ c. search needs)
     returns)

@@ -19,28 +19,13 @@ Inv-loop s index₀ q j₀ index j =
 abbrev μ-loop : tie.MeasureT-loop
 μ-loop s index₀ q j₀ index j = 64 - j
 
-byte-requires : tie.Need-byte-requires Inv-loop μ-loop
-byte-requires c κs = search needs
-
 loop-holds : tie.Need-loop-holds Inv-loop μ-loop
 loop-holds c =
     (omega arith, omega arith, c .before .before .pre, λ k l. absurd (omega arith), λ k l. refl)
 
-type-entry-requires : tie.Need-type-entry-requires Inv-loop μ-loop
-type-entry-requires c κs = search needs
-
-cast-index : tie.Need-cast-index Inv-loop μ-loop
-cast-index c = search needs
-
-mul-index : tie.Need-mul-index Inv-loop μ-loop
-mul-index c = search needs
-
 element-write-index : tie.Need-element-write-index Inv-loop μ-loop
 element-write-index c =
     omega (arith, c .before .before .loop .inv .2)
-
-add-j : tie.Need-add-j Inv-loop μ-loop
-add-j c = search needs
 
 loop-less : tie.Need-loop-less Inv-loop μ-loop
 loop-less c =
@@ -79,13 +64,13 @@ fill-types-spec =
     (tie.spec
     Inv-loop
     μ-loop
-    byte-requires
+    (λ c κs. search needs)
     loop-holds
-    type-entry-requires
-    cast-index
-    mul-index
+    (λ c κs. search needs)
+    (λ c. search needs)
+    (λ c. search needs)
     element-write-index
-    add-j
+    (λ c. search needs)
     loop-less
     loop-again
     returns)
