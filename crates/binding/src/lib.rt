@@ -22,9 +22,13 @@ use words::object_word;
 use words::read;
 use words::tag_of;
 ghost use mathlib.Core.Path.{_≡_};
+ghost use mathlib.Core.List.{List};
+ghost use mathlib.Core.Bool.{true};
+ghost use Prim.Native.Nat.{ℕ};
 ghost use Rattle.model.specs.Modes.{fits};
 ghost use Rattle.index.specs.Types.{word-in, qualIn};
 ghost use Rattle.index.specs.Indexed.{Ready};
+ghost use Rattle.words.specs.declared.Moved.the-variants.{To};
 ghost use Rattle.binding.specs.Binds.{kind-in, OwnRecord, BindsFilled, BindsWord, Raises, BindsActual, BindsResult};
 
 // The object of a head is of QT q, whose word is t: of its base and, for an array, with equal elements.
@@ -63,6 +67,13 @@ pub fn bind_filled(index: &Index, h: &[u64], q: u8, w: u64) -> Moved
     Moved::Halt(18)
 }
 
+// An integer, bound to an integer's QT: a test by itself, so that it is inlined where the rest of a binding is not.
+fn is_integer_bound(index: &Index, q: u8, w: u64) -> bool
+    ensures { λ r. ⌜ ((h : List ℕ) → r ≡ true → BindsFilled (qualIn (now (index .entry))) h q w (To w)) ⌝ }
+{
+    (tag_of(w) == 1) & (base_in(type_word(index, q)) == 0)
+}
+
 // The word of a cell, bound to QT q; a blank one is 13.
 pub fn bind_word(index: &Index, h: &[u64], q: u8, w: u64) -> Moved
     ensures { λ r. ⌜ BindsWord (qualIn (now (index .entry))) (now (h .entry)) q w r ⌝ }
@@ -70,6 +81,9 @@ pub fn bind_word(index: &Index, h: &[u64], q: u8, w: u64) -> Moved
     let Cell::Filled(x) = cell_of(w) else {
         return Moved::Halt(13);
     };
+    if is_integer_bound(index, q, x) {
+        return Moved::To(x);
+    }
     bind_filled(index, h, q, x)
 }
 
@@ -120,6 +134,9 @@ pub fn result_word(s: &[u8], index: &Index, h: &[u64], pr: u32, w: u64) -> Moved
     let result = field(s, pr, 5);
     if result == 255 {
         return Moved::Halt(18);
+    }
+    if is_integer_bound(index, result, x) {
+        return Moved::To(x);
     }
     bind_filled(index, h, result, x)
 }

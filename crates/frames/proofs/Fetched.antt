@@ -1,17 +1,19 @@
 -- The instruction that the registers name, read from the running procedure's part of the sheet; and what is known of a call.
 use Prim.Native.Nat.{ℕ, _+_, _-_, _*_, _≤_}
 use native.Mathlib.Omega.{arith}
-use mathlib.Core.Path.{_≡_, ap, _∙_}
+use mathlib.Core.Path.{_≡_, ap, subst, _∙_}
 use mathlib.Core.List.{List}
 use lib.ListN.{length, getD, drop, length-drop}
 use lib.Seq.{getD-drop}
 use Rattle.model.specs.Rules.{callee}
+use Rattle.model.specs.declared.Operation.{Operation}
 use Rattle.model.specs.declared.Operation.the-variants.{Call}
 use Rattle.sheet.specs.Bytes.{byteAt, wordAt}
 use Rattle.sheet.specs.Layout.{codeAt, kAt}
 use Rattle.sheet.specs.Decode.{operationAt}
+use Rattle.form.specs.Named.{Named}
 use Rattle.writers.specs.declared.Registers.{Registers}
-use Rattle.writers.specs.Memory.{first-in}
+use Rattle.writers.specs.Memory.{variables-in, first-in}
 use Rattle.frames.specs.Fetch.{place-in, Fetchable, CodeOf}
 use Rattle.frames.specs.Frames.{Callable}
 
@@ -45,3 +47,7 @@ callable s r a b k F e =
       procedure = rw e at (F .callee-there);
       actuals = F .actuals a b k e;
     }
+
+-- the variables that the instruction names are the frame's
+pub named-as : {s : List ℕ} {r : Registers} {op : Operation} → Fetchable s r → operationAt s (place-in r) ≡ op → Named (variables-in r) op
+named-as {r = r} F e = subst (Named (variables-in r)) e (F .named)

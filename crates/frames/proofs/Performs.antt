@@ -5,7 +5,8 @@ use native.Mathlib.Omega.{arith}
 use mathlib.Core.Path.{_≡_, refl, sym, ap, subst, _∙_}
 use mathlib.Core.List.{List}
 use lib.Dec.{ltb}
-use lib.ListN.{length, getD, take, drop}
+use lib.ListN.{length, take, drop, length-drop}
+use lib.Seq.{length-take-le}
 use Rattle.model.specs.Outcome.{output-full, Res, ok, stop, stuck, ensure, _>>=_, _>>_}
 use Rattle.model.specs.Modes.{Mode}
 use Rattle.model.specs.Qualified.{Qual}
@@ -23,7 +24,7 @@ use Rattle.words.specs.declared.Number.{Number}
 use Rattle.writers.specs.declared.Registers.{Registers}
 use Rattle.writers.specs.declared.Stepped.{Stepped}
 use Rattle.writers.specs.declared.Stepped.the-variants.{Go, Enter, Halt, Done}
-use Rattle.writers.specs.Memory.{Given, variables-in, object-part, SeesIn, StandsFor}
+use Rattle.writers.specs.Memory.{Given, variables-in, Sane, object-part, SeesIn, StandsFor}
 use Rattle.writers.specs.Steps.{After, Does, branched, jumped, put-effect, take-effect}
 use Rattle.writers.proofs.View.{view-sees, free-is, next-input-is}
 use Rattle.frames.specs.Performs.{Performs}
@@ -72,6 +73,14 @@ pub sees-cut : (m : Mode) (q : ℕ → Qual) (v : View m) (words : List ℕ) (r 
 sees-cut m q v words r end is S =
     let n : variables-in r ≡ end - r .base = omega arith in
     subst (λ (k : ℕ). Sees m q v (take k (drop (r .base) words)) (object-part r words)) n S
+
+-- that part has as many words as the frame has variables
+pub cut-length : (words : List ℕ) (r : Registers) (end : ℕ) → Sane (length words) r → end ≡ r .base + variables-in r
+    → length (take (end - r .base) (drop (r .base) words)) ≡ variables-in r
+cut-length words r end sane is =
+    let frame-fits = sane .frame in
+    let n : end - r .base ≡ variables-in r = omega arith in
+    rw n (length-take-le (variables-in r) (drop (r .base) words) (rw length-drop (omega arith)))
 
 -- the running procedure is one of the sheet's, and the registers have its word
 pub record Running {m : Mode} (s : List ℕ) (r : Registers) (v : View m) : Type 0 where

@@ -10,10 +10,11 @@ use words::low_of;
 use words::name_of;
 use words::read;
 use words::size_of;
+use words::word_at;
 ghost use mathlib.Core.Path.{_≡_};
 ghost use mathlib.Core.List.{List};
 ghost use Prim.Native.Nat.{ℕ, _<_};
-ghost use lib.ListN.{length, getD};
+ghost use lib.ListN.{length};
 ghost use Rattle.model.specs.Qualified.{Qual};
 ghost use Rattle.model.specs.Program.{Program};
 ghost use Rattle.model.specs.Modes.{plain};
@@ -22,14 +23,6 @@ ghost use Rattle.model.specs.declared.Operation.the-variants as Op;
 ghost use Rattle.words.specs.Sees.{Sees};
 ghost use Rattle.words.specs.Answer.{moved-word};
 ghost use Rattle.words.specs.Answers.{Unless-stuck, MovedOk, StoredOk, number-as, given, moved-to, stored};
-
-// The word of variable x.
-fn word_at(f: &[u64], x: u8) -> u64
-    requires { ⌜ x < length (now f) ⌝ }
-    ensures { λ r. ⌜ r ≡ getD (now (f .entry)) x 0 ⌝ }
-{
-    f[x as usize]
-}
 
 // The integer in variable x.
 pub fn integer_at(f: &[u64], x: u8) -> Number

@@ -1,34 +1,28 @@
 -- What the plain machine's writers take, as the definition plans it.
 use Prim.Native.Nat.{ℕ, suc, _+_, _-_}
-use native.Mathlib.Omega.{arith}
-use mathlib.Core.Path.{_≡_, refl, ap, subst, _∙_}
+use mathlib.Core.Path.{_≡_, refl, ap, _∙_}
 use mathlib.Core.List.{List}
 use mathlib.Core.Option.{Option}
 use lib.Dec.{leb}
-use lib.ListN.{length, take, drop, length-drop}
-use lib.Seq.{length-take-le}
+use lib.ListN.{length}
 use Rattle.model.specs.Outcome.{memory-full, Res, ok, ensure, _>>=_, _>>_}
 use Rattle.model.specs.Qualified.{Qual, integer}
 use Rattle.model.specs.Modes.{plain, bind, demand}
 use Rattle.model.specs.Program.{Program}
 use Rattle.model.specs.Machine.{View, new-array, plan, one-integer, held, moved, give, gives, plan-array, plan-record, view}
-use Rattle.model.specs.declared.Operation.{Operation}
 use Rattle.model.specs.declared.Operation.the-variants as Op
 use Rattle.sheet.specs.Layout.{slotsOf, ownerAt}
-use Rattle.sheet.specs.Decode.{operationAt}
 use Rattle.sheet.specs.Meaning.{programOf, qualOf}
-use Rattle.form.specs.Named.{Named}
 use Rattle.index.specs.Procedures.{place-of}
 use Rattle.words.specs.Answers.{Unless-stuck, number-as, given}
 use Rattle.words.specs.declared.Number.{Number}
 use Rattle.words.specs.declared.Number.the-variants.{Is}
 use Rattle.writers.specs.declared.Registers.{Registers}
 use Rattle.writers.specs.declared.Stepped.{Stepped}
-use Rattle.writers.specs.Memory.{Given, variables-in, Sane}
+use Rattle.writers.specs.Memory.{Given, variables-in}
 use Rattle.writers.specs.Steps.{Does, take-effect, array-effect, record-effect}
 use Rattle.writers.proofs.View.{room-is}
 use Rattle.frames.specs.Performs.{Performs}
-use Rattle.frames.specs.Fetch.{place-in, Fetchable}
 use Rattle.frames.proofs.Performs.{always, unless-then, Reads, sees-cut, sees, runs, performs}
 
 -- what is planned, known whether or not the definition is stuck
@@ -79,17 +73,3 @@ module _ (s input words words′ before out : List ℕ) (r : Registers) (o : Ste
       let v = view (length words) (length before) t in
       exactly (records (programOf s) v a (r .base - r .used) integer 0 0 n (room-is plain c words before r t S)
       (e ∙ ap (λ (at : ℕ). slotsOf s (ownerAt s at)) (is ∙ runs plain c s words before r t q S .place))))
-
--- ---- variables that are the frame's
-
--- the part that the code cuts has as many words
-pub cut-length : (words : List ℕ) (r : Registers) (end : ℕ) → Sane (length words) r → end ≡ r .base + variables-in r
-    → length (take (end - r .base) (drop (r .base) words)) ≡ variables-in r
-cut-length words r end sane is =
-    let frame = sane .frame in
-    let n : end - r .base ≡ variables-in r = omega arith in
-    rw n (length-take-le (variables-in r) (drop (r .base) words) (rw length-drop (omega arith)))
-
--- those that the instruction names
-pub named-as : {s : List ℕ} {r : Registers} {op : Operation} → Fetchable s r → operationAt s (place-in r) ≡ op → Named (variables-in r) op
-named-as {r = r} F e = subst (Named (variables-in r)) e (F .named)

@@ -35,6 +35,7 @@ ghost use Rattle.model.specs.declared.Operation.the-variants as Op;
 ghost use Rattle.index.specs.Indexed.{Ready};
 ghost use Rattle.words.specs.declared.Number.the-variants.{Is};
 ghost use Rattle.watched_plan.specs.Plans.{PlansNumber, PlansMoved, PlansStored};
+ghost use Rattle.form.specs.Named.{Named};
 ghost use Rattle.writers.specs.Memory.{Sane, variables-in, frame-part, object-part};
 ghost use Rattle.frames.specs.Performs.{PerformsInside};
 ghost use Rattle.watched_calls.specs.Calls.{PlaceOf};
@@ -53,6 +54,7 @@ fn fetch_in(
 ) -> Moved
     requires { ⌜ Ready (now s) (now index) ⌝ }
     requires { ⌜ Sane (length (now memory)) r ⌝ }
+    requires { ⌜ (b < variables-in r) × (c < variables-in r) ⌝ }
     ensures { λ m. ⌜ PlansMoved (now (s .entry)) pr (frame-part r (now (memory .entry))) (object-part r (now (memory .entry))) (Op.Fetch a b c) a m ⌝ }
 {
     let base = r.base;
@@ -63,6 +65,7 @@ fn fetch_in(
 
 fn store_in(index: &Index, memory: &[u64], r: Registers, a: u8, b: u8, c: u8) -> Stored
     requires { ⌜ Sane (length (now memory)) r ⌝ }
+    requires { ⌜ (a < variables-in r) × ((b < variables-in r) × (c < variables-in r)) ⌝ }
     ensures { λ m. ⌜ ((s : List ℕ) (pr : ℕ) → Ready s (now (index .entry)) → PlansStored s pr (frame-part r (now (memory .entry))) (object-part r (now (memory .entry))) (Op.Store a b c) m) ⌝ }
 {
     let base = r.base;
@@ -74,6 +77,7 @@ fn store_in(index: &Index, memory: &[u64], r: Registers, a: u8, b: u8, c: u8) ->
 fn size_in(s: &[u8], index: &Index, pr: u32, memory: &[u64], r: Registers, a: u8, b: u8) -> Number
     requires { ⌜ Ready (now s) (now index) ⌝ }
     requires { ⌜ Sane (length (now memory)) r ⌝ }
+    requires { ⌜ b < variables-in r ⌝ }
     ensures { λ n. ⌜ PlansNumber (now (s .entry)) pr (frame-part r (now (memory .entry))) (object-part r (now (memory .entry))) (Op.Size a b) a n ⌝ }
 {
     let base = r.base;
@@ -94,6 +98,7 @@ fn get_in(
 ) -> Moved
     requires { ⌜ Ready (now s) (now index) ⌝ }
     requires { ⌜ Sane (length (now memory)) r ⌝ }
+    requires { ⌜ b < variables-in r ⌝ }
     ensures { λ m. ⌜ PlansMoved (now (s .entry)) pr (frame-part r (now (memory .entry))) (object-part r (now (memory .entry))) (Op.GetSlot a b k) a m ⌝ }
 {
     let base = r.base;
@@ -114,6 +119,7 @@ fn set_in(
 ) -> Stored
     requires { ⌜ Ready (now s) (now index) ⌝ }
     requires { ⌜ Sane (length (now memory)) r ⌝ }
+    requires { ⌜ (a < variables-in r) × (b < variables-in r) ⌝ }
     ensures { λ m. ⌜ PlansStored (now (s .entry)) pr (frame-part r (now (memory .entry))) (object-part r (now (memory .entry))) (Op.SetSlot a b k) m ⌝ }
 {
     let base = r.base;
@@ -187,7 +193,7 @@ pub fn new_array(
     requires { ⌜ Ready (now s) (now index) ⌝ }
     requires { ⌜ Sane (length (now memory)) r ⌝ }
     requires { ⌜ r .next < 1000 ⌝ }
-    requires { ⌜ a < variables-in r ⌝ }
+    requires { ⌜ Named (variables-in r) (Op.NewArray a b) ⌝ }
     requires { ⌜ PlaceOf r pr ⌝ }
     ensures { λ o. ⌜ PerformsInside watched (now (s .entry)) (now (memory .entry)) (now (memory .exit)) r o (Op.NewArray a b) ⌝ }
 {
@@ -210,7 +216,7 @@ pub fn fetch(
     requires { ⌜ Ready (now s) (now index) ⌝ }
     requires { ⌜ Sane (length (now memory)) r ⌝ }
     requires { ⌜ r .next < 1000 ⌝ }
-    requires { ⌜ a < variables-in r ⌝ }
+    requires { ⌜ Named (variables-in r) (Op.Fetch a b c) ⌝ }
     requires { ⌜ PlaceOf r pr ⌝ }
     ensures { λ o. ⌜ PerformsInside watched (now (s .entry)) (now (memory .entry)) (now (memory .exit)) r o (Op.Fetch a b c) ⌝ }
 {
@@ -221,6 +227,7 @@ pub fn fetch(
 pub fn store(index: &Index, memory: &mut [u64], r: Registers, a: u8, b: u8, c: u8) -> Stepped
     requires { ⌜ Sane (length (now memory)) r ⌝ }
     requires { ⌜ r .next < 1000 ⌝ }
+    requires { ⌜ Named (variables-in r) (Op.Store a b c) ⌝ }
     ensures { λ o. ⌜ ((s : List ℕ) → Ready s (now (index .entry)) → PerformsInside watched s (now (memory .entry)) (now (memory .exit)) r o (Op.Store a b c)) ⌝ }
 {
     let m = store_in(index, memory, r, a, b, c);
@@ -239,7 +246,7 @@ pub fn size(
     requires { ⌜ Ready (now s) (now index) ⌝ }
     requires { ⌜ Sane (length (now memory)) r ⌝ }
     requires { ⌜ r .next < 1000 ⌝ }
-    requires { ⌜ a < variables-in r ⌝ }
+    requires { ⌜ Named (variables-in r) (Op.Size a b) ⌝ }
     requires { ⌜ PlaceOf r pr ⌝ }
     ensures { λ o. ⌜ PerformsInside watched (now (s .entry)) (now (memory .entry)) (now (memory .exit)) r o (Op.Size a b) ⌝ }
 {
@@ -284,7 +291,7 @@ pub fn new_record(
     requires { ⌜ Ready (now s) (now index) ⌝ }
     requires { ⌜ Sane (length (now memory)) r ⌝ }
     requires { ⌜ r .next < 1000 ⌝ }
-    requires { ⌜ a < variables-in r ⌝ }
+    requires { ⌜ Named (variables-in r) (Op.NewRecord a) ⌝ }
     requires { ⌜ PlaceOf r pr ⌝ }
     ensures { λ o. ⌜ PerformsInside watched (now (s .entry)) (now (memory .entry)) (now (memory .exit)) r o (Op.NewRecord a) ⌝ }
 {
@@ -308,7 +315,7 @@ pub fn get_slot(
     requires { ⌜ Ready (now s) (now index) ⌝ }
     requires { ⌜ Sane (length (now memory)) r ⌝ }
     requires { ⌜ r .next < 1000 ⌝ }
-    requires { ⌜ a < variables-in r ⌝ }
+    requires { ⌜ Named (variables-in r) (Op.GetSlot a b k) ⌝ }
     requires { ⌜ PlaceOf r pr ⌝ }
     ensures { λ o. ⌜ PerformsInside watched (now (s .entry)) (now (memory .entry)) (now (memory .exit)) r o (Op.GetSlot a b k) ⌝ }
 {
@@ -329,6 +336,7 @@ pub fn set_slot(
     requires { ⌜ Ready (now s) (now index) ⌝ }
     requires { ⌜ Sane (length (now memory)) r ⌝ }
     requires { ⌜ r .next < 1000 ⌝ }
+    requires { ⌜ Named (variables-in r) (Op.SetSlot a b k) ⌝ }
     requires { ⌜ PlaceOf r pr ⌝ }
     ensures { λ o. ⌜ PerformsInside watched (now (s .entry)) (now (memory .entry)) (now (memory .exit)) r o (Op.SetSlot a b k) ⌝ }
 {

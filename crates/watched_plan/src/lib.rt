@@ -26,9 +26,11 @@ use words::name_of;
 use words::read;
 use words::size_of;
 use words::tag_of;
+use words::word_at;
 ghost use mathlib.Core.Path.{_≡_};
 ghost use mathlib.Core.List.{List};
 ghost use Prim.Native.Nat.{ℕ, _<_};
+ghost use lib.ListN.{length};
 ghost use lib.Dec.{ltb};
 ghost use Rattle.model.specs.Qualified.{Qual, rights, element, isInteger};
 ghost use Rattle.model.specs.Program.{Program};
@@ -69,9 +71,10 @@ fn integer_of(w: u64) -> Number
 
 // The integer in variable x.
 pub fn integer_in(f: &[u64], x: u8) -> Number
+    requires { ⌜ x < length (now f) ⌝ }
     ensures { λ r. ⌜ ((q : ℕ → Qual) (g : Program) (v : View watched) (h : List ℕ) → Sees watched q v (now (f .entry)) h → number-as watched r ≡ one-integer watched g v x) ⌝ }
 {
-    let Cell::Filled(w) = cell_of(read(f, x as usize)) else {
+    let Cell::Filled(w) = cell_of(word_at(f, x)) else {
         return Number::Halt(13);
     };
     integer_of(w)
@@ -79,12 +82,13 @@ pub fn integer_in(f: &[u64], x: u8) -> Number
 
 // The integers in variables b and c.
 fn two_integers(f: &[u64], b: u8, c: u8) -> Pair
+    requires { ⌜ (b < length (now f)) × (c < length (now f)) ⌝ }
     ensures { λ r. ⌜ ((q : ℕ → Qual) (g : Program) (v : View watched) (h : List ℕ) → Sees watched q v (now (f .entry)) h → pair-as r ≡ integers watched g v b c) ⌝ }
 {
-    let Cell::Filled(x) = cell_of(read(f, b as usize)) else {
+    let Cell::Filled(x) = cell_of(word_at(f, b)) else {
         return Pair::Halt(13);
     };
-    let Cell::Filled(y) = cell_of(read(f, c as usize)) else {
+    let Cell::Filled(y) = cell_of(word_at(f, c)) else {
         return Pair::Halt(13);
     };
     if (tag_of(x) == 1) & (tag_of(y) == 1) {
@@ -121,6 +125,7 @@ pub fn set_guarded(s: &[u8], index: &Index, pr: u32, a: u8, k: u16) -> Number
 
 pub fn add_guarded(s: &[u8], index: &Index, pr: u32, f: &[u64], a: u8, b: u8, c: u8) -> Number
     requires { ⌜ Ready (now s) (now index) ⌝ }
+    requires { ⌜ (b < length (now f)) × (c < length (now f)) ⌝ }
     ensures { λ r. ⌜ ((h : List ℕ) → PlansNumber (now (s .entry)) pr (now (f .entry)) h (Op.Add a b c) a r) ⌝ }
 {
     match two_integers(f, b, c) {
@@ -131,6 +136,7 @@ pub fn add_guarded(s: &[u8], index: &Index, pr: u32, f: &[u64], a: u8, b: u8, c:
 
 pub fn subtract_guarded(s: &[u8], index: &Index, pr: u32, f: &[u64], a: u8, b: u8, c: u8) -> Number
     requires { ⌜ Ready (now s) (now index) ⌝ }
+    requires { ⌜ (b < length (now f)) × (c < length (now f)) ⌝ }
     ensures { λ r. ⌜ ((h : List ℕ) → PlansNumber (now (s .entry)) pr (now (f .entry)) h (Op.Subtract a b c) a r) ⌝ }
 {
     match two_integers(f, b, c) {
@@ -150,6 +156,7 @@ fn less(m: u32, n: u32) -> u32
 
 pub fn less_guarded(s: &[u8], index: &Index, pr: u32, f: &[u64], a: u8, b: u8, c: u8) -> Number
     requires { ⌜ Ready (now s) (now index) ⌝ }
+    requires { ⌜ (b < length (now f)) × (c < length (now f)) ⌝ }
     ensures { λ r. ⌜ ((h : List ℕ) → PlansNumber (now (s .entry)) pr (now (f .entry)) h (Op.Less a b c) a r) ⌝ }
 {
     match two_integers(f, b, c) {
@@ -160,9 +167,10 @@ pub fn less_guarded(s: &[u8], index: &Index, pr: u32, f: &[u64], a: u8, b: u8, c
 
 pub fn bind_guarded(s: &[u8], index: &Index, pr: u32, f: &[u64], h: &[u64], a: u8, b: u8) -> Moved
     requires { ⌜ Ready (now s) (now index) ⌝ }
+    requires { ⌜ b < length (now f) ⌝ }
     ensures { λ r. ⌜ PlansMoved (now (s .entry)) pr (now (f .entry)) (now (h .entry)) (Op.Bind a b) a r ⌝ }
 {
-    bind_word(index, h, inner_of(s, pr, a), read(f, b as usize))
+    bind_word(index, h, inner_of(s, pr, a), word_at(f, b))
 }
 
 // The element of the array of a filled cell, x, by the index in another, y: kinds, right, size.
@@ -188,12 +196,13 @@ fn index_in(h: &[u64], x: u64, y: u64, right: u8) -> Spot
 // The element of the array in variable b by the index in variable c.
 fn element_spot(f: &[u64], h: &[u64], b: u8, c: u8, right: u8) -> Spot
     requires { ⌜ right < 32 ⌝ }
+    requires { ⌜ (b < length (now f)) × (c < length (now f)) ⌝ }
     ensures { λ r. ⌜ FindsElement (now (f .entry)) (now (h .entry)) b c right r ⌝ }
 {
-    let Cell::Filled(x) = cell_of(read(f, b as usize)) else {
+    let Cell::Filled(x) = cell_of(word_at(f, b)) else {
         return Spot::Halt(13);
     };
-    let Cell::Filled(y) = cell_of(read(f, c as usize)) else {
+    let Cell::Filled(y) = cell_of(word_at(f, c)) else {
         return Spot::Halt(13);
     };
     index_in(h, x, y, right)
@@ -210,6 +219,7 @@ pub fn fetch_guarded(
     c: u8,
 ) -> Moved
     requires { ⌜ Ready (now s) (now index) ⌝ }
+    requires { ⌜ (b < length (now f)) × (c < length (now f)) ⌝ }
     ensures { λ r. ⌜ PlansMoved (now (s .entry)) pr (now (f .entry)) (now (h .entry)) (Op.Fetch a b c) a r ⌝ }
 {
     match element_spot(f, h, b, c, 1) {
@@ -233,12 +243,13 @@ fn stored_at(o: u32, i: u32, m: Moved) -> Stored
 }
 
 pub fn store_guarded(index: &Index, f: &[u64], h: &[u64], a: u8, b: u8, c: u8) -> Stored
+    requires { ⌜ (a < length (now f)) × ((b < length (now f)) × (c < length (now f))) ⌝ }
     ensures { λ r. ⌜ ((s : List ℕ) (pr : ℕ) → Ready s (now (index .entry)) → PlansStored s pr (now (f .entry)) (now (h .entry)) (Op.Store a b c) r) ⌝ }
 {
     match element_spot(f, h, a, b, 2) {
         Spot::At(o, i) => {
             let element = kind_in(read(h, o as usize));
-            stored_at(o, i, bind_word(index, h, element, read(f, c as usize)))
+            stored_at(o, i, bind_word(index, h, element, word_at(f, c)))
         }
         Spot::Halt(k) => Stored::Halt(k),
     }
@@ -246,9 +257,10 @@ pub fn store_guarded(index: &Index, f: &[u64], h: &[u64], a: u8, b: u8, c: u8) -
 
 pub fn size_guarded(s: &[u8], index: &Index, pr: u32, f: &[u64], h: &[u64], a: u8, b: u8) -> Number
     requires { ⌜ Ready (now s) (now index) ⌝ }
+    requires { ⌜ b < length (now f) ⌝ }
     ensures { λ r. ⌜ PlansNumber (now (s .entry)) pr (now (f .entry)) (now (h .entry)) (Op.Size a b) a r ⌝ }
 {
-    let Cell::Filled(x) = cell_of(read(f, b as usize)) else {
+    let Cell::Filled(x) = cell_of(word_at(f, b)) else {
         return Number::Halt(13);
     };
     let head = read(h, name_of(x) as usize);
@@ -281,9 +293,10 @@ fn open_slot(h: &[u64], x: u64, t: u8, k: u16) -> Spot
 
 // Slot k of the record in variable b.
 fn slot_spot(f: &[u64], h: &[u64], t: u8, b: u8, k: u16) -> Spot
+    requires { ⌜ b < length (now f) ⌝ }
     ensures { λ r. ⌜ FindsSlot (now (f .entry)) (now (h .entry)) t b k r ⌝ }
 {
-    let Cell::Filled(x) = cell_of(read(f, b as usize)) else {
+    let Cell::Filled(x) = cell_of(word_at(f, b)) else {
         return Spot::Halt(13);
     };
     open_slot(h, x, t, k)
@@ -300,6 +313,7 @@ pub fn get_guarded(
     k: u16,
 ) -> Moved
     requires { ⌜ Ready (now s) (now index) ⌝ }
+    requires { ⌜ b < length (now f) ⌝ }
     ensures { λ r. ⌜ PlansMoved (now (s .entry)) pr (now (f .entry)) (now (h .entry)) (Op.GetSlot a b k) a r ⌝ }
 {
     match slot_spot(f, h, field(s, pr, 2), b, k) {
@@ -322,6 +336,7 @@ pub fn set_slot_guarded(
     k: u16,
 ) -> Stored
     requires { ⌜ Ready (now s) (now index) ⌝ }
+    requires { ⌜ (a < length (now f)) × (b < length (now f)) ⌝ }
     ensures { λ r. ⌜ PlansStored (now (s .entry)) pr (now (f .entry)) (now (h .entry)) (Op.SetSlot a b k) r ⌝ }
 {
     let owner = field(s, pr, 2);
@@ -329,7 +344,7 @@ pub fn set_slot_guarded(
         Spot::At(o, i) => stored_at(
             o,
             i,
-            bind_word(index, h, slot_of(s, owner, k), read(f, b as usize)),
+            bind_word(index, h, slot_of(s, owner, k), word_at(f, b)),
         ),
         Spot::Halt(n) => Stored::Halt(n),
     }
@@ -338,6 +353,7 @@ pub fn set_slot_guarded(
 // The size of a new array for variable a, from variable b, before the room for it is tested.
 pub fn sized(s: &[u8], index: &Index, pr: u32, f: &[u64], a: u8, b: u8) -> Number
     requires { ⌜ Ready (now s) (now index) ⌝ }
+    requires { ⌜ b < length (now f) ⌝ }
     ensures { λ r. ⌜ ((g : Program) (v : View watched) (h : List ℕ) → Sees watched (qualOf (now (s .entry))) v (now (f .entry)) h → number-as watched r ≡ size-for g v (innerIn (now (s .entry)) pr a) b) ⌝ }
 {
     let n = integer_in(f, b);

@@ -24,6 +24,7 @@ ghost use Rattle.model.specs.Modes.{watched};
 ghost use Rattle.model.specs.declared.Operation.the-variants as Op;
 ghost use Rattle.index.specs.Indexed.{Ready};
 ghost use Rattle.watched_plan.specs.Plans.{PlansMoved};
+ghost use Rattle.form.specs.Named.{Named};
 ghost use Rattle.writers.specs.Memory.{Sane, variables-in, frame-part, object-part};
 ghost use Rattle.frames.specs.Performs.{Performs, PerformsInside};
 ghost use Rattle.watched_calls.specs.Calls.{PlaceOf};
@@ -40,7 +41,7 @@ pub fn set(
     requires { ⌜ Ready (now s) (now index) ⌝ }
     requires { ⌜ Sane (length (now memory)) r ⌝ }
     requires { ⌜ r .next < 1000 ⌝ }
-    requires { ⌜ a < variables-in r ⌝ }
+    requires { ⌜ Named (variables-in r) (Op.Set a k) ⌝ }
     requires { ⌜ PlaceOf r pr ⌝ }
     ensures { λ o. ⌜ PerformsInside watched (now (s .entry)) (now (memory .entry)) (now (memory .exit)) r o (Op.Set a k) ⌝ }
 {
@@ -60,7 +61,7 @@ pub fn add(
     requires { ⌜ Ready (now s) (now index) ⌝ }
     requires { ⌜ Sane (length (now memory)) r ⌝ }
     requires { ⌜ r .next < 1000 ⌝ }
-    requires { ⌜ a < variables-in r ⌝ }
+    requires { ⌜ Named (variables-in r) (Op.Add a b c) ⌝ }
     requires { ⌜ PlaceOf r pr ⌝ }
     ensures { λ o. ⌜ PerformsInside watched (now (s .entry)) (now (memory .entry)) (now (memory .exit)) r o (Op.Add a b c) ⌝ }
 {
@@ -83,7 +84,7 @@ pub fn subtract(
     requires { ⌜ Ready (now s) (now index) ⌝ }
     requires { ⌜ Sane (length (now memory)) r ⌝ }
     requires { ⌜ r .next < 1000 ⌝ }
-    requires { ⌜ a < variables-in r ⌝ }
+    requires { ⌜ Named (variables-in r) (Op.Subtract a b c) ⌝ }
     requires { ⌜ PlaceOf r pr ⌝ }
     ensures { λ o. ⌜ PerformsInside watched (now (s .entry)) (now (memory .entry)) (now (memory .exit)) r o (Op.Subtract a b c) ⌝ }
 {
@@ -106,7 +107,7 @@ pub fn less(
     requires { ⌜ Ready (now s) (now index) ⌝ }
     requires { ⌜ Sane (length (now memory)) r ⌝ }
     requires { ⌜ r .next < 1000 ⌝ }
-    requires { ⌜ a < variables-in r ⌝ }
+    requires { ⌜ Named (variables-in r) (Op.Less a b c) ⌝ }
     requires { ⌜ PlaceOf r pr ⌝ }
     ensures { λ o. ⌜ PerformsInside watched (now (s .entry)) (now (memory .entry)) (now (memory .exit)) r o (Op.Less a b c) ⌝ }
 {
@@ -119,6 +120,7 @@ pub fn less(
 pub fn jump_zero(memory: &[u64], r: Registers, a: u8, k: u16) -> Stepped
     requires { ⌜ Sane (length (now memory)) r ⌝ }
     requires { ⌜ r .next < 1000 ⌝ }
+    requires { ⌜ Named (variables-in r) (Op.JumpZero a k) ⌝ }
     ensures { λ o. ⌜ ((s : List ℕ) → PerformsInside watched s (now (memory .entry)) (now (memory .entry)) r o (Op.JumpZero a k)) ⌝ }
 {
     let base = r.base;
@@ -130,6 +132,7 @@ pub fn jump_zero(memory: &[u64], r: Registers, a: u8, k: u16) -> Stepped
 fn bind_in(s: &[u8], index: &Index, pr: u32, memory: &[u64], r: Registers, a: u8, b: u8) -> Moved
     requires { ⌜ Ready (now s) (now index) ⌝ }
     requires { ⌜ Sane (length (now memory)) r ⌝ }
+    requires { ⌜ b < variables-in r ⌝ }
     ensures { λ m. ⌜ PlansMoved (now (s .entry)) pr (frame-part r (now (memory .entry))) (object-part r (now (memory .entry))) (Op.Bind a b) a m ⌝ }
 {
     let base = r.base;
@@ -150,7 +153,7 @@ pub fn bind(
     requires { ⌜ Ready (now s) (now index) ⌝ }
     requires { ⌜ Sane (length (now memory)) r ⌝ }
     requires { ⌜ r .next < 1000 ⌝ }
-    requires { ⌜ a < variables-in r ⌝ }
+    requires { ⌜ Named (variables-in r) (Op.Bind a b) ⌝ }
     requires { ⌜ PlaceOf r pr ⌝ }
     ensures { λ o. ⌜ PerformsInside watched (now (s .entry)) (now (memory .entry)) (now (memory .exit)) r o (Op.Bind a b) ⌝ }
 {
@@ -170,7 +173,7 @@ pub fn take(
     requires { ⌜ Ready (now s) (now index) ⌝ }
     requires { ⌜ Sane (length (now memory)) r ⌝ }
     requires { ⌜ r .next < 1000 ⌝ }
-    requires { ⌜ a < variables-in r ⌝ }
+    requires { ⌜ Named (variables-in r) (Op.Take a) ⌝ }
     requires { ⌜ PlaceOf r pr ⌝ }
     ensures { λ o. ⌜ ((out : List ℕ) → Performs watched (now (s .entry)) (now (input .entry)) (now (memory .entry)) (now (memory .exit)) out out r o (Op.Take a)) ⌝ }
 {
@@ -183,6 +186,7 @@ pub fn take(
 pub fn put(memory: &[u64], output: &mut [u32], r: Registers, a: u8) -> Stepped
     requires { ⌜ Sane (length (now memory)) r ⌝ }
     requires { ⌜ r .next < 1000 ⌝ }
+    requires { ⌜ Named (variables-in r) (Op.Put a) ⌝ }
     ensures { λ o. ⌜ ((s input : List ℕ) → Performs watched s input (now (memory .entry)) (now (memory .entry)) (now (output .entry)) (now (output .exit)) r o (Op.Put a)) ⌝ }
 {
     let base = r.base;

@@ -39,6 +39,14 @@ pub fn read(b: &[u64], i: usize) -> u64
     if i < b.len() { b[i] } else { 0 }
 }
 
+// The word of variable x of a frame's part, which has it.
+pub fn word_at(f: &[u64], x: u8) -> u64
+    requires { ⌜ x < length (now f) ⌝ }
+    ensures { λ r. ⌜ r ≡ getD (now (f .entry)) x 0 ⌝ }
+{
+    f[x as usize]
+}
+
 // The word at i becomes w; nothing changes past the end.
 pub fn write(b: &mut [u64], i: usize, w: u64)
     ensures { λ _. ⌜ now (b .exit) ≡ set (now (b .entry)) i w ⌝ }

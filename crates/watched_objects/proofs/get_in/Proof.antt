@@ -1,3 +1,4 @@
+use Rattle.frames.proofs.Performs.{cut-length}
 -- The part of the memory that the code cuts is the running frame's.
 use native.Mathlib.Omega.{arith}
 use mathlib.Core.Path.{sym}
@@ -20,6 +21,14 @@ returns c =
     let frame-end = c .before .before .before .frame-end in
     (get-guarded .ensures .0, λ v at S. get-guarded .ensures .1 v at (sees-cut watched (qualOf (now (args .s))) v (now (args .memory)) (args .r) _ (frame-end .ensures) S))
 
+get-guarded-requires : tie.Need-get-guarded-requires
+get-guarded-requires c κs =
+    let args = c .before .before .before .before .before .args in
+    let pre = c .before .before .before .before .before .pre in
+    let frame-end = c .before .before .frame-end in
+    let n = cut-length (now (args .memory)) (args .r) _ (pre .1 .0) (frame-end .ensures) in
+    (pre .0, rw n (pre .1 .1))
+
 pub get-in-spec : {M : Type 1} → statement M
 get-in-spec =
     tie.close
@@ -30,5 +39,5 @@ get-in-spec =
     (λ c. search needs)
     (λ c. search needs)
     slice-aggregate-get-guarded
-    (λ c κs. search needs)
+    get-guarded-requires
     returns)

@@ -1,3 +1,4 @@
+use Rattle.frames.proofs.Performs.{cut-length}
 -- The size is that which is planned, and the free units are those of the view.
 use borrow.Author.Needs.{needs}
 use denote.Ref.{now}
@@ -12,7 +13,7 @@ use Rattle.watched_objects.proofs.new_array.Tie as tie
 give-array-requires : tie.Need-give-array-requires
 give-array-requires c κs =
     let pre = c .before .before .before .before .before .before .before .pre in
-    (pre .0, (pre .1 .0, (pre .1 .1 .0, pre .1 .1 .1 .0)))
+    (pre .0, (pre .1 .0, (pre .1 .1 .0, pre .1 .1 .1 .0 .0)))
 
 returns : tie.Need-returns
 returns c =
@@ -23,6 +24,14 @@ returns c =
     let frame-end = c .before .before .before .before .before .before .before .frame-end in
     λ input out. performs-roomy (now (args .s)) input (now (args .memory)) (give-array .last .1 .1 .1 .0) out out (args .r) (give-array .result) _ (λ z. array-for (now (args .s)) (args .pr) (args .r) (args .a) (sized .result)) (λ d q. give-array .ensures d out q) (args .pr) (pre .1 .1 .1 .1) (λ v at free S. arrays (programOf (now (args .s))) v _ _ _ (rw at) free (sized .ensures (programOf (now (args .s))) v _ (sees-cut watched (qualOf (now (args .s))) v (now (args .memory)) (args .r) _ (frame-end .ensures) S)))
 
+sized-requires : tie.Need-sized-requires
+sized-requires c κs =
+    let args = c .before .before .before .before .before .args in
+    let pre = c .before .before .before .before .before .pre in
+    let frame-end = c .before .before .frame-end in
+    let n = cut-length (now (args .memory)) (args .r) _ (pre .1 .0) (frame-end .ensures) in
+    (pre .0, rw n (pre .1 .1 .1 .0 .1))
+
 pub new-array-spec : {M : Type 1} → statement M
 new-array-spec =
     tie.close
@@ -32,7 +41,7 @@ new-array-spec =
     (λ c. search needs)
     (λ c. search needs)
     (λ c. search needs)
-    (λ c κs. search needs)
+    sized-requires
     give-array-requires
     (λ c. search needs)
     returns)

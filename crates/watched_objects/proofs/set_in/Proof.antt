@@ -1,3 +1,4 @@
+use Rattle.frames.proofs.Performs.{cut-length}
 -- The part of the memory that the code cuts is the running frame's.
 use native.Mathlib.Omega.{arith}
 use mathlib.Core.Path.{sym}
@@ -20,6 +21,15 @@ returns c =
     let frame-end = c .before .before .before .frame-end in
     (set-slot-guarded .ensures .0, λ v at S. set-slot-guarded .ensures .1 v at (sees-cut watched (qualOf (now (args .s))) v (now (args .memory)) (args .r) _ (frame-end .ensures) S))
 
+set-slot-guarded-requires : tie.Need-set-slot-guarded-requires
+set-slot-guarded-requires c κs =
+    let args = c .before .before .before .before .before .args in
+    let pre = c .before .before .before .before .before .pre in
+    let frame-end = c .before .before .frame-end in
+    let n = cut-length (now (args .memory)) (args .r) _ (pre .1 .0) (frame-end .ensures) in
+    let m = pre .1 .1 in
+    (pre .0, (rw n (m .0), rw n (m .1)))
+
 pub set-in-spec : {M : Type 1} → statement M
 set-in-spec =
     tie.close
@@ -30,5 +40,5 @@ set-in-spec =
     (λ c. search needs)
     (λ c. search needs)
     slice-aggregate-set-slot-guarded
-    (λ c κs. search needs)
+    set-slot-guarded-requires
     returns)

@@ -1,3 +1,4 @@
+use Rattle.frames.proofs.Performs.{cut-length}
 -- The part of the memory that the code cuts is the running frame's.
 use native.Mathlib.Omega.{arith}
 use mathlib.Core.Path.{sym}
@@ -20,6 +21,14 @@ returns c =
     let frame-end = c .before .before .before .frame-end in
     λ v at S. size-guarded .ensures v at (sees-cut watched (qualOf (now (args .s))) v (now (args .memory)) (args .r) _ (frame-end .ensures) S)
 
+size-guarded-requires : tie.Need-size-guarded-requires
+size-guarded-requires c κs =
+    let args = c .before .before .before .before .before .args in
+    let pre = c .before .before .before .before .before .pre in
+    let frame-end = c .before .before .frame-end in
+    let n = cut-length (now (args .memory)) (args .r) _ (pre .1 .0) (frame-end .ensures) in
+    (pre .0, rw n (pre .1 .1))
+
 pub size-in-spec : {M : Type 1} → statement M
 size-in-spec =
     tie.close
@@ -30,5 +39,5 @@ size-in-spec =
     (λ c. search needs)
     (λ c. search needs)
     slice-aggregate-size-guarded
-    (λ c κs. search needs)
+    size-guarded-requires
     returns)

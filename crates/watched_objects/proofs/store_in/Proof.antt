@@ -1,3 +1,4 @@
+use Rattle.frames.proofs.Performs.{cut-length}
 -- The part of the memory that the code cuts is the running frame's.
 use native.Mathlib.Omega.{arith}
 use mathlib.Core.Path.{sym}
@@ -20,6 +21,15 @@ returns c =
     let frame-end = c .before .before .before .frame-end in
     λ s pr ready. (store-guarded .ensures s pr ready .0, λ v at S. store-guarded .ensures s pr ready .1 v at (sees-cut watched (qualOf s) v (now (args .memory)) (args .r) _ (frame-end .ensures) S))
 
+store-guarded-requires : tie.Need-store-guarded-requires
+store-guarded-requires c κs =
+    let args = c .before .before .before .before .args in
+    let pre = c .before .before .before .before .pre in
+    let frame-end = c .before .before .frame-end in
+    let n = cut-length (now (args .memory)) (args .r) _ (pre .0) (frame-end .ensures) in
+    let m = pre .1 in
+    (rw n (m .0), (rw n (m .1 .0), rw n (m .1 .1)))
+
 pub store-in-spec : {M : Type 1} → statement M
 store-in-spec =
     tie.close
@@ -30,5 +40,5 @@ store-in-spec =
     (λ c. search needs)
     (λ c. search needs)
     slice-aggregate-store-guarded
-    (λ c κs. search needs)
+    store-guarded-requires
     returns)

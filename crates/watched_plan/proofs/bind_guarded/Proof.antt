@@ -12,12 +12,12 @@ use Rattle.watched_plan.proofs.bind_guarded.Tie as tie
 returns : tie.Need-returns
 unfolding innerIn
 returns c =
-    let pre = c .before .before .before .before .before .before .pre in
+    let pre = c .before .before .before .before .before .before .pre .0 in
     let bind-word = c .bind-word in
     let args = c .before .before .before .before .before .before .args in
     let inner-of = c .before .before .inner-of in
-    let read = c .before .read in
-    let bound = word-of-sheet (pre) (bind-word .ensures) in (bound .fine, λ v at S. bind-plan _ (programOf (args .s .now)) v _ _ _ (rw (at, sym (inner-of .ensures))) (bound .moves _ v _ (S .head) (ap (slot-in watched (qualOf (args .s .now))) (read .ensures) ∙ S .variable _)))
+    let word-at = c .before .word-at in
+    let bound = word-of-sheet (pre) (bind-word .ensures) in (bound .fine, λ v at S. bind-plan _ (programOf (args .s .now)) v _ _ _ (rw (at, sym (inner-of .ensures))) (bound .moves _ v _ (S .head) (ap (slot-in watched (qualOf (args .s .now))) (word-at .ensures) ∙ S .variable _)))
 
 pub bind-guarded-spec : {M : Type 1} → statement M
 bind-guarded-spec = tie.close (tie.spec (λ c κs. search needs) (λ c κs. search needs) (λ c κs. search needs) returns)

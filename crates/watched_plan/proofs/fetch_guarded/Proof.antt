@@ -10,7 +10,7 @@ use Rattle.watched_plan.proofs.fetch_guarded.Tie as tie
 returns : tie.Need-returns
 unfolding innerIn
 returns c =
-    let pre = c .before .before .before .before .before .before .before .before .before .before .pre in
+    let pre = c .before .before .before .before .before .before .before .before .before .before .pre .0 in
     let bind-word = c .bind-word in
     let args = c .before .before .before .before .before .before .before .before .before .before .args in
     let element-spot = c .before .before .before .before .before .before .element-spot in

@@ -11,7 +11,7 @@ use Rattle.watched_plan.proofs.get_guarded.Tie as tie
 returns : tie.Need-returns
 unfolding innerIn ownerAt
 returns c =
-    let pre = c .before .before .before .before .before .before .before .before .before .before .before .pre in
+    let pre = c .before .before .before .before .before .before .before .before .before .before .before .pre .0 in
     let bind-word = c .bind-word in
     let args = c .before .before .before .before .before .before .before .before .before .before .before .args in
     let field = c .before .before .before .before .before .before .before .field in

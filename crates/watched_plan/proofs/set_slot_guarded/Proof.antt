@@ -13,7 +13,7 @@ use Rattle.watched_plan.proofs.set_slot_guarded.Tie as tie
 returns : tie.Need-returns
 unfolding ownerAt slotIn
 returns c =
-    let pre = c .before .before .before .before .before .before .before .before .before .before .before .before .pre in
+    let pre = c .before .before .before .before .before .before .before .before .before .before .before .before .pre .0 in
     let bind-word = c .before .bind-word in
     let stored-at = c .stored-at in
     let known = c .before .before .before .before .before .o in
@@ -21,8 +21,8 @@ returns c =
     let args = c .before .before .before .before .before .before .before .before .before .before .before .before .args in
     let field = c .before .before .before .before .before .before .before .before .field in
     let slot-of = c .before .before .before .slot-of in
-    let read = c .before .before .read in
-    let bound = word-of-sheet (pre) (bind-word .ensures) in (stored-at .ensures .0 _ (inside-spot (known .given .1) (slot-spot .ensures .inside)) (bound .fine), λ v at S. set-at _ (programOf (args .s .now)) v _ _ _ (rw (at, sym (field .ensures))) (slot-spot .ensures .finds _ _ v S) _ _ (known .given .1) (stored-at .ensures .1 _) (rw (sym (slot-of .ensures)) (bound .moves _ v _ (S .head) (ap (slot-in watched (qualOf (args .s .now))) (read .ensures) ∙ S .variable _))))
+    let word-at = c .before .before .word-at in
+    let bound = word-of-sheet (pre) (bind-word .ensures) in (stored-at .ensures .0 _ (inside-spot (known .given .1) (slot-spot .ensures .inside)) (bound .fine), λ v at S. set-at _ (programOf (args .s .now)) v _ _ _ (rw (at, sym (field .ensures))) (slot-spot .ensures .finds _ _ v S) _ _ (known .given .1) (stored-at .ensures .1 _) (rw (sym (slot-of .ensures)) (bound .moves _ v _ (S .head) (ap (slot-in watched (qualOf (args .s .now))) (word-at .ensures) ∙ S .variable _))))
 
 returns-2 : tie.Need-returns-2
 unfolding ownerAt

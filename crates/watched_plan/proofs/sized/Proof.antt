@@ -19,7 +19,7 @@ returns-2 c =
     let enum-told = c .before .before .before .enum-told in
     let is-array = c .before .is-array in
     let args = c .before .before .before .before .before .before .before .before .args in
-    let pre = c .before .before .before .before .before .before .before .before .pre in
+    let pre = c .before .before .before .before .before .before .before .before .pre .0 in
     let inner-of = c .before .before .inner-of in
     let first-test = c .if1 in
     λ g v h S. size-asked g v _ _ (integer-in .ensures _ g v h S) (enum-told .given .1) (is-array .ensures ∙ ap isArray (inner-type (args .s .now) (args .pr) (args .a) (pre) (inner-of .ensures))) (first-test .taken)
@@ -30,7 +30,7 @@ returns-3 c =
     let enum-told = c .before .before .before .enum-told in
     let is-array = c .before .is-array in
     let args = c .before .before .before .before .before .before .before .before .args in
-    let pre = c .before .before .before .before .before .before .before .before .pre in
+    let pre = c .before .before .before .before .before .before .before .before .pre .0 in
     let inner-of = c .before .before .inner-of in
     let first-test = c .if1 in
     λ g v h S. size-refused g v _ _ (integer-in .ensures _ g v h S) (enum-told .given .1) (is-array .ensures ∙ ap isArray (inner-type (args .s .now) (args .pr) (args .a) (pre) (inner-of .ensures))) (first-test .left)

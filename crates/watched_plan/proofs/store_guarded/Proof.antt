@@ -18,8 +18,8 @@ returns c =
     let args = c .before .before .before .before .before .before .before .before .before .before .before .args in
     let read = c .before .before .before .before .read in
     let kind-in = c .before .before .before .kind-in in
-    let read2 = c .before .before .read2 in
-    λ s pr ready. (stored-at .ensures .0 _ (inside-spot (known .given .1) (element-spot .ensures .inside)) (bind-word .ensures .fine), λ v at S. store-at _ (programOf s) v (args .h .now) _ _ _ (element-spot .ensures .finds _ _ v S) _ _ (known .given .1) (stored-at .ensures .1 _) (read .ensures) (kind-in .ensures) (word-of-sheet ready (bind-word .ensures) .moves _ v _ (S .head) (ap (slot-in watched (qualOf s)) (read2 .ensures) ∙ S .variable _)))
+    let word-at = c .before .before .word-at in
+    λ s pr ready. (stored-at .ensures .0 _ (inside-spot (known .given .1) (element-spot .ensures .inside)) (bind-word .ensures .fine), λ v at S. store-at _ (programOf s) v (args .h .now) _ _ _ (element-spot .ensures .finds _ _ v S) _ _ (known .given .1) (stored-at .ensures .1 _) (read .ensures) (kind-in .ensures) (word-of-sheet ready (bind-word .ensures) .moves _ v _ (S .head) (ap (slot-in watched (qualOf s)) (word-at .ensures) ∙ S .variable _)))
 
 returns-2 : tie.Need-returns-2
 returns-2 c =

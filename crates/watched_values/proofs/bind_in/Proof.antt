@@ -1,3 +1,4 @@
+use Rattle.frames.proofs.Performs.{cut-length}
 -- The part of the memory that the code cuts is the running frame's.
 use native.Mathlib.Omega.{arith}
 use mathlib.Core.Path.{sym}
@@ -20,6 +21,14 @@ returns c =
     let frame-end = c .before .before .before .frame-end in
     (bind-guarded .ensures .0, λ v at S. bind-guarded .ensures .1 v at (sees-cut watched (qualOf (now (args .s))) v (now (args .memory)) (args .r) _ (frame-end .ensures) S))
 
+bind-guarded-requires : tie.Need-bind-guarded-requires
+bind-guarded-requires c κs =
+    let args = c .before .before .before .before .before .args in
+    let pre = c .before .before .before .before .before .pre in
+    let frame-end = c .before .before .frame-end in
+    let n = cut-length (now (args .memory)) (args .r) _ (pre .1 .0) (frame-end .ensures) in
+    (pre .0, rw n (pre .1 .1))
+
 pub bind-in-spec : {M : Type 1} → statement M
 bind-in-spec =
     tie.close
@@ -30,5 +39,5 @@ bind-in-spec =
     (λ c. search needs)
     (λ c. search needs)
     slice-aggregate-bind-guarded
-    (λ c κs. search needs)
+    bind-guarded-requires
     returns)

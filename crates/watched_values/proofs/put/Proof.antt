@@ -1,3 +1,4 @@
+use Rattle.frames.proofs.Performs.{cut-length}
 -- The integer is that of the variable, and the free output words are those of the view.
 use borrow.Author.Needs.{needs}
 use Rattle.model.specs.Modes.{watched}
@@ -16,6 +17,14 @@ returns c =
     let frame-end = c .before .before .before .before .before .before .frame-end in
     λ s input. performs-put watched s input (now (args .memory)) (now (args .memory)) (now (args .output)) (put-output .last .0) (args .r) (put-output .result) (args .a) (integer-in .result) _ (frame-end .ensures) (λ d. put-output .ensures watched d (now (args .memory))) (λ v S. always (one-integer watched (programOf s) v (args .a)) _ (integer-in .ensures (qualOf s) (programOf s) v _ S))
 
+integer-in-requires : tie.Need-integer-in-requires
+integer-in-requires c κs =
+    let args = c .before .before .before .before .args in
+    let pre = c .before .before .before .before .pre in
+    let frame-end = c .before .frame-end in
+    let n = cut-length (now (args .memory)) (args .r) _ (pre .0) (frame-end .ensures) in
+    rw n (pre .1 .1)
+
 pub put-spec : {M : Type 1} → statement M
 put-spec =
     tie.close
@@ -25,7 +34,7 @@ put-spec =
     (λ c. search needs)
     (λ c. search needs)
     (λ c. search needs)
-    (λ c κs. search needs)
+    integer-in-requires
     (λ c κs. search needs)
     (λ c. search needs)
     returns)

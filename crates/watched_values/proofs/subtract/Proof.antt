@@ -1,3 +1,4 @@
+use Rattle.frames.proofs.Performs.{cut-length}
 -- The part of the memory that is read is the frame's, which the view sees; the writer does what is planned.
 use borrow.Author.Needs.{needs}
 use denote.Ref.{now}
@@ -18,6 +19,15 @@ returns c =
     let frame-end = c .before .before .before .before .before .before .before .frame-end in
     λ input out. performs-seeing (now (args .s)) input (now (args .memory)) (give-number .last .0) out out (args .r) (give-number .result) _ (λ z. given watched (args .a) (subtract-guarded .result)) (λ d q. give-number .ensures watched d out) (args .pr) (pre .1 .1 .1 .1) (λ v at S. subtract-guarded .ensures _ v at (sees-cut watched (qualOf (now (args .s))) v (now (args .memory)) (args .r) _ (frame-end .ensures) S))
 
+subtract-guarded-requires : tie.Need-subtract-guarded-requires
+subtract-guarded-requires c κs =
+    let args = c .before .before .before .before .before .args in
+    let pre = c .before .before .before .before .before .pre in
+    let frame-end = c .before .before .frame-end in
+    let n = cut-length (now (args .memory)) (args .r) _ (pre .1 .0) (frame-end .ensures) in
+    let m = pre .1 .1 .1 .0 in
+    (pre .0, (rw n (m .1 .0), rw n (m .1 .1)))
+
 pub subtract-spec : {M : Type 1} → statement M
 subtract-spec =
     tie.close
@@ -27,7 +37,7 @@ subtract-spec =
     (λ c. search needs)
     (λ c. search needs)
     (λ c. search needs)
-    (λ c κs. search needs)
+    subtract-guarded-requires
     (λ c κs. search needs)
     (λ c. search needs)
     returns)

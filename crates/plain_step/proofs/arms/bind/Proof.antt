@@ -3,8 +3,7 @@ use denote.Ref.{now}
 use Rattle.model.specs.Modes.{plain}
 use Rattle.sheet.specs.Meaning.{qualOf, programOf}
 use Rattle.words.specs.Answers.{moved-to, MovedOk}
-use Rattle.frames.proofs.Performs.{performs-if-frame}
-use Rattle.plain_step.proofs.Laws.{cut-length}
+use Rattle.frames.proofs.Performs.{cut-length, performs-if-frame}
 use borrow.Author.Needs.{needs}
 use Rattle.plain_step.proofs.arms.bind.Statement.{statement}
 use Rattle.plain_step.proofs.arms.bind.Tie as tie

@@ -2,8 +2,7 @@
 use denote.Ref.{now}
 use Rattle.model.specs.Modes.{plain}
 use Rattle.sheet.specs.Meaning.{qualOf, programOf}
-use Rattle.frames.proofs.Performs.{performs-jump}
-use Rattle.plain_step.proofs.Laws.{cut-length}
+use Rattle.frames.proofs.Performs.{cut-length, performs-jump}
 use borrow.Author.Needs.{needs}
 use Rattle.plain_step.proofs.arms.jump_zero.Statement.{statement}
 use Rattle.plain_step.proofs.arms.jump_zero.Tie as tie

@@ -1,7 +1,8 @@
 -- The integer is that of the variable, and the free units are those of the view.
 use denote.Ref.{now}
 use Rattle.sheet.specs.Meaning.{qualOf, programOf}
-use Rattle.plain_step.proofs.Laws.{performs-array, cut-length}
+use Rattle.plain_step.proofs.Laws.{performs-array}
+use Rattle.frames.proofs.Performs.{cut-length}
 use borrow.Author.Needs.{needs}
 use Rattle.plain_step.proofs.arms.new_array.Statement.{statement}
 use Rattle.plain_step.proofs.arms.new_array.Tie as tie

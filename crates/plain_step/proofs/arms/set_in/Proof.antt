@@ -1,8 +1,7 @@
 -- The parts of the memory, as the code cuts them, are those that the view sees.
 use denote.Ref.{now}
 use Rattle.model.specs.Modes.{plain}
-use Rattle.frames.proofs.Performs.{sees-cut}
-use Rattle.plain_step.proofs.Laws.{cut-length}
+use Rattle.frames.proofs.Performs.{cut-length, sees-cut}
 use borrow.Author.Needs.{needs}
 use Rattle.plain_step.proofs.arms.set_in.Statement.{statement}
 use Rattle.plain_step.proofs.arms.set_in.Tie as tie

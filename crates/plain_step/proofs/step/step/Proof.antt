@@ -8,8 +8,7 @@ use Rattle.sheet.specs.Decode.{operationAt}
 use Rattle.form.specs.Named.{Named}
 use Rattle.writers.specs.Memory.{Sane, variables-in}
 use Rattle.frames.specs.Fetch.{place-in}
-use Rattle.frames.proofs.Fetched.{code-operation, code-whole, callable}
-use Rattle.plain_step.proofs.Laws.{named-as}
+use Rattle.frames.proofs.Fetched.{named-as, code-operation, code-whole, callable}
 use borrow.Author.Needs.{needs}
 use Rattle.plain_step.proofs.step.step.Statement.{statement}
 use Rattle.plain_step.proofs.step.step.Tie as tie

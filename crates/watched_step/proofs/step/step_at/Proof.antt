@@ -1,13 +1,17 @@
 -- The operation is that which was read; its arm performs it.
-use mathlib.Core.Path.{_≡_, sym, subst, _∙_}
+use Prim.Native.Nat.{_<_}
+use mathlib.Core.Path.{_≡_, sym, _∙_}
+use lib.ListN.{length}
 use borrow.Author.Needs.{needs}
 use denote.Ref.{now}
 use Rattle.model.specs.declared.Operation.{Operation}
 use Rattle.sheet.specs.Decode.{operationAt}
 use Rattle.form.specs.Named.{Named}
-use Rattle.writers.specs.Memory.{variables-in}
+use Rattle.index.specs.Indexed.{Ready}
+use Rattle.writers.specs.Memory.{Sane, variables-in}
 use Rattle.frames.specs.Fetch.{place-in}
-use Rattle.frames.proofs.Fetched.{code-operation, code-whole, callable}
+use Rattle.frames.proofs.Fetched.{named-as, code-operation, code-whole, callable}
+use Rattle.watched_calls.specs.Calls.{PlaceOf}
 use Rattle.watched_step.proofs.step.step_at.Statement.{statement}
 use Rattle.watched_step.proofs.step.step_at.Tie as tie
 
@@ -24,80 +28,68 @@ fetched c =
     let pre = c .before .before .before .before .before .before .before .pre in
     sym (c .operation-whole .ensures ∙ code-operation (now (args .s)) (args .r) (now (args .code)) (pre .1 .1 .1 .0))
 
--- the variables that it names are the frame's
-named-here : (c : tie.After-operation-whole) {op : Operation} → c .operation-whole .result ≡ op → Named (variables-in (c .before .before .before .before .before .before .before .args .r)) op
-named-here c is = subst (Named _) (fetched c ∙ is) (c .before .before .before .before .before .before .before .pre .1 .1 .0 .named)
+-- what an arm is owed: the variables that the operation names are the frame's
+inside : (c : tie.After-operation-whole) {op : Operation} → c .operation-whole .result ≡ op
+    → let args = c .before .before .before .before .before .before .before .args in
+    Sane (length (now (args .memory))) (args .r) × ((args .r .next < 1000) × Named (variables-in (args .r)) op)
+inside c e =
+    let pre = c .before .before .before .before .before .before .before .pre in
+    (pre .1 .0, (pre .1 .1 .0 .next, named-as (pre .1 .1 .0) (fetched c ∙ e)))
+
+-- and one that binds to a declared type, the sheet's index and the place of the PR
+owed : (c : tie.After-operation-whole) {op : Operation} → c .operation-whole .result ≡ op
+    → let args = c .before .before .before .before .before .before .before .args in
+    Ready (now (args .s)) (now (args .index))
+    × (Sane (length (now (args .memory))) (args .r) × ((args .r .next < 1000) × (Named (variables-in (args .r)) op × PlaceOf (args .r) (args .pr))))
+owed c e =
+    let pre = c .before .before .before .before .before .before .before .pre in
+    let here = inside c e in
+    (pre .0 .ready, (here .0, (here .1 .0, (here .1 .1, pre .1 .1 .1 .1))))
 
 set-requires : tie.Need-set-requires
-set-requires c κs =
-    let pre = c .before .before .before .before .before .before .before .before .before .before .before .pre in
-    let operation = c .before .before .operation in
-    (pre .0 .ready, (pre .1 .0, (pre .1 .1 .0 .next, (named-here (c .before .before .before .before) (operation .given .1), pre .1 .1 .1 .1))))
+set-requires c κs = owed (c .before .before .before .before) (c .before .before .operation .given .1)
 
 add-requires : tie.Need-add-requires
-add-requires c κs =
-    let pre = c .before .before .before .before .before .before .before .before .before .before .before .pre in
-    let operation = c .before .before .operation2 in
-    (pre .0 .ready, (pre .1 .0, (pre .1 .1 .0 .next, (named-here (c .before .before .before .before) (operation .given .1) .0, pre .1 .1 .1 .1))))
+add-requires c κs = owed (c .before .before .before .before) (c .before .before .operation2 .given .1)
 
 subtract-requires : tie.Need-subtract-requires
-subtract-requires c κs =
-    let pre = c .before .before .before .before .before .before .before .before .before .before .before .pre in
-    let operation = c .before .before .operation3 in
-    (pre .0 .ready, (pre .1 .0, (pre .1 .1 .0 .next, (named-here (c .before .before .before .before) (operation .given .1) .0, pre .1 .1 .1 .1))))
+subtract-requires c κs = owed (c .before .before .before .before) (c .before .before .operation3 .given .1)
 
 less-requires : tie.Need-less-requires
-less-requires c κs =
-    let pre = c .before .before .before .before .before .before .before .before .before .before .before .pre in
-    let operation = c .before .before .operation4 in
-    (pre .0 .ready, (pre .1 .0, (pre .1 .1 .0 .next, (named-here (c .before .before .before .before) (operation .given .1) .0, pre .1 .1 .1 .1))))
+less-requires c κs = owed (c .before .before .before .before) (c .before .before .operation4 .given .1)
 
 bind-requires : tie.Need-bind-requires
-bind-requires c κs =
-    let pre = c .before .before .before .before .before .before .before .before .before .before .before .pre in
-    let operation = c .before .before .operation6 in
-    (pre .0 .ready, (pre .1 .0, (pre .1 .1 .0 .next, (named-here (c .before .before .before .before) (operation .given .1) .0, pre .1 .1 .1 .1))))
+bind-requires c κs = owed (c .before .before .before .before) (c .before .before .operation6 .given .1)
 
 take-requires : tie.Need-take-requires
-take-requires c κs =
-    let pre = c .before .before .before .before .before .before .before .before .before .before .before .pre in
-    let operation = c .before .before .operation7 in
-    (pre .0 .ready, (pre .1 .0, (pre .1 .1 .0 .next, (named-here (c .before .before .before .before) (operation .given .1), pre .1 .1 .1 .1))))
+take-requires c κs = owed (c .before .before .before .before) (c .before .before .operation7 .given .1)
 
 new-array-requires : tie.Need-new-array-requires
-new-array-requires c κs =
-    let pre = c .before .before .before .before .before .before .before .before .before .before .before .pre in
-    let operation = c .before .before .operation9 in
-    (pre .0 .ready, (pre .1 .0, (pre .1 .1 .0 .next, (named-here (c .before .before .before .before) (operation .given .1) .0, pre .1 .1 .1 .1))))
+new-array-requires c κs = owed (c .before .before .before .before) (c .before .before .operation9 .given .1)
 
 fetch-requires : tie.Need-fetch-requires
-fetch-requires c κs =
-    let pre = c .before .before .before .before .before .before .before .before .before .before .before .pre in
-    let operation = c .before .before .operation10 in
-    (pre .0 .ready, (pre .1 .0, (pre .1 .1 .0 .next, (named-here (c .before .before .before .before) (operation .given .1) .0, pre .1 .1 .1 .1))))
+fetch-requires c κs = owed (c .before .before .before .before) (c .before .before .operation10 .given .1)
 
 size-requires : tie.Need-size-requires
-size-requires c κs =
-    let pre = c .before .before .before .before .before .before .before .before .before .before .before .pre in
-    let operation = c .before .before .operation12 in
-    (pre .0 .ready, (pre .1 .0, (pre .1 .1 .0 .next, (named-here (c .before .before .before .before) (operation .given .1) .0, pre .1 .1 .1 .1))))
+size-requires c κs = owed (c .before .before .before .before) (c .before .before .operation12 .given .1)
 
 new-record-requires : tie.Need-new-record-requires
-new-record-requires c κs =
-    let pre = c .before .before .before .before .before .before .before .before .before .before .before .pre in
-    let operation = c .before .before .operation13 in
-    (pre .0 .ready, (pre .1 .0, (pre .1 .1 .0 .next, (named-here (c .before .before .before .before) (operation .given .1), pre .1 .1 .1 .1))))
+new-record-requires c κs = owed (c .before .before .before .before) (c .before .before .operation13 .given .1)
 
 get-slot-requires : tie.Need-get-slot-requires
-get-slot-requires c κs =
-    let pre = c .before .before .before .before .before .before .before .before .before .before .before .pre in
-    let operation = c .before .before .operation14 in
-    (pre .0 .ready, (pre .1 .0, (pre .1 .1 .0 .next, (named-here (c .before .before .before .before) (operation .given .1) .0, pre .1 .1 .1 .1))))
+get-slot-requires c κs = owed (c .before .before .before .before) (c .before .before .operation14 .given .1)
 
 set-slot-requires : tie.Need-set-slot-requires
-set-slot-requires c κs =
-    let pre = c .before .before .before .before .before .before .before .before .before .before .before .pre in
-    (pre .0 .ready, (pre .1 .0, (pre .1 .1 .0 .next, pre .1 .1 .1 .1)))
+set-slot-requires c κs = owed (c .before .before .before .before) (c .before .before .operation15 .given .1)
+
+jump-zero-requires : tie.Need-jump-zero-requires
+jump-zero-requires c κs = inside (c .before .before .before .before) (c .before .before .operation5 .given .1)
+
+put-requires : tie.Need-put-requires
+put-requires c κs = inside (c .before .before .before .before .before) (c .before .before .before .operation8 .given .1)
+
+store-requires : tie.Need-store-requires
+store-requires c κs = inside (c .before .before .before .before) (c .before .before .operation11 .given .1)
 
 call-requires : tie.Need-call-requires
 call-requires c κs =
@@ -246,19 +238,19 @@ step-at-spec =
     (λ c. search needs)
     less-requires
     (λ c. search needs)
-    (λ c κs. search needs)
+    jump-zero-requires
     (λ c. search needs)
     bind-requires
     (λ c. search needs)
     take-requires
     (λ c. search needs)
-    (λ c κs. search needs)
+    put-requires
     (λ c. search needs)
     new-array-requires
     (λ c. search needs)
     fetch-requires
     (λ c. search needs)
-    (λ c κs. search needs)
+    store-requires
     (λ c. search needs)
     size-requires
     (λ c. search needs)
