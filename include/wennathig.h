@@ -27,6 +27,16 @@
 extern "C" {
 #endif
 
+/* The version, which stands here and nowhere else: a request that lands raises the minor number. */
+#define WN_VERSION_MAJOR 1
+#define WN_VERSION_MINOR 0
+#define WN_VERSION_PATCH 0
+
+/* The same as text, "MAJOR.MINOR.PATCH". */
+#define WN_VERSION WN_DOTTED_(WN_VERSION_MAJOR, WN_VERSION_MINOR, WN_VERSION_PATCH)
+#define WN_DOTTED_(major, minor, patch) WN_TEXT_(major) "." WN_TEXT_(minor) "." WN_TEXT_(patch)
+#define WN_TEXT_(number) #number
+
 /* The longest sheet, in bytes. */
 #define WN_SHEET_MAX 32768
 
