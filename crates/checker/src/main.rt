@@ -1,25 +1,45 @@
-// Reads a sheet on standard input and prints a word, a number and a place.
-use model::Verdict;
+// Reads a sheet on standard input and writes a word, a number and a place. What is no input read to its end gets no verdict.
+mod calls;
+mod input;
+mod output;
 
-fn print(word: &[u8], number: u64, place: u64) {
-    io::write_all(1, word);
-    io::write_all(1, b" ");
-    io::print_decimal(1, number);
-    io::write_all(1, b" ");
-    io::print_decimal(1, place);
-    io::write_all(1, b"\n");
+use input::Input;
+ghost use mathlib.Core.Path.{_≡_};
+ghost use lib.ListN.{length, take};
+ghost use Rattle.io.specs.Counts.{Counts};
+ghost use Rattle.checker.specs.Input.{Held};
+ghost use Rattle.checker.specs.Said.{said};
+
+// The line of the verdict on the bytes read, where they are the whole input; otherwise nothing.
+fn put_said(buffer: &[u8], input: Input, line: &mut [u8; 64]) -> usize
+    requires { ⌜ Held (length (now buffer)) input ⌝ }
+    ensures { λ r. ⌜ Counts r (now (line .exit)) ⌝ }
+    ensures { λ r. ⌜ take r (now (line .exit)) ≡ said (now (buffer .entry)) input ⌝ }
+{
+    match input {
+        Input::Whole(n) => verdict_line::put_line(checking::check(&buffer[..n]), line),
+        Input::Partial(_) => 0,
+        Input::Unread => 0,
+    }
 }
 
-fn report(s: &[u8]) {
-    match checking::check(s) {
-        Verdict::Accepted => print(b"accepted", 0, 0),
-        Verdict::Refused(number, place) => print(b"refused", number as u64, place as u64),
+// A byte more than the longest sheet has: what fills it is refused whatever follows.
+fn answer() {
+    let mut buffer = [0u8; 32769];
+    let input = input::read_input(&mut buffer);
+    let mut line = [0u8; 64];
+    let n = put_said(&buffer, input, &mut line);
+    if n > 0 {
+        output::write_line(&line[..n]);
+    } else {
+        os::fail(b"wennathig-check: standard input");
     }
 }
 
 fn main() {
-    // A longer sheet than 32,768 bytes is refused whatever follows, so that a buffer of twice that is enough.
-    let mut buffer = io::large_buffer();
-    let n = io::read_full(0, &mut buffer);
-    report(&buffer[..n]);
+    if os::arg_count() > 1 {
+        io::write_all(libc::STDERR_FILENO, b"usage: wennathig-check <SHEET\n");
+    } else {
+        answer();
+    }
 }

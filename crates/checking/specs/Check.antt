@@ -1,6 +1,8 @@
 -- What `check` says of any bytes: the first of refusals 1 to 9 in document 01's order, or accepted.
-use Prim.Native.Nat.{ℕ}
+use Prim.Native.Nat.{ℕ, _<_}
+use mathlib.Core.Path.{_≡_}
 use mathlib.Core.List.{List, _++_}
+use lib.ListN.{length}
 use Rattle.model.specs.Refusal.{Tests, Gives, verdict}
 use Rattle.model.specs.Rules.{access-rules}
 use Rattle.model.specs.declared.Verdict.{Verdict}
@@ -22,3 +24,7 @@ check s = verdict (check-tests s)
 -- "Check gives 1 to 9 or accepts"
 abbrev pub CheckNumbers : Type 0
 CheckNumbers = (sheet : List ℕ) → Gives 1 9 (check sheet)
+
+-- "1: more than 32,768 bytes": what follows so many does not matter, so that nobody need read it
+abbrev pub FollowsNoMatter : Type 0
+FollowsNoMatter = (sheet rest : List ℕ) → 32768 < length sheet → check (sheet ++ rest) ≡ check sheet
