@@ -1,21 +1,27 @@
 #!/usr/bin/env bash
-# The checking program as its users meet it: what it writes, for input of any length and in any pieces.
+# The checking program as its users meet it: what it writes, for input of any length and in any pieces, and for what is no
+# input to its end.
 set -uo pipefail
 cd "$(dirname "${BASH_SOURCE[0]}")/.." || exit 1
 
 check=build/wennathig-check
-sheet=$(mktemp) wrote=$(mktemp) || exit 1
-trap 'rm -f "$sheet" "$wrote"' EXIT
+place=$(mktemp -d) || exit 1
+trap 'rm -rf "$place"' EXIT
+sheet=$place/sheet wrote=$place/wrote said=$place/said
 passed=0 failed=0
 
+tally() { # STATUS WHAT
+    if [ "$1" -eq 0 ]; then passed=$((passed + 1)); else failed=$((failed + 1)); echo "FAILED: $2"; fi
+}
 # expect WHAT LINE: what the program wrote is that line, its newline included, and nothing else
 expect() {
-    if printf '%s\n' "$2" | cmp -s - "$wrote"; then
-        passed=$((passed + 1))
-    else
-        failed=$((failed + 1))
-        echo "FAILED: $1: expected '$2', written: $(head -c 100 "$wrote" | cat -v)"
-    fi
+    printf '%s\n' "$2" | cmp -s - "$wrote"
+    tally $? "$1: expected '$2', written: $(head -c 100 "$wrote" | cat -v)"
+}
+# complains WHAT REASON: nothing was written, and standard error has one line with the reason
+complains() {
+    [ ! -s "$wrote" ] && [ "$(cat "$said")" = "wennathig-check: $2" ]
+    tally $? "$1: expected '$2' alone, written: $(head -c 100 "$wrote" | cat -v), said: $(head -c 200 "$said" | cat -v)"
 }
 zeros() { head -c "$1" /dev/zero; }
 
@@ -47,6 +53,49 @@ for n in 65535 65536 65537 131072 10000000; do
     zeros "$n" | $check >"$wrote"
     expect "$n zeros" "refused 1 0"
 done
+
+# What cannot be read to its end has no verdict, whatever came before.
+$check <"$place" >"$wrote" 2>"$said"
+complains "a directory" "standard input: Is a directory"
+$check <&- >"$wrote" 2>"$said"
+complains "no standard input" "standard input: Bad file descriptor"
+$check 0>"$place/written" >"$wrote" 2>"$said"
+complains "a standard input that can only be written" "standard input: Bad file descriptor"
+$check "$sheet" <"$sheet" >"$wrote" 2>"$said"
+[ ! -s "$wrote" ] && [ "$(cat "$said")" = "usage: wennathig-check <SHEET" ]
+tally $? "an argument is misuse, and gets no verdict"
+
+# scripts/lend-input lends a standard input as the name says, in which the sheet comes in parts
+for way in non-blocking reset one-write; do
+    perl scripts/lend-input "$way" "$sheet" "$check" >"$wrote" 2>"$said"
+    case $way in
+    reset) complains "a connection that is reset after the first part" "standard input: Connection reset by peer" ;;
+    *) expect "$way" "accepted 0 0" ;;
+    esac
+done
+
+# Calls that a signal interrupts are made again.
+gcc -shared -fPIC -O2 -Wall -Wextra -Werror c/interrupting.c -o "$place/interrupting.so"
+LD_PRELOAD=$place/interrupting.so $check <"$sheet" >"$wrote" 2>"$said"
+expect "calls interrupted every second time" "accepted 0 0"
+
+# A line that cannot be written is said on standard error.
+$check <"$sheet" >/dev/full 2>"$said"
+[ "$(cat "$said")" = "wennathig-check: standard output: No space left on device" ]
+tally $? "a full device: $(cat "$said")"
+$check <"$sheet" >&- 2>"$said"
+[ "$(cat "$said")" = "wennathig-check: standard output: Bad file descriptor" ]
+tally $? "no standard output: $(cat "$said")"
+(ulimit -f 1; trap '' XFSZ; zeros 1020 >"$place/log"; exec $check <"$sheet" >>"$place/log" 2>"$said")
+[ "$(cat "$said")" = "wennathig-check: standard output: only a part of the line was written" ]
+tally $? "a line cut short: $(cat "$said")"
+
+# Two programs that append to one file do not mix their lines.
+append() { for _ in $(seq 200); do $check <"$1" >>"$place/log"; done; }
+rm -f "$place/log"
+append "$sheet" & append /dev/null & wait
+[ "$(sort "$place/log" | uniq -c | tr -s ' \n' ' ')" = " 200 accepted 0 0 200 refused 2 0 " ]
+tally $? "two programs append to one file: $(sort "$place/log" | uniq -c)"
 
 echo "$passed passed, $failed failed"
 [ "$failed" -eq 0 ]
