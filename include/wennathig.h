@@ -18,7 +18,7 @@
 **               signal, and leaves errno alone: calls with buffers of their own may be made from any threads at once.
 **   Stack       A call takes less than WN_STACK_MAX bytes of stack, whatever the arguments: nothing recurses. Only the first
 **               calls of a program that binds the C library's functions late, as is usual, take what the dynamic linker
-**               needs besides, some 3,000 bytes; link with -z now, or statically, or make them where stack is plenty.
+**               needs besides, some thousands of bytes; link with -z now, or statically, or make them where stack is plenty.
 */
 #ifndef WENNATHIG_H
 #define WENNATHIG_H
