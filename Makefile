@@ -48,7 +48,7 @@ link_c = $(compile_c) $< $(filter %.a,$^) -o $@
 build/wennathig-host: c/host.c include/wennathig.h $(libraries)
 	$(link_c)
 
-build/test_watch: build/libwennathig_watch.a
+build/test_watch build/test_stack: build/libwennathig_watch.a
 build/test_%: c/test_%.c $(wildcard c/*.h) include/wennathig.h build/libwennathig.a
 	$(link_c)
 
@@ -61,26 +61,58 @@ test:
 bench: lib
 	cd rust && cargo run --release --offline -p bench -- ../docs/bench
 
-# What is installed, under DESTDIR (for packages) and PREFIX. `uninstall` removes these files, and no folder.
+# What is installed, and where: under DESTDIR (for packages), then the folder named.
 PREFIX ?= /usr/local
+BINDIR ?= $(PREFIX)/bin
+LIBDIR ?= $(PREFIX)/lib
+INCLUDEDIR ?= $(PREFIX)/include
+DATADIR ?= $(PREFIX)/share
+MANDIR ?= $(DATADIR)/man
+PKGCONFIGDIR ?= $(LIBDIR)/pkgconfig
+COMPLETIONDIR ?= $(DATADIR)/bash-completion/completions
 DESTDIR ?=
-to := $(DESTDIR)$(PREFIX)
+
 programs := build/wennathig-check build/wennathig
 headers := include/wennathig.h
+packages := wennathig.pc wennathig-watch.pc
 command_pages := $(wildcard man/*.1)
 library_pages := $(wildcard man/*.3)
-installed = $(addprefix $(to)/bin/,$(notdir $(programs))) $(addprefix $(to)/lib/,$(notdir $(libraries))) \
-    $(addprefix $(to)/include/,$(notdir $(headers))) $(addprefix $(to)/share/man/man1/,$(notdir $(command_pages))) \
-    $(addprefix $(to)/share/man/man3/,$(notdir $(library_pages)))
+completions := $(wildcard completions/*)
+
+# Each function has a page that leads to wennathig.3, where the line below .SH NAME lists them. They are links, made
+# at install: a page of man/ that sent the reader to another could not be opened in its place.
+links := $(addsuffix .3,$(shell sed -n '/^\.SH NAME/{n;s/ \\-.*//;s/,//g;p;}' man/wennathig.3))
+
+# A text as one word of the shell, whatever it holds: make's lists part at spaces, so no place is ever in a list unquoted.
+quoted = '$(subst ','\'',$(1))'
+under = $(call quoted,$(DESTDIR)$(1))
+each_under = $(foreach file,$(notdir $(2)),$(call under,$(1)/$(file)))
+
+folders = $(foreach folder,BINDIR LIBDIR INCLUDEDIR PKGCONFIGDIR,$(call under,$($(folder)))) \
+    $(call under,$(MANDIR)/man1) $(call under,$(MANDIR)/man3) $(if $(completions),$(call under,$(COMPLETIONDIR)))
+installed = $(call each_under,$(BINDIR),$(programs)) $(call each_under,$(LIBDIR),$(libraries)) \
+    $(call each_under,$(INCLUDEDIR),$(headers)) $(call each_under,$(PKGCONFIGDIR),$(packages)) \
+    $(call each_under,$(MANDIR)/man1,$(command_pages)) $(call each_under,$(MANDIR)/man3,$(library_pages) $(links)) \
+    $(call each_under,$(COMPLETIONDIR),$(completions))
+
+# The header has the version. In a .pc file a backslash stands before what pkg-config or a shell would read.
+version = $(shell sed -nE 's/^.define WN_VERSION_(MAJOR|MINOR|PATCH) ([0-9]+)$$/\2/p' include/wennathig.h | paste -sd.)
+fill = prefix=$(call quoted,$(PREFIX)) libdir=$(call quoted,$(LIBDIR)) includedir=$(call quoted,$(INCLUDEDIR)) \
+    version=$(version) perl -pe 's{@(\w+)@}{$$ENV{$$1} =~ s/[^\w\/.,:@%+=~\x80-\xff-]/\\$$&/gr}ge'
 
 install: lib checker command
-	install -d $(sort $(dir $(installed)))
-	install -m 755 $(programs) $(to)/bin
-	install -m 644 $(libraries) $(to)/lib
-	install -m 644 $(headers) $(to)/include
-	install -m 644 $(command_pages) $(to)/share/man/man1
-	install -m 644 $(library_pages) $(to)/share/man/man3
+	install -d $(folders)
+	install -m 755 $(programs) $(call under,$(BINDIR))
+	install -m 644 $(libraries) $(call under,$(LIBDIR))
+	install -m 644 $(headers) $(call under,$(INCLUDEDIR))
+	for package in $(packages); do $(fill) "$$package.in" >$(call under,$(PKGCONFIGDIR))/"$$package" || exit; done
+	chmod 644 $(call each_under,$(PKGCONFIGDIR),$(packages))
+	install -m 644 $(command_pages) $(call under,$(MANDIR)/man1)
+	install -m 644 $(library_pages) $(call under,$(MANDIR)/man3)
+	for link in $(links); do ln -sf wennathig.3 $(call under,$(MANDIR)/man3)/"$$link" || exit; done
+	$(if $(completions),install -m 644 $(completions) $(call under,$(COMPLETIONDIR)))
 
+# These files, and no folder
 uninstall:
 	rm -f $(installed)
 

@@ -3,8 +3,11 @@
 **     wennathig-host SHEET [FUEL] <READS
 **
 ** SHEET is a file, READS are decimal numbers of 32 bits with white space between them, FUEL is 1,000,000 if not given.
-** Exit status: 0 accepted and done, 1 refused or stopped otherwise, 2 misuse.
+** Exit status: 0 accepted and done, 1 refused or stopped otherwise, 2 misuse, or the sheet or the reads cannot be read,
+** 3 the answer cannot be written.
 */
+#include <ctype.h>
+#include <errno.h>
 #include <stdio.h>
 #include <string.h>
 
@@ -19,13 +22,6 @@ static uint32_t reads[READS_MAX], report[REPORT_WORDS];
 static uint64_t bench[WN_MEMORY_MAX], reply[WN_REPLY_WORDS];
 static size_t sheet_len, reads_len;
 
-/* Document 01's word for each number */
-static const char *const words[] = {
-    "accepted", "overlong", "torn", "stray mark", "edition", "off scale", "loose key", "false raise", "wrong kind",
-    "no licence", "big bench", "done", "fuel spent", "blank", "past the tray", "reads ended", "report full", "bench full",
-    "mixed sample", "unlicensed"
-};
-
 /* wn_run and wn_watch are called alike. */
 typedef uint64_t machine(const uint8_t *, size_t, const uint32_t *, size_t, uint64_t, uint64_t *, size_t, uint32_t *,
                          size_t, uint64_t *, size_t);
@@ -38,19 +34,26 @@ static const struct {
     {"watch", wn_watch},
 };
 
-/* Gives 1, and what a text says, if it is a decimal number up to a limit. */
-static int number(const char *text, uint64_t limit, uint64_t *value)
+/* Says what errno says of a file. */
+static void complain(const char *file)
 {
-    const char *first = text;
+    fprintf(stderr, "wennathig-host: %s: %s\n", file, strerror(errno));
+}
 
-    for (*value = 0; *text >= '0' && *text <= '9'; text++) {
-        uint64_t digit = (uint64_t)(*text - '0');
+/* Gives 1, and what a text says, if it is a decimal number up to a limit. */
+static int number(const char *text, size_t len, uint64_t limit, uint64_t *value)
+{
+    size_t i;
 
-        if (*value > (limit - digit) / 10)
+    *value = 0;
+    for (i = 0; i < len; i++) {
+        uint64_t digit = (uint64_t)(text[i] - '0');
+
+        if (text[i] < '0' || text[i] > '9' || *value > (limit - digit) / 10)
             return 0;
         *value = *value * 10 + digit;
     }
-    return text != first && *text == '\0';
+    return len > 0;
 }
 
 static int load_sheet(const char *name)
@@ -58,25 +61,65 @@ static int load_sheet(const char *name)
     FILE *file = fopen(name, "rb");
     int good;
 
-    if (file == NULL)
+    if (file == NULL) {
+        complain(name);
         return 0;
+    }
     sheet_len = fread(sheet, 1, sizeof sheet, file);
-    good = !ferror(file);
+    good = !ferror(file); /* a folder can be opened, and not be read */
+    if (!good)
+        complain(name);
     fclose(file);
     return good;
 }
 
+/* Reads what stands before the next white space, as much of it as there is room for. Gives its length, 0 at the end. */
+static size_t next_read(char *text, size_t room)
+{
+    size_t len = 0;
+    int c;
+
+    do
+        c = getchar();
+    while (isspace(c));
+    for (; c != EOF && !isspace(c); c = getchar()) {
+        if (len < room)
+            text[len] = (char)c;
+        len++;
+    }
+    return len;
+}
+
+/* The text may be anything: only what is printable in ASCII is printed as it is. */
+static void complain_of_read(const char *text, size_t len, size_t room)
+{
+    size_t i;
+
+    fprintf(stderr, "wennathig-host: standard input: read %lu is no number of 32 bits: ", (unsigned long)reads_len + 1);
+    for (i = 0; i < len && i < room; i++)
+        fprintf(stderr, text[i] > ' ' && text[i] <= '~' && text[i] != '\\' ? "%c" : "\\x%02x", (unsigned char)text[i]);
+    fprintf(stderr, len > room ? "..\n" : "\n");
+}
+
 static int load_reads(void)
 {
-    char text[64];
+    char text[32];
     uint64_t value;
+    size_t len;
 
-    while (scanf("%63s", text) == 1) {
-        /* what fills the text may go on after it */
-        if (strlen(text) == sizeof text - 1 || reads_len == READS_MAX || !number(text, UINT32_MAX, &value))
+    while ((len = next_read(text, sizeof text)) > 0) {
+        if (len > sizeof text || !number(text, len, UINT32_MAX, &value)) {
+            complain_of_read(text, len, sizeof text);
             return 0;
+        }
+        if (reads_len == READS_MAX) {
+            fprintf(stderr, "wennathig-host: standard input: more than %d reads\n", READS_MAX);
+            return 0;
+        }
         reads[reads_len++] = (uint32_t)value;
     }
+    if (ferror(stdin))
+        complain("standard input");
     return !ferror(stdin);
 }
 
@@ -84,7 +127,7 @@ static void print_answer(const char *name, uint64_t answer)
 {
     size_t i;
 
-    printf("%-6s %2lu %s", name, (unsigned long)answer, words[answer]);
+    printf("%-6s %2lu %s", name, (unsigned long)answer, wn_word(answer));
     if (answer < WN_DONE) {
         printf(", place %lu\n", (unsigned long)reply[WN_PLACE]);
         return;
@@ -96,22 +139,13 @@ static void print_answer(const char *name, uint64_t answer)
     printf("\n");
 }
 
-int main(int argc, char **argv)
+/* Makes the three calls. Gives 1 if the sheet is accepted and done. */
+static int answer_all(uint64_t fuel)
 {
-    uint64_t fuel = 1000000, answer;
-    int good;
+    uint64_t answer = wn_check(sheet, sheet_len, reply, WN_REPLY_WORDS);
+    int good = answer == WN_ACCEPTED;
     size_t i;
 
-    if (argc < 2 || argc > 3 || (argc == 3 && !number(argv[2], UINT64_MAX, &fuel))) {
-        fprintf(stderr, "usage: wennathig-host SHEET [FUEL] <READS\n");
-        return 2;
-    }
-    if (!load_sheet(argv[1]) || !load_reads()) {
-        fprintf(stderr, "wennathig-host: %s or the reads cannot be read\n", argv[1]);
-        return 2;
-    }
-    answer = wn_check(sheet, sheet_len, reply, WN_REPLY_WORDS);
-    good = answer == WN_ACCEPTED;
     print_answer("check", answer);
     for (i = 0; i < sizeof machines / sizeof *machines; i++) {
         answer = machines[i].call(sheet, sheet_len, reads, reads_len, fuel, bench, WN_MEMORY_MAX, report, REPORT_WORDS,
@@ -119,5 +153,33 @@ int main(int argc, char **argv)
         good = good && answer == WN_DONE;
         print_answer(machines[i].name, answer);
     }
+    return good;
+}
+
+/* What was printed may still wait in a buffer: it is written once the file is closed without an error. */
+static int written(void)
+{
+    int good = !ferror(stdout);
+
+    good = fclose(stdout) == 0 && good;
+    if (!good)
+        complain("standard output");
+    return good;
+}
+
+int main(int argc, char **argv)
+{
+    uint64_t fuel = 1000000;
+    int good;
+
+    if (argc < 2 || argc > 3 || (argc == 3 && !number(argv[2], strlen(argv[2]), UINT64_MAX, &fuel))) {
+        fprintf(stderr, "usage: wennathig-host SHEET [FUEL] <READS\n");
+        return 2;
+    }
+    if (!load_sheet(argv[1]) || !load_reads())
+        return 2;
+    good = answer_all(fuel);
+    if (!written())
+        return 3;
     return !good;
 }

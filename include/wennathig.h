@@ -16,6 +16,9 @@
 **               if it were declared restrict. sheet and reads are only read, and may overlap each other.
 **   Between     A pointer is not kept after its call. The library has no state of its own, uses no heap, no file and no
 **               signal, and leaves errno alone: calls with buffers of their own may be made from any threads at once.
+**   Stack       A call takes less than WN_STACK_MAX bytes of stack, whatever the arguments: nothing recurses. Only the first
+**               calls of a program that binds the C library's functions late, as is usual, take what the dynamic linker
+**               needs besides, some thousands of bytes; link with -z now, or statically, or make them where stack is plenty.
 */
 #ifndef WENNATHIG_H
 #define WENNATHIG_H
@@ -42,6 +45,9 @@ extern "C" {
 
 /* The largest bench, the memory lent to a run, in words of 8 bytes. */
 #define WN_MEMORY_MAX 65536
+
+/* More bytes of stack than a call takes, as these libraries are built, for x86-64. */
+#define WN_STACK_MAX 4096
 
 /* What an answer's number says: document 01's word, then its meaning. The letters tell which calls answer it: c wn_check,
 ** r wn_run, w wn_watch.
@@ -76,6 +82,20 @@ WN_MEMORY_FULL    = 17, /*  rw bench full: the units exceed the words lent      
 WN_CARRIED_KIND   = 18, /*   w mixed sample: a value of the wrong kind               */
 WN_CARRIED_RIGHT  = 19  /*   w unlicensed: a value does not carry the right needed   */
 };
+
+/* Document 01's word for a number, as above; "no such number" for any other, so that the text is never NULL. */
+static inline const char *wn_word(uint64_t number)
+{
+    static const char *const words[] = {
+        "accepted",
+        "overlong", "torn", "stray mark", "edition", "off scale",
+        "loose key", "false raise", "wrong kind", "no licence", "big bench",
+        "done", "fuel spent", "blank", "past the tray", "reads ended",
+        "report full", "bench full", "mixed sample", "unlicensed"
+    };
+
+    return number < sizeof words / sizeof *words ? words[number] : "no such number";
+}
 
 /* Checks a sheet. Gives WN_ACCEPTED (0), or the number of the refusal (1 to 9).
 **

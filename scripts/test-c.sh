@@ -1,7 +1,7 @@
 #!/usr/bin/env bash
-# The header alone, from C and from C++, then each C test, by itself and under valgrind; a C test's last line is
-# 'N passed, M failed'. Under valgrind a test counts once more: an access outside a buffer or a leak is one failure.
-# Then the library of wn_watch by itself, and the host of c/host.c, as its users meet it.
+# The header alone, from C and from C++, its words, its version and its bound of the stack; then each C test, by itself and
+# under valgrind; a C test's last line is 'N passed, M failed'. Under valgrind a test counts once more: an access outside a
+# buffer or a leak is one failure. Then the library of wn_watch by itself, and the host of c/host.c, as its users meet it.
 set -uo pipefail
 cd "$(dirname "${BASH_SOURCE[0]}")/.." || exit 1
 
@@ -40,10 +40,7 @@ write_sheets() {
 }
 
 # The numbers, words and replies of the host are those of the calls; reads and fuel reach the run.
-host_tests() {
-    local usage="usage: wennathig-host SHEET [FUEL] <READS"
-    local unreadable="wennathig-host: $sheets/countdown or the reads cannot be read"
-    write_sheets
+host_answers() {
     host "the smallest sheet" 0 "$(stopped '11 done, 1 steps, 0 words put, procedure 0, instruction 0' report)" \
         "$sheets/smallest" </dev/null
     host "down from three" 0 "$(stopped '11 done, 17 steps, 3 words put, procedure 0, instruction 7' 'report 3 2 1')" \
@@ -53,20 +50,138 @@ host_tests() {
         "$sheets/countdown" 5 <<<4294967295
     host "no reads" 1 "$(stopped '15 reads ended, 0 steps, 0 words put, procedure 0, instruction 0' report)" \
         "$sheets/countdown" </dev/null
+    host "as many reads as there may be" 0 \
+        "$(stopped '11 done, 9 steps, 1 words put, procedure 0, instruction 7' 'report 1')" \
+        "$sheets/countdown" < <(yes 1 | head -n 4096)
     host "a refused sheet" 1 "$(printf '%s\n' 'check   8 wrong kind, place 30' 'run     8 wrong kind, place 30' \
         'watch  18 mixed sample, 0 steps, 0 words put, procedure 0, instruction 0' report)" "$sheets/refused" <<<2
     host "an overlong sheet" 1 "$(printf '%-6s  1 overlong, place 0\n' check run watch)" "$sheets/long" </dev/null
-    host "no file" 2 "wennathig-host: $sheets/none or the reads cannot be read" "$sheets/none" </dev/null
-    host "a read of 33 bits" 2 "$unreadable" "$sheets/countdown" <<<4294967296
-    host "a read that is no number" 2 "$unreadable" "$sheets/countdown" <<<'3 x'
+}
+
+# What cannot be read is named, with the reason.
+host_complaints() {
+    local usage="usage: wennathig-host SHEET [FUEL] <READS" says="wennathig-host: standard input:"
+    host "no file" 2 "wennathig-host: $sheets/none: No such file or directory" "$sheets/none" </dev/null
+    host "a folder" 2 "wennathig-host: $sheets: Is a directory" "$sheets" </dev/null
+    host "reads that are a folder" 2 "$says Is a directory" "$sheets/countdown" <"$sheets"
+    host "a read of 33 bits" 2 "$says read 1 is no number of 32 bits: 4294967296" "$sheets/countdown" <<<4294967296
+    host "a read that is no number" 2 "$says read 2 is no number of 32 bits: x" "$sheets/countdown" <<<'3 x'
+    host "a read with bytes of all sorts" 2 "$says read 3 is no number of 32 bits: 4\\x00\\x1b[1m\\x5c\\xff" \
+        "$sheets/countdown" < <(printf '2 3\n4\0\33[1m\\\377 5')
+    host "a read without end" 2 "$says read 1 is no number of 32 bits: 11111111111111111111111111111111.." \
+        "$sheets/countdown" < <(yes 1 | head -n 50000 | tr -d '\n')
+    host "a read too many" 2 "$says more than 4096 reads" "$sheets/countdown" < <(yes 1 | head -n 4097)
     host "fuel that is no number" 2 "$usage" "$sheets/countdown" 1e3 </dev/null
+    host "empty fuel" 2 "$usage" "$sheets/countdown" '' </dev/null
     host "no sheet" 2 "$usage" </dev/null
+}
+
+# unwritten WHAT: the host's output, to which file 3 leads, cannot be written.
+unwritten() {
+    local said got
+    said=$(build/wennathig-host "$sheets/countdown" 2>&1 >&3)
+    got=$?
+    [ "$said" = "wennathig-host: standard output: No space left on device" ] && [ "$got" -eq 3 ]
+    tally $? "the host, $1: status $got, said: $said"
+}
+
+host_tests() {
+    write_sheets
+    host_answers
+    host_complaints
+    unwritten "a full disk" 3>/dev/full <<<3
+    unwritten "a full disk, and more than a buffer" 3>/dev/full <<<3000
+}
+
+# A program that prints every number's word, up to the first number that has none
+words_of() { # COMPILER OPTION..
+    "$@" -Wall -Wextra -Werror -pedantic -Iinclude - -o "$sheets/words" <<'END' && "$sheets/words"
+#include <stdio.h>
+#include <string.h>
+#include "wennathig.h"
+int main(void)
+{
+    int i;
+    for (i = 0; strcmp(wn_word((uint64_t)i), "no such number") != 0; i++)
+        printf("%d %s\n", i, wn_word((uint64_t)i));
+    return 0;
+}
+END
+}
+
+# The words of wn_word are those of the comments beside the numbers, and of the manual page.
+word_tests() {
+    local beside
+    beside=$(perl -ne 'print "$1 $2\n" if m{^WN_\w+ *= +(\d+),? +/\* [c ][r ][w ] ([^:]+): }' include/wennathig.h)
+    [ "$(wc -l <<<"$beside")" -eq 20 ]
+    tally $? "every number has a word beside it"
+    diff <(echo "$beside") <(words_of gcc -std=c99 -x c)
+    tally $? "wn_word gives the words beside the numbers, in C"
+    diff <(echo "$beside") <(words_of g++ -std=c++11 -x c++)
+    tally $? "wn_word gives the words beside the numbers, in C++"
+    diff <(echo "$beside") <(perl -ne 'print "$1 $2\n" if /^(\d+)\|WN_\w+\|(.+?)(?:: | \()/' man/wennathig.3)
+    tally $? "the manual page has the words"
+}
+
+# The first row of the table of versions is the header's.
+version_test() {
+    local header row
+    header=$(sed -nE 's/^#define WN_VERSION_(MAJOR|MINOR|PATCH) ([0-9]+)$/\2/p' include/wennathig.h | paste -sd.)
+    row=$(sed -n '/^| version | brought |$/{n;n;p;q}' docs/CHANGES.md)
+    [[ $row == "| $header | "* ]]
+    tally $? "the first row of docs/CHANGES.md is version $header: $row"
+}
+
+# The most stack that each call of a library takes, by its instructions: its frame, and the deepest of those that it calls.
+# For what cannot be bounded so there is a complaint, which is no number: a function that comes back to itself, a call
+# through a pointer, another way to move the stack's end. The 128 bytes below the end are free to use without moving it.
+stack_of() { # LIBRARY
+    objdump -dr --no-show-raw-insn -M intel "$1" | perl -e '
+        my (%frame, %calls, $in, $open);
+        while (<STDIN>) {
+            if (/^[0-9a-f]+ <(.+)>:$/) { $in = $1; $frame{$in} = 8; next }
+            if ($open && /R_X86_64_PLT32\s+(?:\.text\.)?(\S+)-0x4$/) { $calls{$in}{$1} = 1; $open = 0; next }
+            die "$in calls what is not named\n" if $open;
+            next unless /^\s*[0-9a-f]+:\t(\S+)\s*(.*)$/;
+            my ($what, $on) = ($1, $2);
+            if ($what eq "push") { $frame{$in} += 8 }
+            elsif ($what eq "sub" && $on =~ /^rsp,0x([0-9a-f]+)$/) { $frame{$in} += hex $1 }
+            elsif ($what eq "call") { $open = 1 }
+            elsif ($on =~ /^rsp,/ && $what !~ /^(?:add|cmp|test)$/) { die "$in moves the stack: $what $on\n" }
+        }
+        $frame{$_} = 8 for qw(memset memcpy); # of the C library; they keep nothing on the stack
+        sub most {
+            my ($name, @above) = @_;
+            die "$name comes back to itself\n" if grep { $_ eq $name } @above;
+            my $below = 128;
+            for (keys %{$calls{$name}}) {
+                my $one = most($_, @above, $name);
+                $below = $one if $one > $below;
+            }
+            return ($frame{$name} // die "$name is not in the library\n") + $below;
+        }
+        print "$_ ", most($_), "\n" for sort grep { /^wn_/ } keys %frame' 2>&1
+}
+
+stack_tests() {
+    local bound name most count=0
+    bound=$(sed -nE 's/^#define WN_STACK_MAX ([0-9]+)$/\1/p' include/wennathig.h)
+    while read -r name most; do
+        count=$((count + 1))
+        [[ $most =~ ^[0-9]+$ ]] && [ "$most" -lt "$bound" ]
+        tally $? "by its instructions, $name takes less than $bound bytes of stack: $most"
+    done < <(stack_of build/libwennathig.a; stack_of build/libwennathig_watch.a)
+    [ "$count" -eq 3 ]
+    tally $? "the instructions of three calls were read: $count"
 }
 
 gcc -std=c99 -Wall -Wextra -Werror -pedantic -fsyntax-only -x c include/wennathig.h
 tally $? "the header alone, as C99"
 g++ -std=c++11 -Wall -Wextra -Werror -pedantic -fsyntax-only -x c++ include/wennathig.h
 tally $? "the header alone, as C++"
+word_tests
+version_test
+stack_tests
 
 command -v valgrind >/dev/null || timeout 120 apt-get install -y valgrind </dev/null
 command -v valgrind >/dev/null
@@ -88,7 +203,8 @@ for source in c/test_*.c; do
     else
         tally 1 "$name ended without its count, with status $status"
     fi
-    if [ "$has_valgrind" -eq 0 ]; then
+    # to valgrind, what lies below a stack's end is nobody's, and test_stack reads just that
+    if [ "$has_valgrind" -eq 0 ] && [ "$name" != test_stack ]; then
         valgrind -q --error-exitcode=99 --leak-check=full "build/$name" >/dev/null
         tally $? "$name under valgrind"
     fi
