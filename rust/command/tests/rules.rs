@@ -459,6 +459,51 @@ fn the_table_of_instructions_has_every_code_of_the_text_form() {
     assert_eq!(found, due);
 }
 
+/// A text with one instruction, by its code, on an array or a call that has
+/// these rights.
+fn using(code: &str, rights: &str) -> String {
+    let line = match code {
+        "10" => "fetch n <- numbers[n]",
+        "11" => "store numbers[n] <- n",
+        "12" => "size n <- numbers",
+        "14" => "getslot n <- item.slot",
+        "15" => "setslot item.slot <- n",
+        _ => panic!("code {code} needs no right"),
+    };
+    let variable = match line.contains("item") {
+        true => format!("item: call{{{rights}}}"),
+        false => format!("numbers: tray[integer]{{{rights}}}"),
+    };
+    format!(
+        "type call{{read}} (slot: integer)\nprocedure main\nreturn\nprocedure p of call\n\
+         variable n: integer\nvariable {variable}\n{line}\nreturn\n"
+    )
+}
+
+#[test]
+fn each_instruction_needs_the_right_that_the_table_names_and_no_other() {
+    let part = between(PAGE, "\n### What each instruction needs\n", "\n### ");
+    let mut codes = Vec::new();
+    for row in rows(part).iter().filter(|row| !row[3].is_empty()) {
+        let (code, right) = (row[0].as_str(), between(&row[3], "`", "`"));
+        let all = match code {
+            "10" | "11" | "12" => ["fetch", "store", "size"].as_slice(),
+            _ => ["open", "read"].as_slice(),
+        };
+        assert!(all.contains(&right), "{row:?}");
+        let others: Vec<&str> = all
+            .iter()
+            .copied()
+            .filter(|other| *other != right)
+            .collect();
+        assert_eq!(number(&check(&using(code, right))), Some(0), "{row:?}");
+        let lacking = check(&using(code, &others.join(",")));
+        assert_eq!(number(&lacking), Some(9), "{row:?}");
+        codes.push(code.to_owned());
+    }
+    assert_eq!(codes, ["10", "11", "12", "14", "15"]);
+}
+
 // ---- Limits
 
 /// A main that returns at once, and what stands before it.
