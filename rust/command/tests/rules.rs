@@ -277,6 +277,9 @@ fn each_text_does_what_its_head_says() {
     }
 }
 
+/// The numbers whose sections say how to be rid of them.
+const CURES: [usize; 7] = [6, 7, 8, 9, 13, 18, 19];
+
 /// The shell loop of the page: five procedures of so many calls and a return.
 fn five_procedures(calls: usize) -> String {
     let procedure = |name| format!("procedure {name}\n{}return\n", "call a()\n".repeat(calls));
@@ -296,6 +299,8 @@ fn each_number_has_its_word_its_meaning_a_wrong_and_a_right_text() {
         let start = format!("\n`{meaning}`. ");
         assert!(section.starts_with(&start), "{number} says: {meaning}");
         assert_eq!(meaning.split(':').next(), Some(word), "{number}");
+        let cured = section.contains(" The cure");
+        assert!(cured || !CURES.contains(&number), "{number}: a cure");
     }
 }
 
