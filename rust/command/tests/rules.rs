@@ -299,7 +299,7 @@ fn each_number_has_its_word_its_meaning_a_wrong_and_a_right_text() {
         let start = format!("\n`{meaning}`. ");
         assert!(section.starts_with(&start), "{number} says: {meaning}");
         assert_eq!(meaning.split(':').next(), Some(word), "{number}");
-        let cured = section.contains(" The cure");
+        let cured = section.contains("The cure");
         assert!(cured || !CURES.contains(&number), "{number}: a cure");
     }
 }
