@@ -323,12 +323,12 @@ fn shown_as_texts(number: usize, section: &str) -> String {
     }
     let mut meanings = due.iter().map(|text| {
         let said = text.said_of(&text.body());
-        let of_check = text.key("watch").is_none() && text.key("expect").is_some();
-        match (of_check, text.key("watch").is_some()) {
-            (true, _) => said.check.meaning,
-            (false, true) => said.watch.meaning,
-            (false, false) => said.run.meaning,
-        }
+        let answer = match (text.key("watch"), text.key("expect")) {
+            (Some(_), _) => said.watch,
+            (None, Some(_)) => said.check,
+            (None, None) => said.run,
+        };
+        answer.meaning
     });
     let first = meanings.next().expect("a text");
     assert!(meanings.all(|other| other == first), "{number}: {first}");
