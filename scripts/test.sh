@@ -65,6 +65,7 @@ mkdir -p build/log
 
 stage acceptance last_line scripts/check-acceptance || true
 stage layers last_line scripts/draw-layers check || true
+stage pictures last_line scripts/draw-rules check || true
 stage unused last_line scripts/check-unused || true
 stage instructions last_line scripts/check-instructions || true
 stage breaks last_line scripts/break-reference check || true
