@@ -6,6 +6,7 @@
 mod cause;
 mod movement;
 mod reads;
+mod watched;
 
 use crate::engine::{agreed, disagree, Lent};
 use crate::explain::located;
@@ -21,7 +22,7 @@ use reference::machine::Resources;
 use reference::{parse, Outcome, Place, Program, Stop};
 use text::field::Field;
 
-/// The most steps that are made again only to tell why.
+/// The most steps that are made again only to tell why: some seconds.
 const MOST_STEPS: u64 = 50_000_000;
 
 /// What can be told of a stop beside its number.
@@ -62,9 +63,7 @@ pub fn stopped(
     let reason = match stop {
         Stop::Done => Reason::default(),
         Stop::FuelSpent | Stop::InputEnded | Stop::OutputFull => lacking(lent, outcome),
-        _ if steps > MOST_STEPS => Reason::line(format!(
-            "not told why: more than {MOST_STEPS} steps would have to be made again"
-        )),
+        _ if steps > MOST_STEPS => too_long(),
         _ => progress::shown(|| again(source, lent, watch, outcome, &program))?,
     };
     let Place {
@@ -118,6 +117,11 @@ fn lacking(lent: &Lent, outcome: Outcome) -> Reason {
     })
 }
 
+fn too_long() -> Reason {
+    let line = "why is not told: the second engine would take too long to make so many steps again";
+    Reason::line(String::from(line))
+}
+
 /// Makes the steps again and tells what the last one, which was not made,
 /// stopped at.
 fn again(
@@ -141,7 +145,12 @@ fn again(
         Ok(machine) => machine,
         Err(stop) => return Err(disagree(&outcome, &before_main(stop))),
     };
+    let mut work = 0;
     let end = loop {
+        if work > MOST_STEPS {
+            return Ok(too_long());
+        }
+        work += machine.weight();
         if let Err(end) = machine.step() {
             break end;
         }

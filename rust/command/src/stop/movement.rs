@@ -31,12 +31,12 @@ impl Cause<'_> {
     pub fn movements(&self) -> Vec<Movement> {
         use Field::{A, B, C};
         match self.operation {
-            Operation::Bind { to, from } => vec![self.into_variable(self.variable(B, from), to)],
+            Operation::Bind { to, from } => vec![self.assigned(self.variable(B, from), to)],
             Operation::Fetch { to, array, index } => {
-                vec![self.into_variable(self.cell(array, index), to)]
+                vec![self.assigned(self.cell(array, index), to)]
             }
             Operation::GetSlot { to, record, slot } => {
-                vec![self.into_variable(self.slot(record, slot), to)]
+                vec![self.assigned(self.slot(record, slot), to)]
             }
             Operation::Store { array, from, .. } => self.stored(array, self.variable(C, from)),
             Operation::SetSlot { record, slot, from } => {
@@ -71,7 +71,7 @@ impl Cause<'_> {
             Operation::NewRecord { to } => (to, Kind::Record { of: self.owner() }),
             _ => return Vec::new(),
         };
-        vec![self.into_variable(self.new_value(kind), to)]
+        vec![self.assigned(self.new_value(kind), to)]
     }
 
     /// A value that has all rights of its type.
@@ -92,7 +92,7 @@ impl Cause<'_> {
         }
     }
 
-    fn into_variable(&self, value: Moved, to: usize) -> Movement {
+    fn assigned(&self, value: Moved, to: usize) -> Movement {
         Movement {
             value,
             to: self.inner(to),

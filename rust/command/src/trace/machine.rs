@@ -25,6 +25,9 @@ pub struct Carried {
     pub rights: Rights,
 }
 
+/// How many frames and objects are added up in the time of a simple step.
+const COUNTED_IN_A_STEP: u64 = 64;
+
 /// None is blank.
 pub type Cell = Option<Held>;
 
@@ -49,6 +52,25 @@ impl<'a> Machine<'a> {
                 plain::End::Stuck => None,
             }),
             Machine::Watched(machine) => machine.step().map_err(Some),
+        }
+    }
+
+    /// How long the next step takes, a simple one being 1: the watched machine
+    /// adds up all frames and objects before it makes one more.
+    pub fn weight(&self) -> u64 {
+        let Machine::Watched(machine) = self else {
+            return 1;
+        };
+        match machine.due() {
+            Some((
+                _,
+                Operation::NewArray { .. } | Operation::NewRecord { .. } | Operation::Call { .. },
+            )) => {
+                let state = machine.state();
+                let counted = state.frames.len() + state.objects.len();
+                1 + counted as u64 / COUNTED_IN_A_STEP
+            }
+            _ => 1,
         }
     }
 
