@@ -19,7 +19,7 @@ use crate::words::words;
 use crate::Failure;
 use cause::{Cause, Reason};
 use reference::machine::Resources;
-use reference::{parse, Outcome, Place, Program, Stop};
+use reference::{parse, Outcome, Program, Stop};
 use text::field::Field;
 
 /// The most steps that are made again only to tell why: some seconds.
@@ -51,30 +51,29 @@ pub fn stopped(
         });
     };
     let program = parse(lent.sheet).map_err(|refusal| disagree(&outcome, &refusal))?;
-    let main = &program.procedures[0];
-    let units = main.variables.len() + 2;
-    if stop == Stop::MemoryFull && units > lent.memory_words {
-        let line = format!("main's frame needs {units} words before the first step");
-        return Ok(Stopped {
-            place: Some((main.place, Vec::new())),
-            reason: vec![line],
-        });
-    }
+    let procedure = &program.procedures[place.procedure];
+    let mut record = procedure.instructions[place.instruction].place;
     let reason = match stop {
         Stop::Done => Reason::default(),
         Stop::FuelSpent | Stop::InputEnded | Stop::OutputFull => lacking(lent, outcome),
+        Stop::MemoryFull if main_units(&program) > lent.memory_words => {
+            record = procedure.place;
+            let units = main_units(&program);
+            Reason::line(format!(
+                "main's frame needs {units} words before the first step"
+            ))
+        }
         _ if steps > MOST_STEPS => too_long(),
         _ => progress::shown(|| again(source, lent, watch, outcome, &program))?,
     };
-    let Place {
-        procedure,
-        instruction,
-    } = place;
-    let instruction = &program.procedures[procedure].instructions[instruction];
     Ok(Stopped {
-        place: Some((instruction.place, reason.parts)),
+        place: Some((record, reason.parts)),
         reason: reason.lines,
     })
+}
+
+fn main_units(program: &Program) -> usize {
+    program.procedures[0].variables.len() + 2
 }
 
 /// The stop as it is printed: its number, its place, and why.
@@ -145,15 +144,8 @@ fn again(
         Ok(machine) => machine,
         Err(stop) => return Err(disagree(&outcome, &before_main(stop))),
     };
-    let mut work = 0;
-    let end = loop {
-        if work > MOST_STEPS {
-            return Ok(too_long());
-        }
-        work += machine.weight();
-        if let Err(end) = machine.step() {
-            break end;
-        }
+    let Some(end) = finished(&mut machine) else {
+        return Ok(too_long());
     };
     let found = end.map(|stop| machine.outcome(stop));
     agreed(Some(outcome), found)?;
@@ -162,4 +154,17 @@ fn again(
     let cause = Cause::new(teller, &machine, lent.memory_words);
     let reason = end.zip(cause).and_then(|(stop, cause)| cause.reason(stop));
     reason.ok_or_else(|| disagree(&outcome, &"that nothing is wrong"))
+}
+
+/// Steps to the end, or None where that takes too long. The end has no stop
+/// where the machine is stuck.
+fn finished(machine: &mut Machine) -> Option<Option<Stop>> {
+    let mut work = 0;
+    while work <= MOST_STEPS {
+        work += machine.weight();
+        if let Err(end) = machine.step() {
+            return Some(end);
+        }
+    }
+    None
 }

@@ -82,28 +82,40 @@ impl Effects<'_> {
                 let word = machine.put().last().copied().unwrap_or(0);
                 format!("put {word}")
             }
+            Operation::JumpIfZero { test, target } => self.jumped(due, machine, test, target),
+            Operation::Call { procedure, .. } => self.called(due, machine, procedure),
+            Operation::Return { .. } => self.returned(due, machine),
+            Operation::NewArray { .. }
+            | Operation::NewRecord { .. }
+            | Operation::Store { .. }
+            | Operation::SetSlot { .. } => self.made_or_written(due, machine),
+        }
+    }
+
+    /// What became of an object.
+    fn made_or_written(&self, due: &Due, machine: &Machine) -> String {
+        let procedure = due.place.procedure;
+        let owner = self.program.procedures[procedure].owner.unwrap_or(0);
+        let assigned = |to| self.assigned(machine, procedure, to, &[]);
+        match due.operation {
             Operation::NewArray { to, .. } => {
                 let size = machine.object(to).map_or(0, |object| machine.size(object));
                 format!("{}, new tray of {size}", assigned(to))
             }
             Operation::NewRecord { to } => {
-                let owner = self.program.procedures[procedure].owner.unwrap_or(0);
                 let name = self.source.names.declared(owner);
                 format!("{}, new {name}", assigned(to))
             }
-            Operation::JumpIfZero { test, target } => self.jumped(due, machine, test, target),
             Operation::Store { array, index, .. } => {
                 let index = machine.integer(index).unwrap_or(0);
                 let part = format!("[{index}]");
                 self.written(due, machine, array, index as usize, &part)
             }
             Operation::SetSlot { record, slot, .. } => {
-                let owner = self.program.procedures[procedure].owner.unwrap_or(0);
                 let part = format!(".{}", self.source.names.slot(owner, slot));
                 self.written(due, machine, record, slot, &part)
             }
-            Operation::Call { procedure, .. } => self.called(due, machine, procedure),
-            Operation::Return { .. } => self.returned(due, machine),
+            _ => String::new(),
         }
     }
 
