@@ -13,6 +13,7 @@ mod progress;
 mod run;
 mod show;
 mod source;
+mod stop;
 mod trace;
 mod words;
 

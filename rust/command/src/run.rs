@@ -1,15 +1,14 @@
 //! A run: its report, then its stop.
 
 use crate::engine::{self, Lent, Refusal};
-use crate::explain::{explain, located};
+use crate::explain::explain;
 use crate::options;
 use crate::output::Output;
 use crate::progress;
 use crate::source::Source;
 use crate::trace::trace;
-use crate::words::words;
-use crate::{files, Failure, ACCEPTED, REFUSED};
-use reference::{parse, Outcome, Place, Stop};
+use crate::{files, stop, Failure, ACCEPTED, REFUSED};
+use reference::Outcome;
 use std::io::Write;
 
 pub fn run(options: &options::Run, output: &mut Output) -> Result<u8, Failure> {
@@ -43,39 +42,9 @@ pub fn run(options: &options::Run, output: &mut Output) -> Result<u8, Failure> {
             for word in &report[..words.min(report.len())] {
                 writeln!(output, "{word}")?;
             }
-            write!(output, "{}", stopped(&source, &lent, outcome))?;
+            let stopped = stop::stopped(&source, &lent, options.watch, outcome)?;
+            write!(output, "{}", stop::printed(&source, outcome, &stopped))?;
             Ok(ACCEPTED)
         }
     }
-}
-
-/// The stop in words, and its place in the text.
-fn stopped(source: &Source, lent: &Lent, outcome: Outcome) -> String {
-    let Outcome::Stopped {
-        stop,
-        steps,
-        words: put,
-        place: Place {
-            procedure,
-            instruction,
-        },
-    } = outcome
-    else {
-        return String::new();
-    };
-    let number = stop as u64;
-    let mut said = format!("stopped {number} {}\n", words(number));
-    said += &format!("steps {steps}, words put {put}\n");
-    let Ok(program) = parse(lent.sheet) else {
-        return said;
-    };
-    let main = &program.procedures[0];
-    let units = main.variables.len() + 2;
-    if stop == Stop::MemoryFull && units > lent.memory_words {
-        said += &located(source, main.place, &[]);
-        said += &format!("  main's frame needs {units} words before the first step\n");
-        return said;
-    }
-    let instruction = &program.procedures[procedure].instructions[instruction];
-    said + &located(source, instruction.place, &[])
 }
