@@ -4,6 +4,8 @@ mod input;
 mod output;
 
 use input::Input;
+use input::read_input;
+use output::write_line;
 ghost use mathlib.Core.Path.{_≡_};
 ghost use lib.ListN.{length, take};
 ghost use Rattle.io.specs.Counts.{Counts};
@@ -26,11 +28,11 @@ fn put_said(buffer: &[u8], input: Input, line: &mut [u8; 64]) -> usize
 // A byte more than the longest sheet has: what fills it is refused whatever follows.
 fn answer() {
     let mut buffer = [0u8; 32769];
-    let input = input::read_input(&mut buffer);
+    let input = read_input(&mut buffer);
     let mut line = [0u8; 64];
     let n = put_said(&buffer, input, &mut line);
     if n > 0 {
-        output::write_line(&line[..n]);
+        write_line(&line[..n]);
     } else {
         os::fail(b"wennathig-check: standard input");
     }
