@@ -23,6 +23,20 @@ fn what_is_not_printed_is_escaped() {
     }
 }
 
+/// All characters that turn the direction of others, and some that take no
+/// room.
+#[test]
+fn what_changes_the_text_beside_it_is_escaped() {
+    let turns = ['\u{61c}', '\u{200e}', '\u{200f}'].into_iter();
+    let turns = turns.chain('\u{202a}'..='\u{202e}');
+    let turns = turns.chain('\u{2066}'..='\u{2069}');
+    let small = ['\u{ad}', '\u{180e}', '\u{2060}', '\u{301}', '\u{e0001}'];
+    for character in turns.chain(small) {
+        let escaped = format!("\\u{{{:x}}}", u32::from(character));
+        assert_eq!(quoted(&format!("a{character}b")), format!("a{escaped}b"));
+    }
+}
+
 #[test]
 fn a_long_word_is_cut() {
     let word = |length: usize| "a".repeat(length);
