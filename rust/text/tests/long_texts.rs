@@ -119,9 +119,9 @@ fn lists_in_one_line() {
         1,
     );
     let same = "a,".repeat(MANY);
-    let message = "expected another right, `a` stands here twice";
+    let message = "expected another right, found `a` again";
     one_error(&format!("type t{{a}}\nqual q = t{{{same}a}}"), message, 2);
-    let message = "expected another right, `size` stands here twice";
+    let message = "expected another right, found `size` again";
     let sizes = "size,".repeat(MANY);
     one_error(
         &format!("qual q = tray[integer]{{{sizes}size}}"),

@@ -60,7 +60,7 @@ fn a_long_word_is_cut() {
     );
     assert_eq!(
         message(&format!("procedure {long}\nprocedure {long}")),
-        format!("expected a new name, `{cut}` is declared in line 1")
+        format!("expected a new name, found `{cut}`, which is declared in line 1")
     );
     let rights: Vec<String> = (0..15).map(|number| format!("{long}{number}")).collect();
     let text = format!(
@@ -130,6 +130,7 @@ fn every_message_is_short_and_printed() {
             assert!(!message.contains(['\u{202e}', '\u{feff}']), "{message:?}");
             assert!(!message.chars().any(char::is_control), "{message:?}");
             assert!(message.starts_with("expected "), "{message}");
+            assert!(message.contains(", found "), "{message}");
         }
     }
 }
