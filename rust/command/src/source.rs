@@ -47,9 +47,12 @@ pub fn assembled(path: &OsStr) -> Result<Assembled, Failure> {
 }
 
 fn named_assemble(name: &str, text: &str) -> Result<Assembled, Failure> {
-    assemble(text).map_err(|error| {
-        let shown = crate::show::line(text, error.span.line, &[error.span]);
-        Failure::Misuse(format!("{name}:{error}\n{shown}"))
+    assemble(text).map_err(|errors| {
+        let shown = errors.iter().map(|error| {
+            let shown = crate::show::line(text, error.span.line, &[error.span]);
+            format!("{name}:{error}\n{shown}")
+        });
+        Failure::Misuse(shown.collect::<Vec<String>>().join("\n"))
     })
 }
 

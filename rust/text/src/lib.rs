@@ -2,11 +2,13 @@
 //! grammar.
 //!
 //! [`assemble`] makes the bytes of a text and a [`Listing`], which tells the
-//! line and the columns of every record. [`disassemble`] makes a text of any
-//! bytes, which assembles to the same bytes again.
+//! line and the columns of every record, or tells all errors of the text.
+//! [`disassemble`] makes a text of any bytes, which assembles to the same
+//! bytes again. Both take time in proportion to what they are given.
 
 mod assemble;
 mod disassemble;
+mod errors;
 pub mod field;
 mod grammar;
 mod lexer;
@@ -15,18 +17,23 @@ mod mnemonic;
 mod names;
 mod notation;
 mod outline;
+mod outlines;
 mod procedure;
 mod qualified;
+mod quote;
 mod raw;
+mod raw_text;
 mod record;
 mod span;
 mod syntax;
 
 pub use assemble::{assemble, Assembled};
 pub use disassemble::disassemble;
+pub use errors::MAX_ERRORS;
 pub use listing::{At, Entry, Listing};
 pub use mnemonic::{Mnemonic, Piece, MNEMONICS};
 pub use names::Names;
 pub use notation::Notation;
+pub use quote::quoted;
 pub use record::{Record, RecordKind};
 pub use span::{Error, Span};

@@ -1,11 +1,11 @@
 //! What does not assemble: the line, the column and what was expected there.
 
-use text::assemble;
+use text::{assemble, Error};
 
 /// A text, and the line, the column and a part of the message.
 const BAD: &[(&str, usize, usize, &str)] = &[
-    ("$", 1, 1, "expected a name, a number or a mark, found '$'"),
-    ("procedure main\nreturn\nbéf", 3, 2, "expected a name, a number or a mark, found 'é'"),
+    ("$", 1, 1, "expected a name, a number or a mark, found `$`"),
+    ("procedure main\nreturn\nbéf", 3, 2, "expected a name, a number or a mark, found `é`"),
     ("hello", 1, 1, "expected type, qual, procedure"),
     ("{", 1, 1, "found `{`"),
     ("12 set", 1, 1, "found `12`"),
@@ -13,33 +13,40 @@ const BAD: &[(&str, usize, usize, &str)] = &[
     ("loop: return", 1, 1, "expected a `procedure` line before"),
     ("type", 1, 5, "expected the name of a type, found the end of the line"),
     ("type 7", 1, 6, "expected the name of a type, found `7`"),
-    ("type integer", 1, 6, "`integer` has a meaning already"),
-    ("type call\ntype call", 2, 6, "`call` is declared in line 1"),
-    ("type call\nqual call = integer", 2, 6, "`call` is declared in line 1"),
+    ("type integer", 1, 6, "found `integer`, which has a meaning already"),
+    ("type call\ntype call", 2, 6, "found `call`, which is declared in line 1"),
+    ("type call\nqual call = integer", 2, 6, "found `call`, which is declared in line 1"),
     ("type call{read", 1, 15, "expected `}`"),
     ("type call{read,}", 1, 16, "expected a right, found `}`"),
-    ("type call{read,read}", 1, 16, "`read` is declared in line 1"),
-    ("type call{open}", 1, 11, "`open` is a right of every type"),
+    ("type call{read,read}", 1, 16, "found `read`, which is declared in line 1"),
+    ("type call{open}", 1, 11, "found `open`, a right of every type"),
     ("type t{a,b,c,d,e,f,g,h,i,j,k,l,m,n,o,p}", 1, 38, "expected at most 15 named rights"),
     ("type call (time integer)", 1, 17, "expected `:`, found `integer`"),
-    ("type call (time: integer, time: integer)", 1, 27, "`time` is declared"),
+    ("type call (time: integer, time: integer)", 1, 27, "found `time`, which is declared"),
     ("type call (time: horse{})", 1, 18, "expected a declared type, found `horse`"),
     ("type call (time: call)", 1, 18, "expected `{` and rights after the type `call`"),
     ("type c (a: integer, b: integer, c: integer, d: integer, e: integer, f: integer, g: integer, h: integer, i: integer)", 1, 105, "expected at most 8 slots"),
     ("type call{read}\nqual q = call{amend}", 2, 15, "expected a right of `call` (open, read), found `amend`"),
-    ("type call{read}\nqual q = call{read,read}", 2, 20, "expected another right, `read` stands here twice"),
+    ("type call{read}\nqual q = call{read,read}", 2, 20, "expected another right, found `read` again"),
     ("qual q = tray[integer]{peek}", 1, 24, "expected a right of a tray (fetch, store, size), found `peek`"),
     ("qual q = tray(integer)", 1, 14, "expected `[`, found `(`"),
     ("qual q = tray[integer]", 1, 23, "expected `{`, found the end of the line"),
-    ("qual q = tray[r]{}\nqual r = integer", 1, 15, "expected a qualified type that is declared above, found `r`"),
+    ("qual q = tray[r]{}\nqual r = integer", 1, 15, "expected a qualified type that is declared above, found `r`, which is declared below, in line 2"),
+    ("qual q = tray[q]{}", 1, 15, "expected a qualified type that is declared above, found `q`, which this line declares"),
+    ("qual q = tray[r]{}", 1, 15, "expected a qualified type that is declared above, found `r`"),
+    ("type t (s: r)", 1, 12, "expected a qualified type, found `r`"),
+    ("procedure main gives r", 1, 22, "expected a qualified type, found `r`"),
+    ("procedure main\n  variable i: r", 2, 15, "expected a qualified type, found `r`"),
+    ("qual q = integer\nqual r = q{}", 2, 10, "expected a declared type, found `q`, a qualified type"),
+    ("qual q = integer\nprocedure main of q", 2, 19, "expected a declared type, found `q`, a qualified type"),
     ("qual q integer", 1, 8, "expected `=`, found `integer`"),
     ("qual q = integer{}", 1, 17, "expected the end of the line, found `{`"),
-    ("procedure main\nprocedure main", 2, 11, "`main` is declared in line 1"),
+    ("procedure main\nprocedure main", 2, 11, "found `main`, which is declared in line 1"),
     ("procedure main of call", 1, 19, "expected a declared type, found `call`"),
     ("procedure main gives", 1, 21, "expected a qualified type, found the end of the line"),
     ("procedure main\n  variable i: integer\n  formal j: integer", 3, 3, "expected formals before all other variables"),
     ("procedure main\n  return\n  variable i: integer", 3, 3, "expected variables before the instructions"),
-    ("procedure main\n  variable i, i: integer", 2, 15, "`i` is declared in line 2"),
+    ("procedure main\n  variable i, i: integer", 2, 15, "found `i`, which is declared in line 2"),
     ("procedure main\n  variable i integer", 2, 14, "expected `:`, found `integer`"),
     ("procedure main\n  set i := 1", 2, 7, "expected a variable of `main`, found `i`"),
     ("procedure main\n  variable i: integer\n  set i = 1", 3, 9, "expected `:=`, found `=`"),
@@ -49,15 +56,17 @@ const BAD: &[(&str, usize, usize, &str)] = &[
     ("procedure main\n  variable i: integer\n  put i i", 3, 9, "expected the end of the line, found `i`"),
     ("procedure main\n  variable i: integer\n  jumpzero i, on", 3, 15, "expected a label of `main`, found `on`"),
     ("procedure main\n  variable i: integer\n  jumpzero i on", 3, 14, "expected `,`, found `on`"),
-    ("procedure main\non:\n  return\non: return", 4, 1, "`on` is declared in line 2"),
+    ("procedure main\non:\n  return\non: return", 4, 1, "found `on`, which is declared in line 2"),
     ("procedure main\n  return\non:  # the end", 3, 1, "expected an instruction after the label `on`"),
     ("procedure main\n  call sum()", 2, 8, "expected a procedure, found `sum`"),
     ("procedure main\n  call main(", 2, 13, "expected a variable, found the end of the line"),
     ("procedure main\n  variable a, b: integer\n  call p(a)\nprocedure p\n  formal x, y: integer", 3, 8, "expected 2 actuals for `p`, found 1"),
-    ("procedure main\n  variable a, b: integer\n  call p(b, a)\nprocedure p\n  formal x, y: integer", 3, 13, "expected `no other`, the variable after the last actual, found `a`"),
-    ("procedure main\n  variable a, b, c: integer\n  call p(a, c)\nprocedure p\n  formal x, y: integer", 3, 13, "expected `b`, the variable after the last actual, found `c`"),
-    ("procedure main\n  variable a: integer\n  getslot a <- a.time", 3, 18, "`main` is of none"),
+    ("procedure main\n  variable a, b: integer\n  call p(b, a)\nprocedure p\n  formal x, y: integer", 3, 13, "expected none after `b`, the last variable, found `a`"),
+    ("procedure main\n  variable a, b, c: integer\n  call p(a, c)\nprocedure p\n  formal x, y: integer", 3, 13, "expected `b`, the variable after `a`, found `c`"),
+    ("procedure main\n  variable a: integer\n  getslot a <- a.time", 3, 18, "found `main`, which is of none"),
     ("type t{} (s: integer)\nprocedure main of t\n  variable a: integer\n  setslot a.time <- a", 4, 13, "expected a slot of `t` (s), found `time`"),
+    ("type t\nprocedure main of t\n  variable a: integer\n  setslot a.time <- a", 4, 13, "expected a slot of `t` (it has none), found `time`"),
+    ("procedure main\n  variable a: integer\n  call p()\nprocedure p\n  formal x: integer", 3, 8, "expected 1 actual for `p`, found 0"),
     ("raw\nXX 1 2", 2, 1, "expected HD, TY, QT, PR, VR, IN or `bytes`, found `XX`"),
     ("raw\nHD 1 0 0", 2, 9, "expected a number from 0 to 255, found the end of the line"),
     ("raw\nHD 1 0 0 256", 2, 10, "expected a number from 0 to 255, found `256`"),
@@ -66,30 +75,43 @@ const BAD: &[(&str, usize, usize, &str)] = &[
     ("raw\nbytes GG", 2, 7, "expected a byte as two hexadecimal digits"),
 ];
 
+/// The error of a text that has one.
+fn only_error(text: &str) -> Error {
+    let errors = assemble(text).err().unwrap_or_default();
+    let [error] = errors.as_slice() else {
+        panic!("expected one error of {text:?}, found {errors:?}");
+    };
+    error.clone()
+}
+
 #[test]
 fn errors_name_line_and_column_and_what_was_expected() {
     for &(text, line, column, expected) in BAD {
-        let Err(error) = assemble(text) else {
-            panic!("assembles: {text:?}");
-        };
+        let error = only_error(text);
         let found = (error.span.line, error.span.start);
         assert_eq!(found, (line, column), "{text:?}: {error}");
         let message = &error.message;
         assert!(message.contains(expected), "{text:?}: {error}");
         assert!(message.starts_with("expected "), "{text:?}: {error}");
+        assert!(message.contains(", found "), "{text:?}: {error}");
     }
 }
 
+/// Every tray in another is a qualified type of its own, and the base is one.
 #[test]
-fn trays_deeper_than_any_sheet_has_are_an_error() {
+fn trays_in_one_another_are_as_many_as_qualified_types() {
     let deep = |depth: usize| {
         let (before, after) = ("tray[".repeat(depth), "]{}".repeat(depth));
-        assemble(&format!("qual q = {before}integer{after}"))
+        format!("qual q = {before}integer{after}")
     };
-    assert!(deep(63).is_ok());
-    for depth in [64, 65, 10_000] {
-        let error = deep(depth).err().expect("too deep");
-        assert!(error.message.contains("64 trays"), "{error}");
+    for depth in [1, 64, 254] {
+        let assembled = assemble(&deep(depth)).unwrap_or_else(|errors| panic!("{errors:?}"));
+        assert_eq!(assembled.sheet.len(), 6 + 6 * (depth + 1));
+    }
+    for depth in [255, 10_000, 200_000] {
+        let error = only_error(&deep(depth));
+        let expected = "expected at most 255 qualified types, found one more";
+        assert_eq!(error.message, expected);
     }
 }
 
