@@ -1,0 +1,148 @@
+//! One round: an input by chance, and the properties that must hold of it.
+
+use crate::corpus::Corpus;
+use crate::counts::{Counts, Event, Kind};
+use crate::failure::Failure;
+use crate::lent::lent;
+use crate::process::{self, Attempt};
+use crate::properties::program::{made, Tried};
+use crate::properties::text::Text;
+use crate::properties::{held, Broken, OF_FILES, OF_SHEETS, OF_TEXTS};
+use crate::scratch::Scratch;
+use crate::{change_bytes, change_text};
+use generator::Random;
+use std::path::PathBuf;
+
+/// A long run of records takes a second: one in so many rounds has one.
+const LONG_RUNS: u64 = 32_768;
+
+/// What the rounds of a worker share.
+pub struct Worker {
+    corpus: Corpus,
+    program: PathBuf,
+    scratch: Scratch,
+}
+
+/// The input of a round, as a file.
+pub struct Input {
+    pub bytes: Vec<u8>,
+    pub is_text: bool,
+}
+
+impl Worker {
+    /// # Panics
+    /// If a file is missing that the rounds need.
+    pub fn start() -> Self {
+        Worker {
+            corpus: Corpus::read(),
+            program: process::beside(),
+            scratch: Scratch::new(),
+        }
+    }
+
+    /// Tries a round, and counts what has come up.
+    pub fn try_round(&self, seed: u64, round: u64, counts: &mut Counts) -> Result<(), Failure> {
+        self.scratch.begin(seed, round);
+        let first = Random::new(seed).word();
+        let mut random = Random::new(first.wrapping_add(round));
+        let is_long = round % LONG_RUNS == LONG_RUNS - 1;
+        let kind = match random.below(32) {
+            _ if is_long => Kind::Program,
+            0 => Kind::Program,
+            1..=15 => Kind::Text,
+            _ => Kind::Bytes,
+        };
+        counts.add(Event::Round(kind));
+        let (input, outcome) = match kind {
+            Kind::Text => self.text_round(&mut random, counts),
+            Kind::Bytes => self.bytes_round(&mut random, counts),
+            Kind::Program if is_long => {
+                let bytes = change_bytes::long_run(&mut random);
+                let is_text = false;
+                self.program_round(&mut random, Input { bytes, is_text }, counts)
+            }
+            Kind::Program => {
+                let input = self.file(&mut random);
+                self.program_round(&mut random, input, counts)
+            }
+        };
+        outcome.map_err(|(property, fault)| Failure {
+            seed,
+            round,
+            property,
+            fault,
+            input,
+        })
+    }
+
+    fn text_round(&self, random: &mut Random, counts: &mut Counts) -> (Input, Result<(), Broken>) {
+        let text = self.corpus.changed_text(random);
+        let bytes = text.clone().into_bytes();
+        let outcome = held(&OF_TEXTS, &Text::new(text), counts);
+        let is_text = true;
+        (Input { bytes, is_text }, outcome)
+    }
+
+    fn bytes_round(&self, random: &mut Random, counts: &mut Counts) -> (Input, Result<(), Broken>) {
+        let bytes = self.changed_sheet(random);
+        let outcome = held(&OF_SHEETS, &lent(random, bytes.clone()), counts);
+        let is_text = false;
+        (Input { bytes, is_text }, outcome)
+    }
+
+    fn program_round(
+        &self,
+        random: &mut Random,
+        input: Input,
+        counts: &mut Counts,
+    ) -> (Input, Result<(), Broken>) {
+        let Input { bytes, is_text } = input;
+        let sheet = match is_text {
+            true => made(&bytes),
+            false => Some(bytes.clone()),
+        };
+        let attempt = Attempt {
+            lent: lent(random, sheet.clone().unwrap_or_default()),
+            watched: random.one_in(2),
+            bytes,
+            is_text,
+        };
+        let said = process::attempt(&self.program, &self.scratch, &attempt);
+        let tried = Tried {
+            attempt,
+            sheet,
+            said,
+        };
+        let outcome = held(&OF_FILES, &tried, counts);
+        let bytes = tried.attempt.bytes;
+        (Input { bytes, is_text }, outcome)
+    }
+
+    /// Mostly a sheet that is changed, sometimes one that is not, so that all
+    /// of its run is seen.
+    fn changed_sheet(&self, random: &mut Random) -> Vec<u8> {
+        let sheet = self.corpus.sheet(random);
+        match random.one_in(4) {
+            true => sheet,
+            false => {
+                let other = self.corpus.sheet(random);
+                change_bytes::changed(random, sheet, &other)
+            }
+        }
+    }
+
+    /// A file for the program: a sheet, a text, or bytes under the name of a
+    /// text.
+    fn file(&self, random: &mut Random) -> Input {
+        let is_text = random.one_in(2);
+        let bytes = match (is_text, random.below(8)) {
+            (false, _) | (true, 0) => self.changed_sheet(random),
+            (true, 1..=2) => self.corpus.text(random).into_bytes(),
+            (true, _) => {
+                let text = self.corpus.changed_text(random);
+                change_text::changed(random, text, "").into_bytes()
+            }
+        };
+        Input { bytes, is_text }
+    }
+}
