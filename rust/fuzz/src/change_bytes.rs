@@ -8,8 +8,8 @@ use std::ops::Range;
 /// Changes a sheet, with another one at hand.
 type Change = fn(&mut Random, &mut Vec<u8>, &[u8]);
 
-/// Those that leave much of the sheet stand first, and are made more often.
-const CHANGES: [Change; 12] = [
+/// They leave much of the sheet, and are made most often.
+const SMALL: [Change; 7] = [
     |random, sheet, _| set_field(random, sheet),
     |random, sheet, _| set_field(random, sheet),
     |random, sheet, _| flip_bit(random, sheet),
@@ -17,27 +17,25 @@ const CHANGES: [Change; 12] = [
     remove_record,
     |random, sheet, _| exchange_records(random, sheet),
     take_record,
-    splice,
-    cut,
-    write_random,
-    run_of_records,
-    near_the_limit,
 ];
+const BROAD: [Change; 3] = [splice, cut, write_random];
+/// They make much work, and are made seldom.
+const LARGE: [Change; 2] = [run_of_records, near_the_limit];
 
 /// The sheet with one or more changes.
 pub fn changed(random: &mut Random, mut sheet: Vec<u8>, other: &[u8]) -> Vec<u8> {
     loop {
-        let first = random.below(CHANGES.len());
-        let number = match random.below(2) {
-            0 => first % 7,
-            _ => first,
+        let changes = match random.below(64) {
+            0 => &LARGE[..],
+            1..=9 => &BROAD,
+            _ => &SMALL,
         };
-        CHANGES[number](random, &mut sheet, other);
+        changes[random.below(changes.len())](random, &mut sheet, other);
         if random.one_in(2) {
             break;
         }
     }
-    if random.one_in(2) {
+    if !random.one_in(4) {
         recount(&mut sheet);
     }
     sheet
@@ -101,9 +99,9 @@ fn flip_bit(random: &mut Random, sheet: &mut [u8]) {
 fn repeat_record(random: &mut Random, sheet: &mut Vec<u8>, _: &[u8]) {
     let record = some_record(random, sheet);
     let again = sheet[record.clone()].to_vec();
-    let place = match random.one_in(2) {
-        true => record.end,
-        false => some_record(random, sheet).end,
+    let place = match random.one_in(4) {
+        true => some_record(random, sheet).end,
+        false => record.end,
     };
     sheet.splice(place..place, again);
 }
@@ -122,9 +120,16 @@ fn exchange_records(random: &mut Random, sheet: &mut [u8]) {
     }
 }
 
-/// A record of the other sheet, in the place of one or before it.
+/// A record of the other sheet, in the place of one or before it; mostly of
+/// the same kind.
 fn take_record(random: &mut Random, sheet: &mut Vec<u8>, other: &[u8]) {
-    let (mut to, from) = (some_record(random, sheet), some_record(random, other));
+    let mut to = some_record(random, sheet);
+    let mark = sheet.get(to.start..to.start + 2);
+    let tries = [(); 8].map(|()| some_record(random, other));
+    let alike = tries
+        .iter()
+        .find(|from| other.get(from.start..from.start + 2) == mark);
+    let from = alike.unwrap_or(&tries[0]).clone();
     if random.one_in(2) {
         to.end = to.start;
     }

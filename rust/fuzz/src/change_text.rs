@@ -9,8 +9,8 @@ type Change = fn(&mut Random, &str, &str) -> String;
 /// The most bytes that a text grows to.
 const MOST: usize = 300_000;
 
-/// Those that leave much of the text stand first, and are made more often.
-const CHANGES: [Change; 16] = [
+/// They leave much of the text, and are made most often.
+const SMALL: [Change; 9] = [
     replace_token,
     exchange_tokens,
     remove_token,
@@ -20,24 +20,20 @@ const CHANGES: [Change; 16] = [
     repeat_line,
     take_line,
     insert_character,
-    remove_characters,
-    splice,
-    cut,
-    line_ends,
-    nest_trays,
-    long_line,
-    many_lines,
 ];
+const BROAD: [Change; 4] = [remove_characters, splice, cut, line_ends];
+/// They make much work, and are made seldom.
+const LARGE: [Change; 3] = [nest_trays, long_line, many_lines];
 
 /// The text with one or more changes.
 pub fn changed(random: &mut Random, mut text: String, other: &str) -> String {
     loop {
-        let first = random.below(CHANGES.len());
-        let number = match random.below(2) {
-            0 => first % 8,
-            _ => first,
+        let changes = match random.below(64) {
+            0..=1 => &LARGE[..],
+            2..=13 => &BROAD,
+            _ => &SMALL,
         };
-        text = CHANGES[number](random, &text, other);
+        text = changes[random.below(changes.len())](random, &text, other);
         if text.len() > MOST {
             let end = (0..=MOST).rev().find(|&end| text.is_char_boundary(end));
             text.truncate(end.unwrap_or(0));

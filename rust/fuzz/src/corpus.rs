@@ -63,19 +63,19 @@ impl Corpus {
     }
 
     fn generated(&self, random: &mut Random) -> Vec<u8> {
-        match random.below(64) {
+        match random.below(128) {
             0 => large_sheet(random),
-            1..=4 => self.cases[random.below(self.cases.len())].clone(),
-            5..=9 => wellformed(random).encode(),
-            10..=14 => {
+            1..=8 => self.cases[random.below(self.cases.len())].clone(),
+            9..=20 => wellformed(random).encode(),
+            21..=32 => {
                 let flaw = self.flaws[random.below(self.flaws.len())];
                 flaw.build(random).broken.encode()
             }
-            15..=19 => {
+            33..=42 => {
                 let sound = wellformed(random);
                 damaged(random, &sound)
             }
-            20..=21 => random_bytes(random),
+            43..=46 => random_bytes(random),
             number => FAMILIES[number % FAMILIES.len()]
                 .sheet(random.word())
                 .encode(),

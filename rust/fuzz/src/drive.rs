@@ -49,9 +49,8 @@ pub fn drive(seed: u64, rounds: u64) -> Found {
         let worker = Worker::start();
         let mut found = Found::default();
         for round in part {
-            if let Err(failure) = worker.try_round(seed, round, &mut found.counts) {
-                found.add(failure);
-            }
+            let failures = worker.try_round(seed, round, &mut found.counts);
+            failures.into_iter().for_each(|failure| found.add(failure));
             progress.step();
         }
         found

@@ -35,6 +35,6 @@ impl fmt::Display for Failure {
         let fault: String = self.fault.chars().take(MOST).collect();
         writeln!(out, "FAILED: {}", self.property)?;
         writeln!(out, "  {}", fault.trim_end())?;
-        write!(out, "  again: fuzz --seed {seed} --round {round}")
+        write!(out, "  again: make fuzz SEED={seed} ROUND={round}")
     }
 }

@@ -11,9 +11,9 @@ pub fn lent(random: &mut Random, sheet: Vec<u8>) -> Run {
         1..=4 => random.below(20),
         _ => random.below(500),
     };
-    let memory_words = match random.below(128) {
+    let memory_words = match random.below(48) {
         0 => MAX_MEMORY + random.below(2),
-        1..=24 => random.below(40),
+        1..=9 => random.below(40),
         _ => 300 + random.below(300),
     };
     Run {

@@ -29,13 +29,11 @@ fn main() -> ExitCode {
 /// Tries one round, and says whether everything holds.
 fn again(seed: u64, round: u64) -> bool {
     let mut counts = Counts::default();
-    let outcome = Worker::start().try_round(seed, round, &mut counts);
+    let failures = Worker::start().try_round(seed, round, &mut counts);
     print!("{counts}");
-    match outcome {
-        Ok(()) => println!("all properties hold"),
-        Err(ref failure) => show(failure),
-    }
-    outcome.is_ok()
+    failures.iter().for_each(show);
+    println!("{} properties do not hold", failures.len());
+    failures.is_empty()
 }
 
 /// Tries all rounds, and says whether everything holds.
@@ -46,8 +44,8 @@ fn all(options: &Options) -> bool {
         println!("{count} rounds in which this does not hold: {property}\n");
     }
     print!("{counts}");
-    let failed: u64 = failures.values().map(|(count, _)| count).sum();
-    println!("{} rounds, {failed} failed", options.rounds);
+    let (rounds, failed) = (options.rounds, failures.len());
+    println!("{rounds} rounds, {failed} properties do not hold");
     failures.is_empty()
 }
 

@@ -23,12 +23,30 @@ pub fn beside() -> PathBuf {
 
 /// A file that is tried, and how it is run.
 pub struct Attempt {
+    /// The file's name without its ending.
+    pub name: &'static str,
     pub bytes: Vec<u8>,
     /// Whether its name says that it is a text.
     pub is_text: bool,
     /// The sheet in it is that of the file.
     pub lent: Run,
+    /// A file of reads other than those lent.
+    pub odd_reads: Option<Vec<u8>>,
     pub watched: bool,
+}
+
+impl Attempt {
+    fn file_name(&self) -> String {
+        let ending = if self.is_text { "ws" } else { "sheet" };
+        format!("{}.{ending}", self.name)
+    }
+
+    /// The file of reads.
+    fn reads(&self) -> Vec<u8> {
+        let words = self.lent.input.iter().map(|word| format!("{word}\n"));
+        let odd = self.odd_reads.clone();
+        odd.unwrap_or_else(|| words.collect::<String>().into_bytes())
+    }
 }
 
 /// What the tasks have said and written.
@@ -50,7 +68,7 @@ pub struct Said {
 /// If the program does not start.
 pub fn attempt(program: &Path, scratch: &Scratch, attempt: &Attempt) -> Said {
     let path = |name: &str| scratch.path(name);
-    let input = path(if attempt.is_text { "in.ws" } else { "in.sheet" });
+    let input = path(&attempt.file_name());
     let (reads, dis) = (path("reads"), path("dis.ws"));
     let (assembled, came_back) = (path("out.sheet"), path("back.sheet"));
     for old in [&assembled, &came_back, &dis] {
@@ -58,8 +76,7 @@ pub fn attempt(program: &Path, scratch: &Scratch, attempt: &Attempt) -> Said {
         let _ = fs::remove_file(old);
     }
     write(&input, &attempt.bytes);
-    let words = attempt.lent.input.iter().map(|word| format!("{word}\n"));
-    write(&reads, words.collect::<String>().as_bytes());
+    write(&reads, &attempt.reads());
     let form = if attempt.is_text { "--text" } else { "--bytes" };
     let numbers = run_options(attempt);
     let mut run: Vec<&OsStr> = ["run", form, "--trace", "--reads"].map(OsStr::new).to_vec();

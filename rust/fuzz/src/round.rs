@@ -7,7 +7,7 @@ use crate::lent::lent;
 use crate::process::{self, Attempt};
 use crate::properties::program::{made, Tried};
 use crate::properties::text::Text;
-use crate::properties::{held, Broken, OF_FILES, OF_SHEETS, OF_TEXTS};
+use crate::properties::{self, Broken, OF_FILES, OF_SHEETS, OF_TEXTS};
 use crate::scratch::Scratch;
 use crate::{change_bytes, change_text};
 use generator::Random;
@@ -15,6 +15,9 @@ use std::path::PathBuf;
 
 /// A long run of records takes a second: one in so many rounds has one.
 const LONG_RUNS: u64 = 32_768;
+
+/// Names of files; the last is the usual one.
+const NAMES: [&str; 4] = ["red\u{1b}[31m\u{7}", "two\nlines", "字 é", "in"];
 
 /// What the rounds of a worker share.
 pub struct Worker {
@@ -24,6 +27,7 @@ pub struct Worker {
 }
 
 /// The input of a round, as a file.
+#[derive(Clone)]
 pub struct Input {
     pub bytes: Vec<u8>,
     pub is_text: bool,
@@ -40,8 +44,8 @@ impl Worker {
         }
     }
 
-    /// Tries a round, and counts what has come up.
-    pub fn try_round(&self, seed: u64, round: u64, counts: &mut Counts) -> Result<(), Failure> {
+    /// Tries a round, counts what has come up, and gives what does not hold.
+    pub fn try_round(&self, seed: u64, round: u64, counts: &mut Counts) -> Vec<Failure> {
         self.scratch.begin(seed, round);
         let first = Random::new(seed).word();
         let mut random = Random::new(first.wrapping_add(round));
@@ -53,7 +57,7 @@ impl Worker {
             _ => Kind::Bytes,
         };
         counts.add(Event::Round(kind));
-        let (input, outcome) = match kind {
+        let (input, broken) = match kind {
             Kind::Text => self.text_round(&mut random, counts),
             Kind::Bytes => self.bytes_round(&mut random, counts),
             Kind::Program if is_long => {
@@ -66,28 +70,29 @@ impl Worker {
                 self.program_round(&mut random, input, counts)
             }
         };
-        outcome.map_err(|(property, fault)| Failure {
+        let failure = |(property, fault)| Failure {
             seed,
             round,
             property,
             fault,
-            input,
-        })
+            input: input.clone(),
+        };
+        broken.into_iter().map(failure).collect()
     }
 
-    fn text_round(&self, random: &mut Random, counts: &mut Counts) -> (Input, Result<(), Broken>) {
+    fn text_round(&self, random: &mut Random, counts: &mut Counts) -> (Input, Vec<Broken>) {
         let text = self.corpus.changed_text(random);
         let bytes = text.clone().into_bytes();
-        let outcome = held(&OF_TEXTS, &Text::new(text), counts);
+        let broken = properties::broken(&OF_TEXTS, &Text::new(text), counts);
         let is_text = true;
-        (Input { bytes, is_text }, outcome)
+        (Input { bytes, is_text }, broken)
     }
 
-    fn bytes_round(&self, random: &mut Random, counts: &mut Counts) -> (Input, Result<(), Broken>) {
+    fn bytes_round(&self, random: &mut Random, counts: &mut Counts) -> (Input, Vec<Broken>) {
         let bytes = self.changed_sheet(random);
-        let outcome = held(&OF_SHEETS, &lent(random, bytes.clone()), counts);
+        let broken = properties::broken(&OF_SHEETS, &lent(random, bytes.clone()), counts);
         let is_text = false;
-        (Input { bytes, is_text }, outcome)
+        (Input { bytes, is_text }, broken)
     }
 
     fn program_round(
@@ -95,14 +100,16 @@ impl Worker {
         random: &mut Random,
         input: Input,
         counts: &mut Counts,
-    ) -> (Input, Result<(), Broken>) {
+    ) -> (Input, Vec<Broken>) {
         let Input { bytes, is_text } = input;
         let sheet = match is_text {
             true => made(&bytes),
             false => Some(bytes.clone()),
         };
         let attempt = Attempt {
+            name: NAMES[random.below(8).min(NAMES.len() - 1)],
             lent: lent(random, sheet.clone().unwrap_or_default()),
+            odd_reads: random.one_in(16).then(|| odd_reads(random)),
             watched: random.one_in(2),
             bytes,
             is_text,
@@ -113,9 +120,9 @@ impl Worker {
             sheet,
             said,
         };
-        let outcome = held(&OF_FILES, &tried, counts);
+        let broken = properties::broken(&OF_FILES, &tried, counts);
         let bytes = tried.attempt.bytes;
-        (Input { bytes, is_text }, outcome)
+        (Input { bytes, is_text }, broken)
     }
 
     /// Mostly a sheet that is changed, sometimes one that is not, so that all
@@ -145,4 +152,10 @@ impl Worker {
         };
         Input { bytes, is_text }
     }
+}
+
+/// A list of numbers that is changed like a text.
+fn odd_reads(random: &mut Random) -> Vec<u8> {
+    let numbers = String::from("3\n14 # pi\n4294967295\n\n0\n");
+    change_text::changed(random, numbers, "4294967296\n-1\n+1\n1 2\n").into_bytes()
 }

@@ -92,12 +92,13 @@ pub const OF_FILES: [Property<Tried>; 6] = [
 /// The name of a property that does not hold, and what was found.
 pub type Broken = (&'static str, String);
 
-/// Whether all of the properties hold of a case; a panic holds nothing.
-pub fn held<Case>(
+/// The properties that do not hold of a case; a panic holds nothing.
+pub fn broken<Case>(
     properties: &[Property<Case>],
     case: &Case,
     counts: &mut Counts,
-) -> Result<(), Broken> {
+) -> Vec<Broken> {
+    let mut all = Vec::new();
     for property in properties {
         let holds = AssertUnwindSafe(|| (property.holds)(case, counts));
         let outcome = catch_unwind(holds).unwrap_or_else(|cause| {
@@ -105,7 +106,7 @@ pub fn held<Case>(
             let said = said.or_else(|| cause.downcast_ref::<&str>().copied());
             Err(format!("panicked: {}", said.unwrap_or_default()))
         });
-        outcome.map_err(|fault| (property.name, fault))?;
+        all.extend(outcome.err().map(|fault| (property.name, fault)));
     }
-    Ok(())
+    all
 }

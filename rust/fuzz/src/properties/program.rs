@@ -103,6 +103,9 @@ pub fn check_prints_the_verdict(tried: &Tried, _: &mut Counts) -> Result<(), Str
 }
 
 pub fn run_prints_the_stop(tried: &Tried, _: &mut Counts) -> Result<(), String> {
+    if tried.attempt.odd_reads.is_some() {
+        return Ok(());
+    }
     let outcome = tried.sheet.as_ref().map(|_| {
         let lent = &tried.attempt.lent;
         let (outcome, _) = match tried.attempt.watched {
