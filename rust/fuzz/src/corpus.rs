@@ -1,6 +1,6 @@
 //! The texts and the sheets that are changed.
 
-use crate::change_text;
+use crate::{change_bytes, change_text};
 use generator::breach::Flaw;
 use generator::damage::{damaged, random_bytes};
 use generator::handwritten::cases;
@@ -55,10 +55,23 @@ impl Corpus {
     }
 
     /// A sheet of any kind: accepted, well-formed, or damaged.
-    pub fn sheet(&self, random: &mut Random) -> Vec<u8> {
+    fn sheet(&self, random: &mut Random) -> Vec<u8> {
         match random.below(8) {
             0 => self.of_text(random),
             _ => self.generated(random),
+        }
+    }
+
+    /// Mostly a sheet that is changed, sometimes one that is not, so that all
+    /// of its run is seen.
+    pub fn changed_sheet(&self, random: &mut Random) -> Vec<u8> {
+        let sheet = self.sheet(random);
+        match random.one_in(4) {
+            true => sheet,
+            false => {
+                let other = self.sheet(random);
+                change_bytes::changed(random, sheet, &other)
+            }
         }
     }
 

@@ -27,7 +27,7 @@ pub struct Worker {
 }
 
 /// The input of a round, as a file.
-#[derive(Clone)]
+#[derive(Clone, Default)]
 pub struct Input {
     pub bytes: Vec<u8>,
     pub is_text: bool,
@@ -47,29 +47,10 @@ impl Worker {
     /// Tries a round, counts what has come up, and gives what does not hold.
     pub fn try_round(&self, seed: u64, round: u64, counts: &mut Counts) -> Vec<Failure> {
         self.scratch.begin(seed, round);
-        let first = Random::new(seed).word();
-        let mut random = Random::new(first.wrapping_add(round));
-        let is_long = round % LONG_RUNS == LONG_RUNS - 1;
-        let kind = match random.below(32) {
-            _ if is_long => Kind::Program,
-            0 => Kind::Program,
-            1..=15 => Kind::Text,
-            _ => Kind::Bytes,
-        };
-        counts.add(Event::Round(kind));
-        let (input, broken) = match kind {
-            Kind::Text => self.text_round(&mut random, counts),
-            Kind::Bytes => self.bytes_round(&mut random, counts),
-            Kind::Program if is_long => {
-                let bytes = change_bytes::long_run(&mut random);
-                let is_text = false;
-                self.program_round(&mut random, Input { bytes, is_text }, counts)
-            }
-            Kind::Program => {
-                let input = self.file(&mut random);
-                self.program_round(&mut random, input, counts)
-            }
-        };
+        let tried = properties::caught(|| self.tried(seed, round, counts));
+        // The tools are used also where an input is made.
+        let unmade = |fault| (Input::default(), vec![("the input can be made", fault)]);
+        let (input, broken) = tried.unwrap_or_else(unmade);
         let failure = |(property, fault)| Failure {
             seed,
             round,
@@ -78,6 +59,30 @@ impl Worker {
             input: input.clone(),
         };
         broken.into_iter().map(failure).collect()
+    }
+
+    fn tried(&self, seed: u64, round: u64, counts: &mut Counts) -> (Input, Vec<Broken>) {
+        let first = Random::new(seed).word();
+        let mut random = Random::new(first.wrapping_add(round));
+        let is_long = round % LONG_RUNS == LONG_RUNS - 1;
+        let kind = match random.below(32) {
+            0 => Kind::Program,
+            _ if is_long => Kind::Program,
+            1..=15 => Kind::Text,
+            _ => Kind::Bytes,
+        };
+        counts.add(Event::Round(kind));
+        match kind {
+            Kind::Text => self.text_round(&mut random, counts),
+            Kind::Bytes => self.bytes_round(&mut random, counts),
+            Kind::Program => {
+                let input = match is_long {
+                    true => long_run(&mut random),
+                    false => self.file(&mut random),
+                };
+                self.program_round(&mut random, input, counts)
+            }
+        }
     }
 
     fn text_round(&self, random: &mut Random, counts: &mut Counts) -> (Input, Vec<Broken>) {
@@ -89,7 +94,7 @@ impl Worker {
     }
 
     fn bytes_round(&self, random: &mut Random, counts: &mut Counts) -> (Input, Vec<Broken>) {
-        let bytes = self.changed_sheet(random);
+        let bytes = self.corpus.changed_sheet(random);
         let broken = properties::broken(&OF_SHEETS, &lent(random, bytes.clone()), counts);
         let is_text = false;
         (Input { bytes, is_text }, broken)
@@ -125,32 +130,23 @@ impl Worker {
         (Input { bytes, is_text }, broken)
     }
 
-    /// Mostly a sheet that is changed, sometimes one that is not, so that all
-    /// of its run is seen.
-    fn changed_sheet(&self, random: &mut Random) -> Vec<u8> {
-        let sheet = self.corpus.sheet(random);
-        match random.one_in(4) {
-            true => sheet,
-            false => {
-                let other = self.corpus.sheet(random);
-                change_bytes::changed(random, sheet, &other)
-            }
-        }
-    }
-
     /// A file for the program: a sheet, a text, or bytes under the name of a
     /// text.
     fn file(&self, random: &mut Random) -> Input {
         let is_text = random.one_in(2);
         let bytes = match (is_text, random.below(8)) {
-            (false, _) | (true, 0) => self.changed_sheet(random),
+            (false, _) | (true, 0) => self.corpus.changed_sheet(random),
             (true, 1..=2) => self.corpus.text(random).into_bytes(),
-            (true, _) => {
-                let text = self.corpus.changed_text(random);
-                change_text::changed(random, text, "").into_bytes()
-            }
+            (true, _) => self.corpus.changed_text(random).into_bytes(),
         };
         Input { bytes, is_text }
+    }
+}
+
+fn long_run(random: &mut Random) -> Input {
+    Input {
+        bytes: change_bytes::long_run(random),
+        is_text: false,
     }
 }
 

@@ -27,3 +27,10 @@ fn every_kind_of_input_and_answer_comes_up() {
     let lacking = FOUND.counts.lacking();
     assert!(lacking.is_empty(), "never came up: {lacking:?}");
 }
+
+#[test]
+fn a_seed_decides_everything() {
+    let counts = |seed| drive(seed, 300).counts.to_string();
+    assert_eq!(counts(7), counts(7));
+    assert_ne!(counts(7), counts(8));
+}

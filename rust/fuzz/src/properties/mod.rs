@@ -62,7 +62,7 @@ pub const OF_SHEETS: [Property<Sheet>; 6] = [
     },
 ];
 
-pub const OF_FILES: [Property<Tried>; 6] = [
+pub const OF_FILES: [Property<Tried>; 7] = [
     Property {
         name: "a task ends with a status, without a panic",
         holds: program::ends,
@@ -70,6 +70,10 @@ pub const OF_FILES: [Property<Tried>; 6] = [
     Property {
         name: "standard error is short and printable",
         holds: program::errors_are_short,
+    },
+    Property {
+        name: "what check prints is short and printable",
+        holds: program::explanations_are_short,
     },
     Property {
         name: "check prints the second engine's verdict",
@@ -100,13 +104,51 @@ pub fn broken<Case>(
 ) -> Vec<Broken> {
     let mut all = Vec::new();
     for property in properties {
-        let holds = AssertUnwindSafe(|| (property.holds)(case, counts));
-        let outcome = catch_unwind(holds).unwrap_or_else(|cause| {
-            let said = cause.downcast_ref::<String>().map(String::as_str);
-            let said = said.or_else(|| cause.downcast_ref::<&str>().copied());
-            Err(format!("panicked: {}", said.unwrap_or_default()))
-        });
+        let outcome = caught(|| (property.holds)(case, counts)).and_then(|held| held);
         all.extend(outcome.err().map(|fault| (property.name, fault)));
     }
     all
+}
+
+/// What is done, or what a panic said.
+pub fn caught<Done>(act: impl FnOnce() -> Done) -> Result<Done, String> {
+    catch_unwind(AssertUnwindSafe(act)).map_err(|cause| {
+        let said = cause.downcast_ref::<String>().map(String::as_str);
+        let said = said.or_else(|| cause.downcast_ref::<&str>().copied());
+        format!("panicked: {}", said.unwrap_or_default())
+    })
+}
+
+#[cfg(test)]
+mod tests {
+    use super::{broken, Counts, Property};
+
+    #[test]
+    fn every_property_that_does_not_hold_is_named() {
+        let properties: [Property<u8>; 3] = [
+            Property {
+                name: "is even",
+                holds: |&number, _| match number % 2 {
+                    0 => Ok(()),
+                    _ => Err(format!("{number} is odd")),
+                },
+            },
+            Property {
+                name: "holds",
+                holds: |_, _| Ok(()),
+            },
+            Property {
+                name: "divides 12",
+                holds: |&number, _| match 12 % number {
+                    0 => Ok(()),
+                    rest => panic!("{rest} are left"),
+                },
+            },
+        ];
+        let found = |number| broken(&properties, &number, &mut Counts::default());
+        assert_eq!(found(4), []);
+        let (odd, left) = ("5 is odd", "panicked: 2 are left");
+        let due = [("is even", odd), ("divides 12", left)];
+        assert_eq!(found(5), due.map(|(name, fault)| (name, fault.to_owned())));
+    }
 }

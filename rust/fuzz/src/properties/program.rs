@@ -8,7 +8,7 @@ use std::process::Output;
 
 /// The exit statuses that mean something.
 const STATUSES: std::ops::RangeInclusive<i32> = 0..=4;
-/// The most that a task may say on standard error.
+/// The most that a task may say of what is wrong.
 const MOST: usize = 64 << 10;
 /// The status of a file that is not what it must be.
 const MISUSE: i32 = 2;
@@ -57,18 +57,24 @@ pub fn ends(tried: &Tried, counts: &mut Counts) -> Result<(), String> {
 
 pub fn errors_are_short(tried: &Tried, _: &mut Counts) -> Result<(), String> {
     for (task, Output { stderr, .. }) in tried.tasks() {
-        if stderr.len() >= MOST {
-            return Err(format!("{task:?} says {} bytes", stderr.len()));
-        }
-        let Ok(said) = std::str::from_utf8(stderr) else {
-            return Err(format!("{task:?} says what is no UTF-8"));
-        };
-        let is_odd = |c: char| c.is_control() && c != '\n';
-        if said.contains(is_odd) {
-            return Err(format!("{task:?} says a control character: {said:?}"));
-        }
+        short_and_printable(stderr).map_err(|fault| format!("{task:?}: {fault}"))?;
     }
     Ok(())
+}
+
+pub fn explanations_are_short(tried: &Tried, _: &mut Counts) -> Result<(), String> {
+    short_and_printable(&tried.said.check.stdout)
+}
+
+fn short_and_printable(said: &[u8]) -> Result<(), String> {
+    if said.len() >= MOST {
+        return Err(format!("{} bytes", said.len()));
+    }
+    let said = std::str::from_utf8(said).map_err(|cause| cause.to_string())?;
+    match said.contains(|c: char| c.is_control() && c != '\n') {
+        true => Err(format!("a control character: {said:?}")),
+        false => Ok(()),
+    }
 }
 
 /// Whether some line of standard output is the one due, or, where none is,
