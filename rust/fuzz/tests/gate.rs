@@ -5,7 +5,7 @@ use fuzz::drive::{drive, Found};
 use std::sync::LazyLock;
 
 const SEED: u64 = 1;
-const ROUNDS: u64 = 6_000;
+const ROUNDS: u64 = 8_000;
 
 static FOUND: LazyLock<Found> = LazyLock::new(|| drive(SEED, ROUNDS));
 

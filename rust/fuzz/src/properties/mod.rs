@@ -1,6 +1,7 @@
 //! What must hold of every input, by the kind of round.
 
 pub mod bytes;
+mod printable;
 pub mod program;
 pub mod text;
 

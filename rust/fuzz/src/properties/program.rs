@@ -1,5 +1,6 @@
 //! What must hold of the program on a file.
 
+use super::printable::hidden;
 use super::text::assembled;
 use crate::counts::{Counts, Event, Task};
 use crate::process::{Attempt, Said};
@@ -71,9 +72,9 @@ fn short_and_printable(said: &[u8]) -> Result<(), String> {
         return Err(format!("{} bytes", said.len()));
     }
     let said = std::str::from_utf8(said).map_err(|cause| cause.to_string())?;
-    match said.contains(|c: char| c.is_control() && c != '\n') {
-        true => Err(format!("a control character: {said:?}")),
-        false => Ok(()),
+    match said.lines().find_map(hidden) {
+        Some(character) => Err(format!("{character:?} in {said:?}")),
+        None => Ok(()),
     }
 }
 

@@ -1,5 +1,6 @@
 //! What must hold of a text.
 
+use super::printable::hidden;
 use crate::counts::{Counts, Event};
 use std::cell::OnceCell;
 use text::{assemble, disassemble, Error, Span};
@@ -84,8 +85,8 @@ pub fn messages_are_short(text: &Text, _: &mut Counts) -> Result<(), String> {
             let start: String = message.chars().take(80).collect();
             return Err(format!("{} bytes: {start}", message.len()));
         }
-        if message.contains(char::is_control) {
-            return Err(format!("a control character: {message:?}"));
+        if let Some(character) = hidden(message) {
+            return Err(format!("{character:?} in {message:?}"));
         }
     }
     Ok(())
