@@ -1,7 +1,7 @@
 # The libraries, the checking program, the command, the samples and the tests. What Rattle proves is built by rt, under target/;
 # what others use is copied to build/.
 
-.PHONY: all lib watch checker command host demo test bench install uninstall clean
+.PHONY: all lib watch checker command host demo test bench fuzz install uninstall clean
 .NOTPARALLEL: # two rt at once would share target/
 .DELETE_ON_ERROR:
 
@@ -60,6 +60,12 @@ test:
 
 bench: lib
 	cd rust && cargo run --release --offline -p bench -- ../docs/bench
+
+# The full drive, or with ROUND one round of it again.
+SEED ?= 1
+ROUNDS ?= 100000
+fuzz: command
+	cd rust && cargo run --release --offline -p fuzz -- --seed $(SEED) $(if $(ROUND),--round $(ROUND),--rounds $(ROUNDS))
 
 # What is installed, and where: under DESTDIR (for packages), then the folder named.
 PREFIX ?= /usr/local
