@@ -7,20 +7,21 @@ use crate::source::Source;
 use crate::words::words;
 use crate::{ACCEPTED, NOT_DONE, REFUSED};
 use reference::Stop;
+use std::io::{self, Write};
 
-pub enum Answer {
+pub enum Answer<'a> {
     Accepted,
     Refused(Refused),
-    Stopped(Stopped),
+    Stopped(Stopped<'a>),
 }
 
 /// How a run ended.
-pub struct Stopped {
+pub struct Stopped<'a> {
     pub stop: Stop,
     pub steps: u64,
     /// How many words were put, and those of them that the report holds.
     pub put: usize,
-    pub words: Vec<u32>,
+    pub words: &'a [u32],
     /// The instruction at which it stopped, None where main has no room.
     pub procedure: String,
     pub instruction: Option<usize>,
@@ -28,7 +29,7 @@ pub struct Stopped {
     pub reason: Vec<String>,
 }
 
-impl Answer {
+impl Answer<'_> {
     pub fn status(&self, expect_done: bool) -> u8 {
         match self {
             Answer::Refused(_) => REFUSED,
@@ -69,9 +70,11 @@ fn lines(reason: &[String]) -> String {
     reason.iter().map(|line| format!("  {line}\n")).collect()
 }
 
-impl Stopped {
-    /// The words put, one a line.
-    pub fn words_said(&self) -> String {
-        self.words.iter().map(|word| format!("{word}\n")).collect()
+impl Stopped<'_> {
+    /// Writes the words put, one a line.
+    pub fn write_words(&self, out: &mut impl Write) -> io::Result<()> {
+        self.words
+            .iter()
+            .try_for_each(|word| writeln!(out, "{word}"))
     }
 }

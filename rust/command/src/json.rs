@@ -49,8 +49,14 @@ impl Object {
 }
 
 fn list(values: impl Iterator<Item = String>) -> String {
-    let values: Vec<String> = values.collect();
-    format!("[{}]", values.join(","))
+    let mut said = String::from("[");
+    for value in values {
+        if said.len() > 1 {
+            said.push(',');
+        }
+        said += &value;
+    }
+    said + "]"
 }
 
 /// A string of JSON.

@@ -80,7 +80,7 @@ fn stopped(object: Object, source: &Source, ended: &Stopped, with_words: bool) -
     let object = object.number("steps", ended.steps);
     let mut object = object.number("put", ended.put as u64);
     if with_words {
-        object = object.numbers("words", &ended.words);
+        object = object.numbers("words", ended.words);
     }
     object = instruction(object, Some(&ended.procedure), ended.instruction);
     object = object.number("place", ended.at.place as u64);

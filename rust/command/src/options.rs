@@ -3,7 +3,7 @@
 use crate::arguments::{misuse, nearest, Given};
 use crate::paint::When;
 use crate::quote::quoted;
-use crate::tasks::{by_word, Entry, TASKS};
+use crate::tasks::{by_word, Entry, Kind, TASKS};
 use crate::{help, Failure};
 use std::ffi::{OsStr, OsString};
 
@@ -83,20 +83,20 @@ impl Task {
         if given.has("--help") {
             return Ok(Task::Help(Some(given.task)));
         }
-        match given.task.word {
-            "check" => Ok(Task::Check(sheets(&given)?)),
-            "asm" => Ok(Task::Assemble {
+        match given.task.kind {
+            Kind::Check => Ok(Task::Check(sheets(&given)?)),
+            Kind::Run | Kind::Watch => Ok(Task::Run(run(&given)?)),
+            Kind::Assemble => Ok(Task::Assemble {
                 from: given.file()?,
                 to: match given.value("-o") {
                     Some(to) => to.to_owned(),
                     None => return given.misuse("asm needs -o and the file to be written"),
                 },
             }),
-            "dis" => Ok(Task::Disassemble {
+            Kind::Disassemble => Ok(Task::Disassemble {
                 from: given.file()?,
                 to: given.value("-o").unwrap_or(OsStr::new("-")).to_owned(),
             }),
-            _ => Ok(Task::Run(run(&given)?)),
         }
     }
 }
@@ -195,7 +195,7 @@ fn run(given: &Given) -> Result<Run, Failure> {
         fuel: given.number("--fuel", 1_000_000, u64::MAX)?,
         memory: given.number("--memory", 65_536, u64::MAX)?,
         report: given.number("--report", 65_536, MAX_REPORT)?,
-        watch: given.task.word == "watch" || given.has("--watch"),
+        watch: given.task.kind == Kind::Watch || given.has("--watch"),
         trace: given.has("--trace"),
         words,
         expect_done: given.has("--expect-done"),

@@ -59,7 +59,9 @@ fn one(
     }
     let answer = answer(&source, &lent, outcome, &report)?;
     if let (Answer::Stopped(ended), Some(words)) = (&answer, &options.words) {
-        writing::write(words, ended.words_said().as_bytes(), output)?;
+        let mut lines = Vec::new();
+        ended.write_words(&mut lines)?;
+        writing::write(words, &lines, output)?;
     }
     print(options, file, &source, &answer, output)?;
     Ok(answer.status(options.expect_done))
@@ -81,7 +83,7 @@ fn print(
         return Ok(());
     }
     if let (Answer::Stopped(ended), true) = (answer, with_words) {
-        write!(output, "{}", ended.words_said())?;
+        ended.write_words(output)?;
     }
     if manner == Manner::Full {
         write!(output, "{}", answer.said(source, color.output()))?;
@@ -90,12 +92,12 @@ fn print(
 }
 
 /// What the outcome says, with its place in the text.
-fn answer(
+fn answer<'a>(
     source: &Source,
     lent: &Lent,
     outcome: Outcome,
-    report: &[u32],
-) -> Result<Answer, Failure> {
+    report: &'a [u32],
+) -> Result<Answer<'a>, Failure> {
     let (stop, steps, put, place) = match outcome {
         Outcome::Refused { number, place } => {
             let number = u64::from(number);
@@ -114,7 +116,7 @@ fn answer(
             stop,
             steps,
             put,
-            words: report[..put.min(report.len())].to_vec(),
+            words: &report[..put.min(report.len())],
             procedure: source.names.procedure(procedure),
             instruction,
             at: Located::new(source, at, &[]),

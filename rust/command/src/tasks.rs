@@ -10,8 +10,18 @@ pub struct Known {
     pub about: &'static [&'static str],
 }
 
+#[derive(Clone, Copy, Debug, PartialEq, Eq)]
+pub enum Kind {
+    Check,
+    Run,
+    Watch,
+    Assemble,
+    Disassemble,
+}
+
 /// A task: its word, what may follow it, what it does, its options.
 pub struct Entry {
+    pub kind: Kind,
     pub word: &'static str,
     pub arguments: &'static str,
     pub about: &'static [&'static str],
@@ -20,6 +30,7 @@ pub struct Entry {
 
 pub const TASKS: &[Entry] = &[
     Entry {
+        kind: Kind::Check,
         word: "check",
         arguments: "[OPTION].. FILE..",
         about: &[
@@ -29,6 +40,7 @@ pub const TASKS: &[Entry] = &[
         options: &[OF_SHEETS, OF_ALL],
     },
     Entry {
+        kind: Kind::Run,
         word: "run",
         arguments: "[OPTION].. FILE..",
         about: &[
@@ -38,18 +50,21 @@ pub const TASKS: &[Entry] = &[
         options: &[OF_SHEETS, OF_RUNS, OF_ALL],
     },
     Entry {
+        kind: Kind::Watch,
         word: "watch",
         arguments: "[OPTION].. FILE..",
         about: &["is run --watch"],
         options: &[OF_SHEETS, OF_RUNS, OF_ALL],
     },
     Entry {
+        kind: Kind::Assemble,
         word: "asm",
         arguments: "FILE -o OUT",
         about: &["makes the bytes of a text; a text with an error is not written"],
         options: &[OF_WRITERS, OF_ALL],
     },
     Entry {
+        kind: Kind::Disassemble,
         word: "dis",
         arguments: "FILE [-o OUT]",
         about: &["makes a text of any bytes, which assembles to the same bytes"],
