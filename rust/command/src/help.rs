@@ -1,6 +1,6 @@
 //! How the command is used, in a few lines or in more.
 
-use crate::tasks::{Entry, Known, OF_ALL, OF_RUNS, OF_SHEETS, OF_WRITERS, TASKS};
+use crate::tasks::{Entry, Known, OF_ALL, OF_NONE, OF_RUNS, OF_SHEETS, OF_WRITERS, TASKS};
 
 const FILES: &str = "\
 FILE  a sheet, as bytes or as text (docs/TEXT.md); - is standard input, at most once. A file whose name ends
@@ -36,12 +36,13 @@ pub fn whole() -> String {
         .map(|task| entry(task.word, 7, task.about))
         .collect();
     let groups = [
-        ("check, run and watch", OF_SHEETS),
-        ("run and watch", OF_RUNS),
-        ("asm and dis", OF_WRITERS),
-        ("every task", OF_ALL),
+        ("Options of check, run and watch", OF_SHEETS),
+        ("Options of run and watch", OF_RUNS),
+        ("Options of asm and dis", OF_WRITERS),
+        ("Options of every task", OF_ALL),
+        ("In place of a task", OF_NONE),
     ];
-    let groups = groups.map(|(whose, options)| format!("\nOptions of {whose}:\n{}", list(options)));
+    let groups = groups.map(|(whose, options)| format!("\n{whose}:\n{}", list(options)));
     let usages = usages();
     let groups = groups.concat();
     format!("{usages}\n{tasks}\n{FILES}{groups}\n{STATUSES}")

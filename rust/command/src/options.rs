@@ -74,10 +74,11 @@ impl Task {
         let Some((word, rest)) = arguments.split_first() else {
             return misuse("what is to be done?", &help::usages());
         };
-        match word.to_str() {
-            Some("help" | "--help" | "-h") => return about(rest),
-            Some("--version" | "-V") if rest.is_empty() => return Ok(Task::Version),
-            _ => {}
+        if is_help(word) {
+            return about(rest);
+        }
+        if rest.is_empty() && (word == "--version" || word == "-V") {
+            return Ok(Task::Version);
         }
         let given = Given::read(task(word)?, rest)?;
         if given.has("--help") {
@@ -113,10 +114,15 @@ fn task(word: &OsStr) -> Result<&'static Entry, Failure> {
     )
 }
 
+fn is_help(word: &OsStr) -> bool {
+    ["help", "--help", "-h"].iter().any(|help| word == *help)
+}
+
 /// The task that help is wanted of.
 fn about(words: &[OsString]) -> Result<Task, Failure> {
     match words {
         [] => Ok(Task::Help(None)),
+        [word] if is_help(word) => Ok(Task::Help(None)),
         [word] => Ok(Task::Help(Some(task(word)?))),
         _ => misuse("help is of one task or of all", &help::usages()),
     }

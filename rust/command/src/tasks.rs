@@ -145,7 +145,13 @@ pub const OF_WRITERS: &[Known] = &[valued(
 )];
 
 /// Options of every task.
-pub const OF_ALL: &[Known] = &[alone(&["-h", "--help"], &["this help"])];
+pub const OF_ALL: &[Known] = &[alone(
+    &["-h", "--help"],
+    &["help of the task; in place of one, of all"],
+)];
+
+/// In place of a task.
+pub const OF_NONE: &[Known] = &[alone(&["-V", "--version"], &["the name and the version"])];
 
 const fn alone(names: &'static [&'static str], about: &'static [&'static str]) -> Known {
     let value = None;

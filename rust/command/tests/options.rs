@@ -78,7 +78,9 @@ fn every_task_has_its_own_help() {
     ] {
         assert!(whole.contains(option), "{option}");
     }
-    assert_eq!(whole, stdout(&wennathig(&["-h"], &[])));
+    for call in [&["-h"][..], &["help", "help"], &["help", "--help"]] {
+        assert_eq!(whole, stdout(&wennathig(call, &[])));
+    }
     assert!(whole.lines().all(|line| line.chars().count() <= 120));
     assert_eq!(status(&wennathig(&["help", "nothing"], &[])), 2);
     assert_eq!(status(&wennathig(&["help", "run", "check"], &[])), 2);
@@ -183,5 +185,32 @@ fn colour_is_only_where_it_is_asked_for() {
         let output = wennathig(&["check", &open, &bad, "--color", when], &[]);
         let both = stdout(&output) + &stderr(&output);
         assert!(!both.contains('\x1b'), "{both}");
+    }
+}
+
+/// What the command prints on a terminal, with these variables set.
+fn on_terminal(variables: &str, sheet: &str) -> String {
+    let command = env!("CARGO_BIN_EXE_wennathig");
+    let line = format!("env {variables} '{command}' check '{sheet}'");
+    let output = Command::new("script")
+        .args(["-qec", &line, "/dev/null"])
+        .env_remove("NO_COLOR")
+        .stdin(Stdio::null())
+        .output()
+        .expect("script, of the package bsdutils");
+    stdout(&output)
+}
+
+#[test]
+fn a_terminal_has_colour_unless_it_is_refused() {
+    let folder = folder("options-terminal");
+    let sheet = written(&folder, "one.ws", ONE);
+    let painted = "\x1b[32maccepted\x1b[0m 0 0";
+    for variables in ["TERM=xterm", "TERM=xterm NO_COLOR="] {
+        assert_eq!(on_terminal(variables, &sheet).trim_end(), painted);
+    }
+    for variables in ["TERM=dumb", "TERM=xterm NO_COLOR=1"] {
+        let said = on_terminal(variables, &sheet);
+        assert_eq!(said.trim_end(), "accepted 0 0", "{variables}");
     }
 }

@@ -4,8 +4,11 @@
 mod common;
 
 use common::{folder, status, stderr, stdout, wennathig, written};
+use std::ffi::OsStr;
 use std::fs;
+use std::os::unix::ffi::OsStrExt;
 use std::path::{Path, PathBuf};
+use std::process::Command;
 
 const ECHO: &[u8] = b"procedure main
     variable n, zero: integer
@@ -244,6 +247,13 @@ fn file_names_are_escaped_in_json_and_elsewhere() {
     let output = wennathig(&["check", "--json", &name], &[]);
     assert!(stdout(&output).contains(r#"a \"b\"\n\u001b.ws","verdict"#));
     assert!(stderr(&output).contains("a \"b\"\\n\\u{1b}.ws:2:7: "));
+    let name = OsStr::from_bytes(b"/nowhere/\xff");
+    let output = Command::new(env!("CARGO_BIN_EXE_wennathig"))
+        .args([OsStr::new("check"), OsStr::new("--json"), name])
+        .output()
+        .expect("the command starts");
+    let start = "{\"file\":\"/nowhere/\u{fffd}\",\"verdict\":\"error\"";
+    assert!(stdout(&output).starts_with(start), "{}", stdout(&output));
 }
 
 #[test]
