@@ -98,42 +98,60 @@ fn answer<'a>(
     outcome: Outcome,
     report: &'a [u32],
 ) -> Result<Answer<'a>, Failure> {
-    let (stop, steps, put, place) = match outcome {
+    match outcome {
         Outcome::Refused { number, place } => {
             let number = u64::from(number);
             let refused = explain(source, Refusal { number, place })?;
-            return Ok(Answer::Refused(refused));
+            Ok(Answer::Refused(refused))
         }
         Outcome::Stopped {
             stop,
             steps,
-            words,
+            words: put,
             place,
-        } => (stop, steps, words, place),
-    };
-    let stopped = |at, procedure, instruction, reason| {
-        Answer::Stopped(Stopped {
-            stop,
-            steps,
-            put,
-            words: &report[..put.min(report.len())],
-            procedure: source.names.procedure(procedure),
-            instruction,
-            at: Located::new(source, at, &[]),
-            reason,
-        })
-    };
-    let program = parse(lent.sheet).map_err(|refusal| engine::disagree(&outcome, &refusal))?;
-    let main = &program.procedures[0];
-    let units = main.variables.len() + 2;
-    if stop == Stop::MemoryFull && units > lent.memory_words {
-        let reason = format!("main's frame needs {units} words before the first step");
-        return Ok(stopped(main.place, 0, None, vec![reason]));
+        } => {
+            let record = Record::stopped_at(lent, stop, place)
+                .map_err(|refusal| engine::disagree(&outcome, &refusal))?;
+            Ok(Answer::Stopped(Stopped {
+                stop,
+                steps,
+                put,
+                words: &report[..put.min(report.len())],
+                procedure: source.names.procedure(place.procedure),
+                instruction: record.is_instruction.then_some(place.instruction),
+                at: Located::new(source, record.place, &[]),
+                reason: record.reason,
+            }))
+        }
     }
-    let Place {
-        procedure,
-        instruction,
-    } = place;
-    let at = program.procedures[procedure].instructions[instruction].place;
-    Ok(stopped(at, procedure, Some(instruction), Vec::new()))
+}
+
+/// The record at which a run stopped.
+struct Record {
+    /// The byte at which it starts.
+    place: usize,
+    /// It is main's where that has no room.
+    is_instruction: bool,
+    reason: Vec<String>,
+}
+
+impl Record {
+    fn stopped_at(lent: &Lent, stop: Stop, place: Place) -> Result<Record, reference::Refusal> {
+        let program = parse(lent.sheet)?;
+        let procedure = &program.procedures[place.procedure];
+        let units = procedure.variables.len() + 2;
+        if stop == Stop::MemoryFull && place.procedure == 0 && units > lent.memory_words {
+            let line = format!("main's frame needs {units} words before the first step");
+            return Ok(Record {
+                place: procedure.place,
+                is_instruction: false,
+                reason: vec![line],
+            });
+        }
+        Ok(Record {
+            place: procedure.instructions[place.instruction].place,
+            is_instruction: true,
+            reason: Vec::new(),
+        })
+    }
 }

@@ -41,13 +41,18 @@ fn no_more_is_read_than_is_needed() {
         let output = at_once(call);
         assert_eq!((status(&output), stdout(&output).as_str()), (1, expected));
     }
+}
+
+#[test]
+fn a_file_that_is_too_long_is_an_error_at_once() {
+    let folder = folder("faults-limits");
     let named = folder.join("zero.ws");
     symlink("/dev/zero", &named).expect("a link");
     let named = named.to_str().expect("a path");
     let too_long: [(&[&str], &str); 5] = [
         (&["check", named], "zero.ws is longer than 16777216 bytes\n"),
         (
-            &["check", "--text", zeros],
+            &["check", "--text", "/dev/zero"],
             "is longer than 16777216 bytes\n",
         ),
         (
@@ -56,7 +61,7 @@ fn no_more_is_read_than_is_needed() {
         ),
         (&["dis", "/dev/zero"], "is longer than 524288 bytes\n"),
         (
-            &["run", zeros, "--reads", "/dev/zero"],
+            &["run", "-", "--reads", "/dev/zero"],
             "is longer than 67108864 bytes\n",
         ),
     ];
