@@ -5,9 +5,7 @@ use crate::located::Located;
 use crate::paint::Paint;
 use crate::source::Source;
 use crate::words::words;
-use crate::{ACCEPTED, NOT_DONE, REFUSED};
 use reference::Stop;
-use std::io::{self, Write};
 
 pub enum Answer<'a> {
     Accepted,
@@ -30,14 +28,6 @@ pub struct Stopped<'a> {
 }
 
 impl Answer<'_> {
-    pub fn status(&self, expect_done: bool) -> u8 {
-        match self {
-            Answer::Refused(_) => REFUSED,
-            Answer::Stopped(ended) if expect_done && ended.stop != Stop::Done => NOT_DONE,
-            Answer::Accepted | Answer::Stopped(_) => ACCEPTED,
-        }
-    }
-
     /// The verdict or the stop, the record that it is about and the reason.
     pub fn said(&self, source: &Source, paint: Paint) -> String {
         match self {
@@ -68,13 +58,4 @@ impl Answer<'_> {
 
 fn lines(reason: &[String]) -> String {
     reason.iter().map(|line| format!("  {line}\n")).collect()
-}
-
-impl Stopped<'_> {
-    /// Writes the words put, one a line.
-    pub fn write_words(&self, out: &mut impl Write) -> io::Result<()> {
-        self.words
-            .iter()
-            .try_for_each(|word| writeln!(out, "{word}"))
-    }
 }

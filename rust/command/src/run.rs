@@ -8,9 +8,9 @@ use crate::options::{self, Manner, SheetFile};
 use crate::output::Output;
 use crate::source::Source;
 use crate::trace::trace;
-use crate::{objects, progress, reads, sheets, writing, Failure};
+use crate::{objects, progress, reads, sheets, writing, Failure, ACCEPTED, NOT_DONE, REFUSED};
 use reference::{parse, Outcome, Place, Stop};
-use std::io::Write;
+use std::io::{self, Write};
 
 /// Runs each file with the same reads.
 pub fn run(options: &options::Run, output: &mut Output) -> Result<u8, Failure> {
@@ -51,44 +51,75 @@ fn one(
         true => engine::watch(&lent, &mut report),
         false => engine::run(&lent, &mut report),
     })?;
-    if options.sheets.manner == Manner::Full && options.sheets.files.len() > 1 {
+    let is_full = options.sheets.manner == Manner::Full;
+    if is_full && options.sheets.files.len() > 1 {
         writeln!(output, "{}:", source.name)?;
     }
     if options.trace && matches!(outcome, Outcome::Stopped { .. }) {
         trace(&source, &lent, options.watch, outcome, &report, output)?;
     }
-    let answer = answer(&source, &lent, outcome, &report)?;
-    if let (Answer::Stopped(ended), Some(words)) = (&answer, &options.words) {
-        let mut lines = Vec::new();
-        ended.write_words(&mut lines)?;
-        writing::write(words, &lines, output)?;
+    hand_over(options, outcome, &report, output)?;
+    // What is told of a stop may take long to find.
+    if options.sheets.manner != Manner::Quiet {
+        let answer = answer(&source, &lent, outcome, &report)?;
+        tell(options, file, &source, &answer, output)?;
     }
-    print(options, file, &source, &answer, output)?;
-    Ok(answer.status(options.expect_done))
+    Ok(status(outcome, options.expect_done))
 }
 
-fn print(
+/// Prints what is said of a file after its words.
+fn tell(
     options: &options::Run,
     file: &SheetFile,
     source: &Source,
     answer: &Answer,
     output: &mut Output,
 ) -> Result<(), Failure> {
-    let with_words = options.words.is_none();
-    let options::Sheets { manner, color, .. } = options.sheets;
-    if manner == Manner::Json {
-        let machine = if options.watch { "watched" } else { "plain" };
-        let object = objects::of_answer(&file.path, Some(machine), source, answer, with_words);
+    if options.sheets.manner == Manner::Json {
+        let machine = Some(if options.watch { "watched" } else { "plain" });
+        let with_words = options.words.is_none();
+        let object = objects::of_answer(&file.path, machine, source, answer, with_words);
         writeln!(output, "{object}")?;
-        return Ok(());
-    }
-    if let (Answer::Stopped(ended), true) = (answer, with_words) {
-        ended.write_words(output)?;
-    }
-    if manner == Manner::Full {
-        write!(output, "{}", answer.said(source, color.output()))?;
+    } else {
+        let paint = options.sheets.color.output();
+        write!(output, "{}", answer.said(source, paint))?;
     }
     Ok(())
+}
+
+fn status(outcome: Outcome, expect_done: bool) -> u8 {
+    match outcome {
+        Outcome::Refused { .. } => REFUSED,
+        Outcome::Stopped { stop, .. } if expect_done && stop != Stop::Done => NOT_DONE,
+        Outcome::Stopped { .. } => ACCEPTED,
+    }
+}
+
+/// Writes the words put, one a line, to their file or to the output; JSON has
+/// them in its object.
+fn hand_over(
+    options: &options::Run,
+    outcome: Outcome,
+    report: &[u32],
+    output: &mut Output,
+) -> Result<(), Failure> {
+    let Outcome::Stopped { words, .. } = outcome else {
+        return Ok(());
+    };
+    let put = &report[..words.min(report.len())];
+    match &options.words {
+        Some(file) => {
+            let mut lines = Vec::new();
+            write_words(put, &mut lines)?;
+            writing::write(file, &lines, output)
+        }
+        None if options.sheets.manner == Manner::Json => Ok(()),
+        None => Ok(write_words(put, output)?),
+    }
+}
+
+fn write_words(words: &[u32], to: &mut impl Write) -> io::Result<()> {
+    words.iter().try_for_each(|word| writeln!(to, "{word}"))
 }
 
 /// What the outcome says, with its place in the text.

@@ -55,24 +55,24 @@ pub fn say_failure(
 pub fn check(sheets: &Sheets, output: &mut Output) -> Result<u8, Failure> {
     each(sheets, output, |file, output| {
         let source = Source::read(file)?;
-        let answer = match engine::check(&source.sheet)? {
+        let refusal = engine::check(&source.sheet)?;
+        let status = if refusal.is_some() { REFUSED } else { ACCEPTED };
+        if sheets.manner == Manner::Quiet {
+            return Ok(status);
+        }
+        let answer = match refusal {
             None => Answer::Accepted,
             Some(refusal) => Answer::Refused(explain::explain(&source, refusal)?),
         };
-        match sheets.manner {
-            Manner::Quiet => {}
-            Manner::Json => {
-                let object = objects::of_answer(&file.path, None, &source, &answer, true);
-                writeln!(output, "{object}")?;
-            }
-            Manner::Full => {
-                if sheets.files.len() > 1 {
-                    write!(output, "{}: ", source.name)?;
-                }
-                let said = answer.said(&source, sheets.color.output());
-                write!(output, "{said}")?;
-            }
+        if sheets.manner == Manner::Json {
+            let object = objects::of_answer(&file.path, None, &source, &answer, true);
+            writeln!(output, "{object}")?;
+            return Ok(status);
         }
-        Ok(answer.status(false))
+        if sheets.files.len() > 1 {
+            write!(output, "{}: ", source.name)?;
+        }
+        write!(output, "{}", answer.said(&source, sheets.color.output()))?;
+        Ok(status)
     })
 }
