@@ -24,6 +24,7 @@ mod run;
 mod sheets;
 mod show;
 mod source;
+mod stop;
 mod tasks;
 mod trace;
 mod words;

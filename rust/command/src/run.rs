@@ -8,8 +8,10 @@ use crate::options::{self, Manner, SheetFile};
 use crate::output::Output;
 use crate::source::Source;
 use crate::trace::trace;
-use crate::{objects, progress, reads, sheets, writing, Failure, ACCEPTED, NOT_DONE, REFUSED};
-use reference::{parse, Outcome, Place, Stop};
+use crate::{
+    objects, progress, reads, sheets, stop, writing, Failure, ACCEPTED, NOT_DONE, REFUSED,
+};
+use reference::{Outcome, Stop};
 use std::io::{self, Write};
 
 /// Runs each file with the same reads.
@@ -61,7 +63,7 @@ fn one(
     hand_over(options, outcome, &report, output)?;
     // What is told of a stop may take long to find.
     if options.sheets.manner != Manner::Quiet {
-        let answer = answer(&source, &lent, outcome, &report)?;
+        let answer = answer(&source, &lent, options.watch, outcome, &report)?;
         tell(options, file, &source, &answer, output)?;
     }
     Ok(status(outcome, options.expect_done))
@@ -126,6 +128,7 @@ fn write_words(words: &[u32], to: &mut impl Write) -> io::Result<()> {
 fn answer<'a>(
     source: &Source,
     lent: &Lent,
+    watch: bool,
     outcome: Outcome,
     report: &'a [u32],
 ) -> Result<Answer<'a>, Failure> {
@@ -141,48 +144,17 @@ fn answer<'a>(
             words: put,
             place,
         } => {
-            let record = Record::stopped_at(lent, stop, place)
-                .map_err(|refusal| engine::disagree(&outcome, &refusal))?;
+            let told = stop::stopped(source, lent, watch, outcome)?;
             Ok(Answer::Stopped(Stopped {
                 stop,
                 steps,
                 put,
                 words: &report[..put.min(report.len())],
                 procedure: source.names.procedure(place.procedure),
-                instruction: record.is_instruction.then_some(place.instruction),
-                at: Located::new(source, record.place, &[]),
-                reason: record.reason,
+                instruction: told.is_instruction.then_some(place.instruction),
+                at: Located::new(source, told.place, &told.parts),
+                reason: told.reason,
             }))
         }
-    }
-}
-
-/// The record at which a run stopped.
-struct Record {
-    /// The byte at which it starts.
-    place: usize,
-    /// It is main's where that has no room.
-    is_instruction: bool,
-    reason: Vec<String>,
-}
-
-impl Record {
-    fn stopped_at(lent: &Lent, stop: Stop, place: Place) -> Result<Record, reference::Refusal> {
-        let program = parse(lent.sheet)?;
-        let procedure = &program.procedures[place.procedure];
-        let units = procedure.variables.len() + 2;
-        if stop == Stop::MemoryFull && place.procedure == 0 && units > lent.memory_words {
-            let line = format!("main's frame needs {units} words before the first step");
-            return Ok(Record {
-                place: procedure.place,
-                is_instruction: false,
-                reason: vec![line],
-            });
-        }
-        Ok(Record {
-            place: procedure.instructions[place.instruction].place,
-            is_instruction: true,
-            reason: Vec::new(),
-        })
     }
 }

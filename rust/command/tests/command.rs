@@ -165,7 +165,7 @@ fn a_run_prints_the_report_and_then_the_stop() {
     let printed = stdout(&output).replace(&sheet, "SHEET");
     let expected = "7\n8\n4294967295\nstopped 15 reads ended: none is left to take\n\
                     steps 10, words put 3\nSHEET:5:5: byte 36, in main, instruction 1\n    \
-                    take n\n    ^^^^^^\n";
+                    take n\n    ^^^^^^\n  the reads are 3, and all are taken\n";
     assert_eq!(printed, expected);
     let piped = wennathig(&["run", &sheet, "--reads", "-"], b"7\n8\n4294967295");
     assert_eq!(piped.stdout, output.stdout);

@@ -204,7 +204,7 @@ fn json_of_a_run_has_the_machine_the_stop_and_the_words() {
     assert_eq!(
         lines[0],
         format!(
-            r#"{{"file":"{echo}","machine":"plain","verdict":"stopped","number":15,"word":"reads ended","meaning":"none is left to take","steps":7,"put":2,"words":[5,6],"procedure":"main","instruction":1,"place":36,"line":5,"column":5}}"#
+            r#"{{"file":"{echo}","machine":"plain","verdict":"stopped","number":15,"word":"reads ended","meaning":"none is left to take","steps":7,"put":2,"words":[5,6],"procedure":"main","instruction":1,"place":36,"line":5,"column":5,"reason":["the reads are 2, and all are taken"]}}"#
         )
     );
     assert_eq!(

@@ -1,0 +1,227 @@
+//! The values that an instruction moves, each with the declared type that it
+//! is bound to, in the order in which they are tested.
+
+use super::cause::Cause;
+use crate::trace::machine::{operation, Carried, Cell};
+use reference::machine::watched::Value;
+use reference::{Kind, Operation, Rights};
+use text::field::Field;
+
+/// A value on its way.
+pub struct Moved {
+    /// The parts of the instruction that it comes from.
+    pub parts: Vec<Field>,
+    /// Where it comes from, in words.
+    pub source: String,
+    /// Where there is none: what is blank, in words.
+    pub blank: Option<String>,
+    /// None also on the plain machine, which does not keep it.
+    pub carried: Option<Carried>,
+}
+
+/// A value that is bound to a declared type.
+pub struct Movement {
+    pub value: Moved,
+    pub to: usize,
+    /// What is declared so, in words.
+    pub destination: String,
+}
+
+impl Cause<'_> {
+    pub fn movements(&self) -> Vec<Movement> {
+        use Field::{A, B, C};
+        match self.operation {
+            Operation::Bind { to, from } => vec![self.assigned(self.variable(B, from), to)],
+            Operation::Fetch { to, array, index } => {
+                vec![self.assigned(self.cell(array, index), to)]
+            }
+            Operation::GetSlot { to, record, slot } => {
+                vec![self.assigned(self.slot(record, slot), to)]
+            }
+            Operation::Store { array, from, .. } => self.stored(array, self.variable(C, from)),
+            Operation::SetSlot { record, slot, from } => {
+                let owner = self.owner();
+                let slot_name = self.names().slot(owner, slot);
+                vec![Movement {
+                    value: self.variable(B, from),
+                    to: self.program.types[owner].slots[slot],
+                    destination: format!("{}.{slot_name}", self.name(record)),
+                }]
+            }
+            Operation::Call {
+                procedure,
+                first_actual: Some(first),
+                ..
+            } => self.actuals(procedure, first),
+            Operation::Return { value: Some(value) } => self.returned(self.variable(A, value)),
+            operation => self.made(operation),
+        }
+    }
+
+    /// Numbers that are computed or taken, and new objects.
+    fn made(&self, operation: Operation) -> Vec<Movement> {
+        let (to, kind) = match operation {
+            Operation::Set { to, .. }
+            | Operation::Add { to, .. }
+            | Operation::Subtract { to, .. }
+            | Operation::Less { to, .. }
+            | Operation::Take { to }
+            | Operation::Size { to, .. } => (to, Kind::Integer),
+            Operation::NewArray { to, .. } => (to, self.program.qualified[self.inner(to)].kind),
+            Operation::NewRecord { to } => (to, Kind::Record { of: self.owner() }),
+            _ => return Vec::new(),
+        };
+        vec![self.assigned(self.new_value(kind), to)]
+    }
+
+    /// A value that has all rights of its type.
+    fn new_value(&self, kind: Kind) -> Moved {
+        let (source, rights) = match kind {
+            Kind::Integer => ("a number", Rights::NONE),
+            Kind::Array { .. } => ("a new tray", Rights::range(Rights::FETCH, Rights::SIZE)),
+            Kind::Record { of } => {
+                let last = self.program.types[of].named_rights;
+                ("a new record", Rights::range(Rights::OPEN, last))
+            }
+        };
+        Moved {
+            parts: vec![Field::A],
+            source: String::from(source),
+            blank: None,
+            carried: Some(Carried { kind, rights }),
+        }
+    }
+
+    fn assigned(&self, value: Moved, to: usize) -> Movement {
+        Movement {
+            value,
+            to: self.inner(to),
+            destination: self.name(to),
+        }
+    }
+
+    fn stored(&self, array: usize, value: Moved) -> Vec<Movement> {
+        let held = self.machine.variable(array);
+        // What the plain machine stores is not bound: any type will do.
+        let to = match held.and_then(|held| held.carried).map(|array| array.kind) {
+            Some(Kind::Array { element }) => element,
+            _ => self.inner(array),
+        };
+        let destination = format!("a cell of {}", self.name(array));
+        vec![Movement {
+            value,
+            to,
+            destination,
+        }]
+    }
+
+    /// Each actual is bound to need; then it is amplified or bound to inner.
+    fn actuals(&self, procedure: usize, first: usize) -> Vec<Movement> {
+        let callee = &self.program.procedures[procedure];
+        let called = self.names().procedure(procedure);
+        let of_owner = |kind| matches!(kind, Kind::Record { of } if Some(of) == callee.owner);
+        let mut movements = Vec::new();
+        for formal in 0..callee.formals {
+            let name = self.names().variable(procedure, formal);
+            let variable = &callee.variables[formal];
+            let needed = Movement {
+                value: self.variable(Field::Actual(formal), first + formal),
+                to: variable.need.unwrap_or(variable.inner),
+                destination: format!("what {called} needs as {name}"),
+            };
+            let kind = needed.value.carried.map(|carried| carried.kind);
+            let inner = self.program.qualified[variable.inner].kind;
+            let amplified = kind.is_some_and(of_owner) && of_owner(inner);
+            let inside = self.onward(&needed, variable.inner, format!("{name} in {called}"));
+            movements.push(needed);
+            movements.extend(inside.filter(|_| !amplified));
+        }
+        movements
+    }
+
+    /// A returned value is bound to the result, then to the variable of the
+    /// caller that keeps it.
+    fn returned(&self, value: Moved) -> Vec<Movement> {
+        let Some(to) = self.procedure().result else {
+            return Vec::new();
+        };
+        let own = self.names().procedure(self.place.procedure);
+        let result = Movement {
+            value,
+            to,
+            destination: format!("the result of {own}"),
+        };
+        let call = self.machine.opened_by();
+        let kept = call.and_then(|call| match operation(self.program, call) {
+            Operation::Call { result, .. } => Some((call.procedure, result?)),
+            _ => None,
+        });
+        let kept = kept.and_then(|(caller, to)| {
+            let inner = self.program.procedures[caller].variables[to].inner;
+            let name = self.names().variable(caller, to);
+            let caller = self.names().procedure(caller);
+            self.onward(&result, inner, format!("{name} in {caller}"))
+        });
+        [result].into_iter().chain(kept).collect()
+    }
+
+    /// A value that is bound once more, now with the rights of its first
+    /// binding.
+    fn onward(&self, first: &Movement, to: usize, destination: String) -> Option<Movement> {
+        let Carried { kind, .. } = first.value.carried?;
+        let rights = self.program.qualified[first.to].rights;
+        let value = Moved {
+            parts: first.value.parts.clone(),
+            source: first.destination.clone(),
+            blank: None,
+            carried: Some(Carried { kind, rights }),
+        };
+        Some(Movement {
+            value,
+            to,
+            destination,
+        })
+    }
+
+    fn variable(&self, part: Field, variable: usize) -> Moved {
+        let name = self.name(variable);
+        let blank = format!("`{name}`");
+        self.moved(vec![part], name, blank, self.machine.variable(variable))
+    }
+
+    /// The cell of a fetch.
+    fn cell(&self, array: usize, index: usize) -> Moved {
+        let index = self.machine.integer(index).unwrap_or(0) as usize;
+        let name = self.name(array);
+        let object = self.machine.object(array).unwrap_or(0);
+        let size = self.machine.size(object);
+        let blank = format!("cell {index} of `{name}` (object {object}, size {size})");
+        let cell = self.machine.cell(array, index);
+        let source = format!("{name}[{index}]");
+        self.moved(vec![Field::B, Field::C], source, blank, cell)
+    }
+
+    /// The slot of a getslot.
+    fn slot(&self, record: usize, slot: usize) -> Moved {
+        let name = self.name(record);
+        let slot_name = self.names().slot(self.owner(), slot);
+        let object = self.machine.object(record).unwrap_or(0);
+        let blank = format!("slot {slot_name} of `{name}` (object {object})");
+        let cell = self.machine.cell(record, slot);
+        let source = format!("{name}.{slot_name}");
+        self.moved(vec![Field::B, Field::K], source, blank, cell)
+    }
+
+    fn moved(&self, parts: Vec<Field>, source: String, blank: String, cell: Cell) -> Moved {
+        let source = match cell.map(|held| held.value) {
+            Some(Value::Object(number)) => format!("{source}, object {number}"),
+            _ => source,
+        };
+        Moved {
+            parts,
+            source,
+            blank: cell.is_none().then_some(blank),
+            carried: cell.and_then(|held| held.carried),
+        }
+    }
+}
