@@ -5,6 +5,7 @@
 //! where the two disagree, that is said and nothing else.
 
 mod engine;
+mod expect;
 mod explain;
 mod files;
 mod options;
@@ -66,11 +67,12 @@ pub fn main(arguments: &[OsString]) -> u8 {
 fn perform(task: Task, output: &mut Output) -> Result<u8, Failure> {
     match task {
         Task::Help => {
-            write!(output, "{USAGE}\n\n{HELP}")?;
+            write!(output, "{USAGE}\n\n{HELP}\n{}", expect::HELP)?;
             Ok(ACCEPTED)
         }
         Task::Check(source) => check(&Source::read(&source)?, output),
         Task::Run(run) => run::run(&run, output),
+        Task::Test(files) => expect::test(&files, output),
         Task::Assemble { from, to } => {
             let sheet = source::assembled(&from)?.sheet;
             files::write(&to, &sheet, output)?;

@@ -7,6 +7,7 @@ pub const USAGE: &str = "usage: wennathig check FILE [--text | --bytes]
        wennathig run FILE [--text | --bytes] [--reads FILE] [--fuel N] [--memory N] [--report N] [--watch] [--trace]
        wennathig asm FILE -o OUT
        wennathig dis FILE [-o OUT]
+       wennathig test FILE..
        wennathig help";
 
 pub const HELP: &str = "\
@@ -26,8 +27,8 @@ OUT     the file to be written; - is standard output, as dis has it without -o
 --watch        runs on the watched machine, which tests every kind and right, and runs also what check refuses for 6 to 9
 --trace        first lists every step, as the second engine makes it
 
-Exit status: 0 accepted (run: and run to its stop, whatever stop that is), 1 refused, 2 misuse or an error in a text,
-3 the output cannot be written, or the two engines disagree.
+Exit status: 0 accepted (run: and run to its stop, whatever stop that is), 1 refused (test: something failed), 2 misuse
+or an error in a text, 3 the output cannot be written, or the two engines disagree.
 ";
 
 #[derive(Debug)]
@@ -35,6 +36,7 @@ pub enum Task {
     Help,
     Check(SheetFile),
     Run(Run),
+    Test(Vec<OsString>),
     Assemble { from: OsString, to: OsString },
     Disassemble { from: OsString, to: OsString },
 }
@@ -83,6 +85,7 @@ impl Task {
             Some("help" | "--help" | "-h") => Task::Help,
             Some("check") => Task::Check(given.sheet()?),
             Some("run") => Task::Run(given.run()?),
+            Some("test") => Task::Test(given.files()?),
             Some("asm") => Task::Assemble {
                 from: given.file()?,
                 to: match given.value("-o") {
@@ -142,6 +145,13 @@ impl Given {
         match self.files.is_empty() {
             true => misuse("which file?"),
             false => Ok(self.files.remove(0)),
+        }
+    }
+
+    fn files(&mut self) -> Result<Vec<OsString>, Failure> {
+        match self.files.is_empty() {
+            true => misuse("which file?"),
+            false => Ok(std::mem::take(&mut self.files)),
         }
     }
 

@@ -1,0 +1,95 @@
+//! Texts held against their heads, which say what is expected of their sheets.
+
+mod head;
+mod lines;
+mod trial;
+
+use crate::files::{self, name_of};
+use crate::output::Output;
+use crate::{show, Failure, ACCEPTED, FAILED, MISUSE, REFUSED};
+use head::Head;
+use std::ffi::{OsStr, OsString};
+use std::io::Write;
+use trial::Comparison;
+
+pub const HELP: &str = "\
+test    holds each text against its head, the lines that begin with # at its start. From '# expect:' on, each of these
+        says one thing, as KEY: VALUE; what stands before is prose. A key that is not known, stands elsewhere or says
+        nothing about the sheet is an error. Prints a line for each text, and one for each thing that differs.
+          expect    accepted 0 0; or refused N PLACE; or error LINE:COLUMN, of a text that does not assemble
+          at        the line refused, in error or stopped at, without its comment
+          stop      of an accepted sheet: its stop, such as 11 done; both machines are run, and must agree in all
+          watch     of a sheet refused for 6 to 9: the stop of the watched machine
+          watch-at  the line at which that one stops, where at has another
+          put       the words put; none by default
+          reads, fuel, memory, report    what is lent to the run, as by the options of run
+";
+
+/// Tries every text, also after one that fails. The status is the most severe.
+pub fn test(files: &[OsString], output: &mut Output) -> Result<u8, Failure> {
+    let widths = files.iter().map(|file| name_of(file).chars().count());
+    let width = widths.max().unwrap_or_default();
+    let (mut passed, mut failed, mut status) = (0, 0, ACCEPTED);
+    for file in files {
+        let name = name_of(file);
+        match tried(file) {
+            Ok(tried) => {
+                let differ = tried.comparisons.iter().filter(|one| !one.holds()).count();
+                passed += tried.comparisons.len() - differ;
+                failed += differ;
+                status = status.max(if differ > 0 { REFUSED } else { ACCEPTED });
+                write!(output, "{}", tried.said(&name, width))?;
+            }
+            // Of a text in error nothing is compared: it must not look as if nothing had failed.
+            Err(failure) => {
+                failed += 1;
+                status = status.max(said(failure, output)?);
+            }
+        }
+    }
+    writeln!(output, "{passed} passed, {failed} failed")?;
+    Ok(status)
+}
+
+/// Says on standard error why a text cannot be tried, after what was printed
+/// before, and gives the status.
+fn said(failure: Failure, output: &mut Output) -> Result<u8, Failure> {
+    output.flush()?;
+    let (message, status) = match failure {
+        Failure::Misuse(message) => (message, MISUSE),
+        Failure::Failed(message) => (message, FAILED),
+    };
+    let _ = writeln!(std::io::stderr(), "wennathig: {message}");
+    Ok(status)
+}
+
+struct Tried {
+    head: Head,
+    comparisons: Vec<Comparison>,
+}
+
+impl Tried {
+    /// One line where all holds, or else one for each thing that differs.
+    fn said(&self, name: &str, width: usize) -> String {
+        let differ = self.comparisons.iter().filter(|one| !one.holds());
+        let lines: Vec<String> = differ
+            .map(|one| format!("FAILED  {name}: {one}\n"))
+            .collect();
+        match lines.is_empty() {
+            true => format!("ok      {name:<width$}   {}\n", self.head),
+            false => lines.concat(),
+        }
+    }
+}
+
+fn tried(file: &OsStr) -> Result<Tried, Failure> {
+    let name = name_of(file);
+    let text = String::from_utf8(files::read(file)?)
+        .map_err(|_| Failure::Misuse(format!("{name}: expected a text in UTF-8")))?;
+    let head = Head::read(&text).map_err(|error| {
+        let shown = show::line(&text, error.span.line, &[error.span]);
+        Failure::Misuse(format!("{name}:{error}\n{shown}"))
+    })?;
+    let comparisons = trial::compare(&text, &head)?;
+    Ok(Tried { head, comparisons })
+}
