@@ -48,35 +48,65 @@ impl Comparisons {
 /// sheet is not run.
 pub fn compare(text: &str, head: &Head) -> Result<Vec<Comparison>, Failure> {
     let mut all = Comparisons::default();
-    let (verdict, line, assembled) = match assemble(text) {
-        Err(error) => {
-            let (line, column) = (error.span.line, error.span.start);
-            (Verdict::Error { line, column }, Some(line), None)
-        }
-        Ok(assembled) => match engine::check(&assembled.sheet)? {
-            None => (Verdict::Accepted, None, Some(assembled)),
-            Some(Refusal { number, place }) => {
-                let line = line_at(&assembled, place);
-                (Verdict::Refused { number, place }, line, Some(assembled))
-            }
-        },
-    };
-    all.add("the verdict", head.verdict.to_string(), verdict.to_string());
+    let judged = Judged::new(text)?;
+    let (expected, found) = (head.verdict.to_string(), judged.verdict.to_string());
+    all.add("the verdict", expected, found);
     if let Some(at) = &head.at {
-        all.add("the line", at, line_of(text, line));
+        let what = match head.verdict {
+            Verdict::Error { .. } => "the line in error",
+            Verdict::Accepted | Verdict::Refused { .. } => "the line refused",
+        };
+        all.add(what, at, line_of(text, judged.line));
     }
-    if let (Some(run), Some(assembled), true) = (&head.run, assembled, verdict == head.verdict) {
+    let sheet = judged.assembled.filter(|_| judged.verdict == head.verdict);
+    if let (Some(run), Some(assembled)) = (&head.run, &sheet) {
         let trial = Trial {
             text,
-            assembled: &assembled,
+            assembled,
             run,
         };
-        match verdict {
+        match head.verdict {
             Verdict::Accepted => trial.both(&mut all)?,
             _ => trial.watched(head.at.as_ref(), &mut all)?,
         }
     }
     Ok(all.0)
+}
+
+/// What is found of a text as a whole.
+struct Judged {
+    verdict: Verdict,
+    /// The line refused or in error.
+    line: Option<usize>,
+    assembled: Option<Assembled>,
+}
+
+impl Judged {
+    fn new(text: &str) -> Result<Judged, Failure> {
+        let assembled = match assemble(text) {
+            Ok(assembled) => assembled,
+            Err(error) => {
+                let (line, column) = (error.span.line, error.span.start);
+                return Ok(Judged {
+                    verdict: Verdict::Error { line, column },
+                    line: Some(line),
+                    assembled: None,
+                });
+            }
+        };
+        let (verdict, line) = match engine::check(&assembled.sheet)? {
+            None => (Verdict::Accepted, None),
+            Some(Refusal { number, place }) => {
+                let line = line_at(&assembled, place);
+                (Verdict::Refused { number, place }, line)
+            }
+        };
+        Ok(Judged {
+            verdict,
+            line,
+            assembled: Some(assembled),
+        })
+    }
 }
 
 /// The line of the record at a byte of the sheet.
@@ -108,8 +138,8 @@ struct Ran {
 type Machine = fn(&Lent, &mut [u32]) -> Result<Outcome, Failure>;
 
 impl Trial<'_> {
-    /// An accepted sheet: what the head says is asked of both machines, and
-    /// what it does not say must be the same.
+    /// An accepted sheet: the head says what the plain machine gives, and the
+    /// watched one must give the same in all.
     fn both(&self, all: &mut Comparisons) -> Result<(), Failure> {
         let (plain, watched) = (self.ran(engine::run)?, self.ran(engine::watch)?);
         all.add("the stop", &self.run.stop, stop(&plain));
@@ -117,11 +147,11 @@ impl Trial<'_> {
         if let Some(at) = &self.run.at {
             all.add("the line stopped at", at, self.stopped_at(&plain));
         }
-        all.add("the watched stop", &self.run.stop, stop(&watched));
-        let put = joined(&self.run.put);
-        all.add("the watched words put", put, joined(&watched.put));
-        let expected = place(&plain);
-        all.add("the watched steps and place", expected, place(&watched));
+        all.add("the watched stop", stop(&plain), stop(&watched));
+        let (expected, found) = (joined(&plain.put), joined(&watched.put));
+        all.add("the watched words put", expected, found);
+        let (expected, found) = (steps_and_place(&plain), steps_and_place(&watched));
+        all.add("the watched steps and place", expected, found);
         Ok(())
     }
 
@@ -157,28 +187,25 @@ impl Trial<'_> {
         Ok(Ran { outcome, put })
     }
 
-    /// The line of the instruction stopped at, or that of main where its frame
-    /// finds no room.
+    /// The line of the instruction stopped at.
     fn stopped_at(&self, ran: &Ran) -> &str {
-        let program = parse(&self.assembled.sheet).ok();
-        let byte = program.and_then(|program| match ran.outcome {
-            Outcome::Refused { .. } => None,
-            Outcome::Stopped { stop, place, .. } => {
-                let main = &program.procedures[0];
-                let room = main.variables.len() + 2 <= self.lent().memory_words;
-                match stop == Stop::MemoryFull && !room {
-                    true => Some(main.place),
-                    false => {
-                        let procedure = &program.procedures[place.procedure];
-                        Some(procedure.instructions[place.instruction].place)
-                    }
-                }
-            }
-        });
-        line_of(
-            self.text,
-            byte.and_then(|byte| line_at(self.assembled, byte)),
-        )
+        let byte = self.stopped_at_byte(ran);
+        let line = byte.and_then(|byte| line_at(self.assembled, byte));
+        line_of(self.text, line)
+    }
+
+    /// That of main where its frame finds no room.
+    fn stopped_at_byte(&self, ran: &Ran) -> Option<usize> {
+        let Outcome::Stopped { stop, place, .. } = ran.outcome else {
+            return None;
+        };
+        let program = parse(&self.assembled.sheet).ok()?;
+        let main = &program.procedures[0];
+        if stop == Stop::MemoryFull && main.variables.len() + 2 > self.lent().memory_words {
+            return Some(main.place);
+        }
+        let procedure = &program.procedures[place.procedure];
+        Some(procedure.instructions[place.instruction].place)
     }
 }
 
@@ -191,8 +218,7 @@ fn joined(words: &[u32]) -> String {
     words.join(" ")
 }
 
-/// The steps made, and the place at which the last one ended.
-fn place(ran: &Ran) -> String {
+fn steps_and_place(ran: &Ran) -> String {
     match ran.outcome {
         Outcome::Refused { place, .. } => format!("byte {place}"),
         Outcome::Stopped {
