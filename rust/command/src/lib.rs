@@ -67,7 +67,8 @@ pub fn main(arguments: &[OsString]) -> u8 {
 fn perform(task: Task, output: &mut Output) -> Result<u8, Failure> {
     match task {
         Task::Help => {
-            write!(output, "{USAGE}\n\n{HELP}\n{}", expect::HELP)?;
+            let test = expect::ABOUT.join("\n        ");
+            write!(output, "{USAGE}\n\n{HELP}\ntest    {test}\n")?;
             Ok(ACCEPTED)
         }
         Task::Check(source) => check(&Source::read(&source)?, output),

@@ -12,18 +12,20 @@ use std::ffi::{OsStr, OsString};
 use std::io::Write;
 use trial::Comparison;
 
-pub const HELP: &str = "\
-test    holds each text against its head, the lines that begin with # at its start. From '# expect:' on, each of these
-        says one thing, as KEY: VALUE; what stands before is prose. A key that is not known, stands elsewhere or says
-        nothing about the sheet is an error. Prints a line for each text, and one for each thing that differs.
-          expect    accepted 0 0; or refused N PLACE; or error LINE:COLUMN, of a text that does not assemble
-          at        the line refused, in error or stopped at, without its comment
-          stop      of an accepted sheet: its stop, such as 11 done; both machines are run, and must agree in all
-          watch     of a sheet refused for 6 to 9: the stop of the watched machine
-          watch-at  the line at which that one stops, where at has another
-          put       the words put; none by default
-          reads, fuel, memory, report    what is lent to the run, as by the options of run
-";
+/// What the help says of the task.
+pub const ABOUT: &[&str] = &[
+    "holds each text against its head, the lines at its start that begin with #. From '# expect:' on, each",
+    "of these says one thing, as '# KEY: VALUE'; what stands before is prose. Any other line there, a value",
+    "that is not of its form and a key that says nothing about the sheet are errors. Prints a line for each",
+    "text, one for each thing that differs, and last 'N passed, M failed'.",
+    "  expect    accepted 0 0, or refused NUMBER PLACE, or error LINE:COLUMN where the text does not assemble",
+    "  at        the line refused, in error or stopped at, without its comment",
+    "  stop      runs an accepted sheet: its stop, such as 11 done; the watched machine must give the same",
+    "  watch     runs a sheet refused for 6 to 9: the stop of the watched machine",
+    "  watch-at  the line at which that one stops, where it is not the line refused",
+    "  put       the words put by the run, none by default",
+    "  reads, fuel, memory, report    what is lent to the run, as by the options of run",
+];
 
 /// Tries every text, also after one that fails. The status is the most severe.
 pub fn test(files: &[OsString], output: &mut Output) -> Result<u8, Failure> {
