@@ -3,7 +3,7 @@
 
 use super::lines::{self, decimal, Line};
 use crate::options::MAX_REPORT;
-use crate::words::words;
+use crate::words;
 use std::fmt;
 use std::ops::RangeInclusive;
 use text::Error;
@@ -63,8 +63,7 @@ impl fmt::Display for Head {
 
 /// A number with its word, for example `11 done`.
 pub fn numbered(number: u64) -> String {
-    let said = words(number);
-    let word = said.split(':').next().unwrap_or_default();
+    let word = words::of(number).map_or("", |(word, _)| word);
     format!("{number} {word}")
 }
 

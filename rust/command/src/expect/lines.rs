@@ -1,5 +1,6 @@
 //! The lines `# KEY: VALUE` of a head.
 
+use crate::quote::quoted;
 use std::str::FromStr;
 use text::{Error, Span};
 
@@ -87,7 +88,7 @@ impl<'a> Line<'a> {
     }
 
     fn unknown(&self) -> Error {
-        let (keys, key) = (KEYS.join(", "), self.key);
+        let (keys, key) = (KEYS.join(", "), quoted(self.key));
         let message = format!("expected a key, one of {keys}, and a colon, found `{key}`");
         Error::new(self.key_span, message)
     }
@@ -101,7 +102,7 @@ impl<'a> Line<'a> {
     }
 
     pub fn malformed(&self, expected: &str) -> Error {
-        let message = format!("expected {expected}, found `{}`", self.value);
+        let message = format!("expected {expected}, found `{}`", quoted(self.value));
         Error::new(self.value_span, message)
     }
 }

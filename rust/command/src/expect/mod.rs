@@ -4,9 +4,11 @@ mod head;
 mod lines;
 mod trial;
 
-use crate::files::{self, name_of};
+use crate::failure::{Faulty, FileError};
+use crate::files::name_of;
 use crate::output::Output;
-use crate::{show, Failure, ACCEPTED, FAILED, MISUSE, REFUSED};
+use crate::paint::When;
+use crate::{source, Failure, ACCEPTED, REFUSED};
 use head::Head;
 use std::ffi::{OsStr, OsString};
 use std::io::Write;
@@ -45,23 +47,14 @@ pub fn test(files: &[OsString], output: &mut Output) -> Result<u8, Failure> {
             // Of a text in error nothing is compared: it must not look as if nothing had failed.
             Err(failure) => {
                 failed += 1;
-                status = status.max(said(failure, output)?);
+                status = status.max(failure.status());
+                // What was printed before comes first.
+                output.flush()?;
+                failure.say(When::Auto.errors());
             }
         }
     }
     writeln!(output, "{passed} passed, {failed} failed")?;
-    Ok(status)
-}
-
-/// Says on standard error why a text cannot be tried, after what was printed
-/// before, and gives the status.
-fn said(failure: Failure, output: &mut Output) -> Result<u8, Failure> {
-    output.flush()?;
-    let (message, status) = match failure {
-        Failure::Misuse(message) => (message, MISUSE),
-        Failure::Failed(message) => (message, FAILED),
-    };
-    let _ = writeln!(std::io::stderr(), "wennathig: {message}");
     Ok(status)
 }
 
@@ -85,13 +78,18 @@ impl Tried {
 }
 
 fn tried(file: &OsStr) -> Result<Tried, Failure> {
-    let name = name_of(file);
-    let text = String::from_utf8(files::read(file)?)
-        .map_err(|_| Failure::Misuse(format!("{name}: expected a text in UTF-8")))?;
-    let head = Head::read(&text).map_err(|error| {
-        let shown = show::line(&text, error.span.line, &[error.span]);
-        Failure::Misuse(format!("{name}:{error}\n{shown}"))
-    })?;
+    let text = source::text_of(file)?;
+    let head = match Head::read(&text) {
+        Ok(head) => head,
+        Err(error) => {
+            let (span, message) = (Some(error.span), error.message);
+            return Err(Failure::Faulty(Faulty {
+                path: file.to_owned(),
+                text,
+                errors: vec![FileError { span, message }],
+            }));
+        }
+    };
     let comparisons = trial::compare(&text, &head)?;
     Ok(Tried { head, comparisons })
 }

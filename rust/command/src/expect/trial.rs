@@ -2,6 +2,7 @@
 
 use super::head::{numbered, Head, Run, Verdict};
 use crate::engine::{self, Lent, Refusal};
+use crate::quote::escaped;
 use crate::{progress, Failure};
 use reference::{parse, Outcome, Place, Stop};
 use std::fmt;
@@ -21,11 +22,8 @@ impl Comparison {
 
 impl fmt::Display for Comparison {
     fn fmt(&self, out: &mut fmt::Formatter) -> fmt::Result {
-        let Comparison {
-            what,
-            expected,
-            found,
-        } = self;
+        let what = self.what;
+        let [expected, found] = [&self.expected, &self.found].map(|said| escaped(said));
         write!(out, "{what}: expected '{expected}', found '{found}'")
     }
 }

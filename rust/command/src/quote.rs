@@ -1,0 +1,59 @@
+//! What was found, as a message may show it: nothing that a terminal obeys,
+//! and not too much of it.
+
+use std::fmt::Write;
+
+/// The most characters that are quoted.
+const LONGEST: usize = 40;
+
+/// Escaped and shortened.
+pub fn quoted(said: &str) -> String {
+    match said.chars().nth(LONGEST) {
+        None => escaped(said),
+        Some(_) => {
+            let start: String = said.chars().take(LONGEST).collect();
+            format!("{}..", escaped(&start))
+        }
+    }
+}
+
+/// With what is not shown as it stands written out, as in `\u{1b}`.
+pub fn escaped(said: &str) -> String {
+    let mut out = String::new();
+    for character in said.chars() {
+        match character {
+            '\n' => out.push_str("\\n"),
+            '\r' => out.push_str("\\r"),
+            '\t' => out.push_str("\\t"),
+            hidden if is_hidden(hidden) => {
+                // Writing to a string cannot fail.
+                let _ = write!(out, "{}", hidden.escape_unicode());
+            }
+            shown => out.push(shown),
+        }
+    }
+    out
+}
+
+/// Characters that a terminal obeys, or that take no column of it: controls,
+/// and those that format or turn the text.
+pub fn is_hidden(character: char) -> bool {
+    character.is_control()
+        || matches!(character,
+            '\u{ad}' | '\u{61c}' | '\u{180e}' | '\u{200b}'..='\u{200f}' | '\u{2028}'..='\u{202e}'
+            | '\u{2060}'..='\u{206f}' | '\u{feff}' | '\u{fff9}'..='\u{fffb}' | '\u{e0000}'..='\u{e007f}')
+}
+
+#[cfg(test)]
+mod tests {
+    use super::{escaped, quoted, LONGEST};
+
+    #[test]
+    fn what_a_terminal_obeys_is_written_out() {
+        let said = "a\x1b[31m\u{202e}b\n\u{9b}é";
+        assert_eq!(escaped(said), "a\\u{1b}[31m\\u{202e}b\\n\\u{9b}é");
+        assert_eq!(quoted("short"), "short");
+        let long = "x".repeat(LONGEST + 1);
+        assert_eq!(quoted(&long), format!("{}..", &long[1..]));
+    }
+}
