@@ -67,8 +67,8 @@ pub fn main(arguments: &[OsString]) -> u8 {
 fn perform(task: Task, output: &mut Output) -> Result<u8, Failure> {
     match task {
         Task::Help => {
-            let test = expect::ABOUT.join("\n        ");
-            write!(output, "{USAGE}\n\n{HELP}\ntest    {test}\n")?;
+            let (about, heads) = (expect::ABOUT.join("\n        "), expect::HEADS.join("\n"));
+            write!(output, "{USAGE}\n\n{HELP}\ntest    {about}\n\n{heads}\n")?;
             Ok(ACCEPTED)
         }
         Task::Check(source) => check(&Source::read(&source)?, output),
