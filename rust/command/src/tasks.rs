@@ -12,12 +12,14 @@ pub struct Known {
     pub about: &'static [&'static str],
 }
 
-/// A task: its word, what may follow it, what it does, its options.
+/// A task: its word, what may follow it, what it does, its options, and what
+/// only its own help says.
 pub struct Entry {
     pub word: &'static str,
     pub arguments: &'static str,
     pub about: &'static [&'static str],
     pub options: &'static [&'static [Known]],
+    pub more: &'static [&'static str],
 }
 
 pub const TASKS: &[Entry] = &[
@@ -29,6 +31,7 @@ pub const TASKS: &[Entry] = &[
             "that breaks it marked, and what it needs and has. The first line is that of wennathig-check.",
         ],
         options: &[OF_SHEETS, OF_ALL],
+        more: &[],
     },
     Entry {
         word: "run",
@@ -38,30 +41,35 @@ pub const TASKS: &[Entry] = &[
             "and its place",
         ],
         options: &[OF_SHEETS, OF_RUNS, OF_ALL],
+        more: &[],
     },
     Entry {
         word: "watch",
         arguments: "[OPTION].. FILE..",
         about: &["is run --watch"],
         options: &[OF_SHEETS, OF_RUNS, OF_ALL],
+        more: &[],
     },
     Entry {
         word: "asm",
         arguments: "FILE -o OUT",
         about: &["makes the bytes of a text; a text with an error is not written"],
         options: &[OF_WRITERS, OF_ALL],
+        more: &[],
     },
     Entry {
         word: "dis",
         arguments: "FILE [-o OUT]",
         about: &["makes a text of any bytes, which assembles to the same bytes"],
         options: &[OF_WRITERS, OF_ALL],
+        more: &[],
     },
     Entry {
         word: "test",
         arguments: "FILE..",
         about: expect::ABOUT,
         options: &[OF_ALL],
+        more: expect::HEADS,
     },
 ];
 

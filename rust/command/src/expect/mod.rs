@@ -16,16 +16,21 @@ use trial::Comparison;
 
 /// What the help says of the task.
 pub const ABOUT: &[&str] = &[
-    "holds each text against its head, the lines at its start that begin with #. From '# expect:' on, each",
-    "of these says one thing, as '# KEY: VALUE'; what stands before is prose. Any other line there, a value",
-    "that is not of its form and a key that says nothing about the sheet are errors. Prints a line for each",
-    "text, one for each thing that differs, and last 'N passed, M failed'.",
+    "holds each text against its head, which says what is expected of it; prints a line for each text,",
+    "one for each thing that differs, and last 'N passed, M failed'",
+];
+
+/// What the help of the task says of heads.
+pub const HEADS: &[&str] = &[
+    "The head of a text is the lines at its start that begin with #. From '# expect:' on, each of these says one",
+    "thing, as '# KEY: VALUE'; what stands before is prose. Any other line there, a key elsewhere in the text, a",
+    "value that is not of its form and a key that says nothing about the sheet are errors.",
     "  expect    accepted 0 0, or refused NUMBER PLACE, or error LINE:COLUMN where the text does not assemble",
     "  at        the line refused, in error or stopped at, without its comment",
     "  stop      runs an accepted sheet: its stop, such as 11 done; the watched machine must give the same",
     "  watch     runs a sheet refused for 6 to 9: the stop of the watched machine",
     "  watch-at  the line at which that one stops, where it is not the line refused",
-    "  put       the words put by the run, none by default",
+    "  put       the words put by the run; none by default",
     "  reads, fuel, memory, report    what is lent to the run, as by the options of run",
 ];
 
