@@ -237,6 +237,11 @@ fn lines_that_cannot_be_meant_are_errors() {
         "2:3",
         "found `Stop`",
     );
+    // The colon makes the key.
+    let head = "# What is on the\n# report\n# expect: accepted 0 0";
+    holds(head, PUTS, "accepted 0 0", 1);
+    let head = "# expect: accepted 0 0\n# stop: 11 done\n# put";
+    errs(head, PUTS, "3:3", "found `put`");
     // A key twice, before the others, after the head.
     let twice = "# expect: accepted 0 0\n# fuel: 3\n# fuel: 4\n# stop: 11 done";
     errs(twice, PUTS, "3:3", "`fuel:` is said twice");

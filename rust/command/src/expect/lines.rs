@@ -30,6 +30,8 @@ enum Part {
 /// The lines of the head from `# expect:` on. All have a known key, and no
 /// other line does: a misspelt or misplaced one is not passed over.
 pub fn read(text: &str) -> Result<Vec<Line<'_>>, Error> {
+    // Some editors write a byte order mark before the first line.
+    let text = text.strip_prefix('\u{feff}').unwrap_or(text);
     let mut part = Part::Prose;
     let mut found: Vec<Line> = Vec::new();
     for (index, said) in text.lines().enumerate() {
@@ -38,10 +40,11 @@ pub fn read(text: &str) -> Result<Vec<Line<'_>>, Error> {
             continue;
         };
         let line = Line::new(comment, index + 1);
-        if part == Part::Prose && line.key == "expect" {
+        let is_known = comment.contains(':') && KEYS.contains(&line.key);
+        if part == Part::Prose && is_known && line.key == "expect" {
             part = Part::Keys;
         }
-        match (part, KEYS.contains(&line.key)) {
+        match (part, is_known) {
             (Part::Keys, true) if found.iter().any(|other| other.key == line.key) => {
                 return Err(line.wrong("is said twice"));
             }
@@ -113,4 +116,21 @@ fn trimmed(part: &str, line: usize, column: usize) -> Span {
     let start = column + blank;
     let end = start + part.trim().chars().count();
     Span { line, start, end }
+}
+
+#[cfg(test)]
+mod tests {
+    use super::read;
+
+    #[test]
+    fn a_line_is_a_key_and_a_value_however_the_editor_ends_it() {
+        let text =
+            "\u{feff}# \u{e9}: prose\r\n# expect: accepted 0 0\r\n#put:  1 2 \r\n#\r\nput: 3\r\n";
+        let lines = read(text).expect("a head");
+        let said: Vec<_> = lines.iter().map(|line| (line.key, line.value)).collect();
+        assert_eq!(said, [("expect", "accepted 0 0"), ("put", "1 2")]);
+        let spans = (lines[1].key_span, lines[1].value_span);
+        assert_eq!((spans.0.line, spans.0.start, spans.0.end), (3, 2, 5));
+        assert_eq!((spans.1.line, spans.1.start, spans.1.end), (3, 8, 11));
+    }
 }
