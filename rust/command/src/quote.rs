@@ -36,12 +36,10 @@ pub fn escaped(said: &str) -> String {
 }
 
 /// Characters that a terminal obeys, or that take no column of it: controls,
-/// and those that format or turn the text.
+/// and those that format, turn or join the text.
 pub fn is_hidden(character: char) -> bool {
-    character.is_control()
-        || matches!(character,
-            '\u{ad}' | '\u{61c}' | '\u{180e}' | '\u{200b}'..='\u{200f}' | '\u{2028}'..='\u{202e}'
-            | '\u{2060}'..='\u{206f}' | '\u{feff}' | '\u{fff9}'..='\u{fffb}' | '\u{e0000}'..='\u{e007f}')
+    let is_plain = matches!(character, '\\' | '\'' | '"' | '\u{a0}');
+    !is_plain && character.escape_debug().len() > 1
 }
 
 #[cfg(test)]
