@@ -203,6 +203,19 @@ fn each_thing_that_differs_is_named() {
     fails("# expect: accepted 0 0", WRONG, &differ, 0);
 }
 
+/// What a terminal would obey is written out, wherever it comes from.
+#[test]
+fn what_is_found_is_quoted() {
+    let differ = ["the line stopped at: expected '\\u{1b}[2J', found 'return'"];
+    let head = "# expect: accepted 0 0\n# stop: 11 done\n# put: 1 2\n# at: \u{1b}[2J";
+    fails(head, PUTS, &differ, 6);
+    let said = tried("# expect: accepted 0 0\n# \u{1b}[2J: 3", PUTS);
+    assert!(!said.errors.contains('\u{1b}'), "{}", said.errors);
+    let twice = wennathig(&["test", "-", "-"], PUTS.as_bytes());
+    assert_eq!(status(&twice), 2, "{twice:?}");
+    assert!(stderr(&twice).contains("only once"), "{twice:?}");
+}
+
 #[test]
 fn lines_that_cannot_be_meant_are_errors() {
     // No key that opens the head, or none that is known.
