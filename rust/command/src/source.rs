@@ -75,7 +75,7 @@ pub fn assembled(path: &OsStr) -> Result<Assembled, Failure> {
 
 /// The sheet of a text, and the text.
 fn assembled_of(path: &OsStr, text: String) -> Result<(Assembled, String), Failure> {
-    let errors = match assemble(&text).map_err(|error| vec![error]) {
+    let errors = match assemble(&text) {
         Ok(assembled) => return Ok((assembled, text)),
         Err(errors) => errors.into_iter().map(|error| FileError {
             span: Some(error.span),

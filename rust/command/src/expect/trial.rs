@@ -83,8 +83,12 @@ impl Judged {
     fn new(text: &str) -> Result<Judged, Failure> {
         let assembled = match assemble(text) {
             Ok(assembled) => assembled,
-            Err(error) => {
-                let (line, column) = (error.span.line, error.span.start);
+            // There is at least one; the first counts.
+            Err(errors) => {
+                let first = errors
+                    .first()
+                    .map(|error| (error.span.line, error.span.start));
+                let (line, column) = first.unwrap_or_default();
                 return Ok(Judged {
                     verdict: Verdict::Error { line, column },
                     line: Some(line),
