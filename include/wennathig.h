@@ -56,14 +56,15 @@ WN_ACCEPTED       =  0, /* c   accepted: the sheet keeps every rule             
 WN_OVERLONG       =  1, /* crw overlong: more than 32,768 bytes; place 0             */
 WN_TORN           =  2, /* crw torn: a record is cut short, or bytes are left over,  */
                         /*     whose place is then the first of these                */
-WN_STRAY_MARK     =  3, /* crw stray mark: not the mark that is due here             */
+WN_STRAY_MARK     =  3, /* crw stray mark: not the mark that is due                  */
 WN_BAD_EDITION    =  4, /* crw edition: not 1                                        */
-WN_OFF_SCALE      =  5, /* crw off scale: a field outside the layout                 */
-WN_OPEN_EXPOSED   =  6, /* cr  loose key: the right open where it may not stand      */
+WN_OFF_SCALE      =  5, /* crw off scale: a field is outside the layout              */
+WN_OPEN_EXPOSED   =  6, /* cr  loose key: the right open stands where it may not     */
 WN_FALSE_RAISE    =  7, /* cr  false raise: need and inner of a formal disagree      */
 WN_WRONG_KIND     =  8, /* cr  wrong kind: base, element or form of return           */
 WN_MISSING_RIGHT  =  9, /* cr  no licence: a right is lacking                        */
-WN_BIG_MEMORY     = 10, /*  rw big bench: more than 65,536 words are lent; place 0   */
+WN_BIG_MEMORY     = 10, /*  rw big bench: more than 65,536 words of memory are lent; */
+                        /*     place 0                                               */
 
 /* stops, each with steps, words put, procedure and instruction */
 WN_DONE           = 11, /*  rw done: the first frame, main's, returned               */
@@ -72,7 +73,7 @@ WN_BLANK          = 13, /*  rw blank: an empty variable, cell or slot is used   
 WN_PAST_END       = 14, /*  rw past the tray: the index is not below the size        */
 WN_READS_ENDED    = 15, /*  rw reads ended: none is left to take                     */
 WN_REPORT_FULL    = 16, /*  rw report full: no word is free                          */
-WN_MEMORY_FULL    = 17, /*  rw bench full: the units exceed the words lent           */
+WN_MEMORY_FULL    = 17, /*  rw bench full: the units exceed the words of memory lent */
 WN_CARRIED_KIND   = 18, /*   w mixed sample: a value of the wrong kind               */
 WN_CARRIED_RIGHT  = 19  /*   w unlicensed: a value does not carry the right needed   */
 };

@@ -9,9 +9,10 @@ FILE  a sheet, as bytes or as text (docs/TEXT.md); - is standard input, at most 
 ";
 
 const STATUSES: &str = "\
-Exit status: 0 accepted (run: and run to its stop, whatever stop that is), 1 refused, 2 misuse, an error in a
-text or a file that cannot be read, 3 the output cannot be written, or the two engines disagree, 4 a run stopped
-otherwise than by 11 done, with --expect-done. Of several files the first of 3, 2, 1, 4 that there is.
+Exit status: 0 accepted (run: and run to its stop, whatever stop that is), 1 refused (test: something differs),
+2 misuse, an error in a text or a file that cannot be read, 3 the output cannot be written, or the two engines
+disagree, 4 a run stopped otherwise than by 11 done, with --expect-done. Of several files the first of 3, 2, 1, 4
+that there is.
 ";
 
 /// The usage line of a task.
@@ -24,7 +25,7 @@ pub fn usages() -> String {
     let of_tasks = TASKS
         .iter()
         .map(|task| format!("wennathig {} {}\n", task.word, task.arguments));
-    let others = ["wennathig help [TASK]\n", "wennathig --version\n"];
+    let others = ["wennathig help [TASK]\n", "wennathig -V | --version\n"];
     let all: Vec<String> = of_tasks.chain(others.map(String::from)).collect();
     format!("usage: {}", all.join("       "))
 }
@@ -52,7 +53,13 @@ pub fn whole() -> String {
 pub fn of(task: &Entry) -> String {
     let about = entry(task.word, 7, task.about);
     let options: String = task.options.iter().map(|options| list(options)).collect();
-    format!("{}\n{about}\n{options}", usage(task))
+    let more: String = task.more.iter().map(|line| format!("{line}\n")).collect();
+    let more = if more.is_empty() {
+        more
+    } else {
+        format!("{more}\n")
+    };
+    format!("{}\n{about}\n{more}{options}", usage(task))
 }
 
 fn list(options: &[Known]) -> String {

@@ -7,6 +7,7 @@
 mod answer;
 mod arguments;
 mod engine;
+mod expect;
 mod explain;
 mod failure;
 mod files;
@@ -75,6 +76,7 @@ fn perform(task: Task, output: &mut Output) -> Result<u8, Failure> {
         Task::Version => writeln!(output, "wennathig {}", wennathig::VERSION)?,
         Task::Check(sheets) => return sheets::check(&sheets, output),
         Task::Run(run) => return run::run(&run, output),
+        Task::Test(files) => return expect::test(&files, output),
         Task::Assemble { from, to } => {
             writing::apart(&to, [OsStr::new(&from)].into_iter())?;
             let sheet = source::assembled(&from)?.sheet;

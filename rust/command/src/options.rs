@@ -13,6 +13,7 @@ pub enum Task {
     Version,
     Check(Sheets),
     Run(Run),
+    Test(Vec<OsString>),
     Assemble {
         from: OsString,
         to: OsString,
@@ -98,6 +99,7 @@ impl Task {
                 from: given.file()?,
                 to: given.value("-o").unwrap_or(OsStr::new("-")).to_owned(),
             }),
+            Kind::Test => Ok(Task::Test(files(&given)?)),
         }
     }
 }
@@ -128,7 +130,8 @@ fn about(words: &[OsString]) -> Result<Task, Failure> {
     }
 }
 
-fn sheets(given: &Given) -> Result<Sheets, Failure> {
+/// The files given, at least one; standard input is at most once one of them.
+fn files(given: &Given) -> Result<Vec<OsString>, Failure> {
     if given.files.is_empty() {
         return given.misuse("which file?");
     }
@@ -137,6 +140,11 @@ fn sheets(given: &Given) -> Result<Sheets, Failure> {
     if all.filter(|path| *path == "-").count() > 1 {
         return given.misuse("standard input can be read only once");
     }
+    Ok(given.files.clone())
+}
+
+fn sheets(given: &Given) -> Result<Sheets, Failure> {
+    let files = files(given)?.into_iter();
     let form = match either(given, "--text", "--bytes")? {
         (true, _) => Some(Form::Text),
         (_, true) => Some(Form::Bytes),
@@ -147,7 +155,6 @@ fn sheets(given: &Given) -> Result<Sheets, Failure> {
         (_, true) => Manner::Json,
         _ => Manner::Full,
     };
-    let files = given.files.iter().cloned();
     Ok(Sheets {
         files: files.map(|path| SheetFile { path, form }).collect(),
         manner,

@@ -63,15 +63,19 @@ impl Source {
     }
 }
 
+/// The text that a file holds.
+pub fn text_of(path: &OsStr) -> Result<String, Failure> {
+    as_text(path, files::read(path, MAX_TEXT)?)
+}
+
 /// The sheet of a file that holds a text.
 pub fn assembled(path: &OsStr) -> Result<Assembled, Failure> {
-    let text = as_text(path, files::read(path, MAX_TEXT)?)?;
-    Ok(assembled_of(path, text)?.0)
+    Ok(assembled_of(path, text_of(path)?)?.0)
 }
 
 /// The sheet of a text, and the text.
 fn assembled_of(path: &OsStr, text: String) -> Result<(Assembled, String), Failure> {
-    let errors = match assemble(&text).map_err(|error| vec![error]) {
+    let errors = match assemble(&text) {
         Ok(assembled) => return Ok((assembled, text)),
         Err(errors) => errors.into_iter().map(|error| FileError {
             span: Some(error.span),

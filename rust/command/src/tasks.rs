@@ -1,6 +1,8 @@
 //! The tasks and their options, as the arguments are read by and the help
 //! lists them.
 
+use crate::expect;
+
 /// An option of a task.
 pub struct Known {
     /// All names that it has, the long one last.
@@ -17,15 +19,18 @@ pub enum Kind {
     Watch,
     Assemble,
     Disassemble,
+    Test,
 }
 
-/// A task: its word, what may follow it, what it does, its options.
+/// A task: its word, what may follow it, what it does, its options, and what
+/// only its own help says.
 pub struct Entry {
     pub kind: Kind,
     pub word: &'static str,
     pub arguments: &'static str,
     pub about: &'static [&'static str],
     pub options: &'static [&'static [Known]],
+    pub more: &'static [&'static str],
 }
 
 pub const TASKS: &[Entry] = &[
@@ -38,6 +43,7 @@ pub const TASKS: &[Entry] = &[
             "that breaks it marked, and what it needs and has. The first line is that of wennathig-check.",
         ],
         options: &[OF_SHEETS, OF_ALL],
+        more: &[],
     },
     Entry {
         kind: Kind::Run,
@@ -48,6 +54,7 @@ pub const TASKS: &[Entry] = &[
             "and its place",
         ],
         options: &[OF_SHEETS, OF_RUNS, OF_ALL],
+        more: &[],
     },
     Entry {
         kind: Kind::Watch,
@@ -55,6 +62,7 @@ pub const TASKS: &[Entry] = &[
         arguments: "[OPTION].. FILE..",
         about: &["is run --watch"],
         options: &[OF_SHEETS, OF_RUNS, OF_ALL],
+        more: &[],
     },
     Entry {
         kind: Kind::Assemble,
@@ -62,6 +70,7 @@ pub const TASKS: &[Entry] = &[
         arguments: "FILE -o OUT",
         about: &["makes the bytes of a text; a text with an error is not written"],
         options: &[OF_WRITERS, OF_ALL],
+        more: &[],
     },
     Entry {
         kind: Kind::Disassemble,
@@ -69,6 +78,15 @@ pub const TASKS: &[Entry] = &[
         arguments: "FILE [-o OUT]",
         about: &["makes a text of any bytes, which assembles to the same bytes"],
         options: &[OF_WRITERS, OF_ALL],
+        more: &[],
+    },
+    Entry {
+        kind: Kind::Test,
+        word: "test",
+        arguments: "FILE..",
+        about: expect::ABOUT,
+        options: &[OF_ALL],
+        more: expect::HEADS,
     },
 ];
 

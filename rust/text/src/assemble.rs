@@ -1,14 +1,17 @@
 //! A text made into the bytes of a sheet.
 
+use crate::errors::Errors;
 use crate::field::Field;
 use crate::listing::{At, Entry, Listing};
 use crate::names::Names;
-use crate::outline::{Outline, Outlines, VariableOutline};
-use crate::procedure::Scope;
+use crate::outline::Outline;
+use crate::outlines::Outlines;
+use crate::procedure::{Owner, Scope};
 use crate::qualified::{declared, Table};
 use crate::raw;
 use crate::record::{Record, RecordKind, NONE};
 use crate::span::{Error, Span};
+use crate::syntax::VariableLine;
 use reference::layout::MAX_SLOTS;
 
 /// The bytes of a sheet, the lines they come from and the names in them.
@@ -18,38 +21,38 @@ pub struct Assembled {
     pub names: Names,
 }
 
-/// Makes the bytes of a text, or says where and why it is none.
-pub fn assemble(text: &str) -> Result<Assembled, Error> {
+/// Some editors write it before a text.
+const BYTE_ORDER_MARK: char = '\u{feff}';
+
+/// Makes the bytes of a text, or says where and why it is none: its errors in
+/// the order of the text, at most [`MAX_ERRORS`](crate::MAX_ERRORS).
+pub fn assemble(text: &str) -> Result<Assembled, Vec<Error>> {
+    let text = text.strip_prefix(BYTE_ORDER_MARK).unwrap_or(text);
     if raw::is_raw(text) {
         return raw::assemble(text);
     }
-    let outlines = Outlines::read(text)?;
+    let mut errors = Errors::default();
+    let outlines = Outlines::read(text, &mut errors);
+    // Where reading stopped, what is declared below is not known.
+    if errors.is_full() {
+        return Err(errors.sorted());
+    }
+    let mut table = Table::new(&outlines);
+    errors.next_pass();
+    table.declare(&mut errors);
+    errors.next_pass();
+    let types = outlines.type_records(&mut table, &mut errors);
+    errors.next_pass();
+    let procedures = outlines.procedure_records(&mut table, &mut errors);
+    if !errors.is_empty() {
+        return Err(errors.sorted());
+    }
     let names = outlines.names();
-    let mut table = Table::new(&names.types);
-    for (name, qualified, span) in &outlines.quals {
-        table.declare(name, qualified, *span)?;
-    }
-    let types = outlines.type_records(&mut table)?;
-    let mut procedures = Vec::new();
-    for number in 0..outlines.procedures.len() {
-        procedures.extend(outlines.procedure_records(number, &names, &mut table)?);
-    }
-    let quals = table.made.iter().enumerate().map(|(number, made)| Located {
-        at: At::Qualified(number),
-        record: made.record(),
-        span: made.span,
-        parts: made.parts.clone(),
-    });
     let mut writer = Writer::default();
-    writer.add(
-        At::Header,
-        &header(&names, table.made.len()),
-        None,
-        Vec::new(),
-    );
-    for located in types.into_iter().chain(quals).chain(procedures) {
-        writer.add_located(located);
-    }
+    let header = header(&names, table.made.len());
+    writer.add(At::Header, &header, None, Vec::new());
+    let located = types.into_iter().chain(table.records()).chain(procedures);
+    located.for_each(|located| writer.add_located(located));
     let Writer { sheet, listing } = writer;
     Ok(Assembled {
         sheet,
@@ -105,108 +108,151 @@ impl Writer {
     }
 }
 
-impl Outlines {
-    fn type_records(&self, table: &mut Table) -> Result<Vec<Located>, Error> {
+impl Table<'_> {
+    fn records(&self) -> impl Iterator<Item = Located> + '_ {
+        let made = self.made.iter().enumerate();
+        made.map(|(number, made)| Located {
+            at: At::Qualified(number),
+            record: made.record(),
+            span: made.span,
+            parts: made.parts().to_vec(),
+        })
+    }
+}
+
+/// A number that is wrong, and told, is none; no record with it is written.
+fn value(number: Option<usize>) -> u16 {
+    number.map_or(NONE, |number| number as u16)
+}
+
+impl Outlines<'_> {
+    fn type_records(&self, table: &mut Table, errors: &mut Errors) -> Vec<Located> {
         let mut all = Vec::new();
         for (number, (line, span)) in self.types.iter().enumerate() {
             let mut values = vec![line.rights.len() as u16, line.slots.len() as u16];
-            let mut parts = Vec::new();
-            for (slot, (_, qualified)) in line.slots.iter().enumerate() {
-                values.push(table.number(qualified)? as u16);
-                parts.push((Field::Slot(slot), qualified.span()));
-            }
+            let slots = line.slots.iter().map(|(_, qualified)| qualified);
+            values.extend(slots.clone().map(|slot| value(table.number(slot, errors))));
             values.resize(2 + MAX_SLOTS, NONE);
+            let parts = slots.enumerate();
+            let parts = parts.map(|(slot, qualified)| (Field::Slot(slot), qualified.span()));
             all.push(Located {
                 at: At::Type(number),
                 record: Record::new(RecordKind::Type, &values),
                 span: *span,
-                parts,
+                parts: parts.collect(),
             });
         }
-        Ok(all)
+        all
     }
 
-    /// The PR, VR and IN records of a procedure.
-    fn procedure_records(
-        &self,
-        number: usize,
-        names: &Names,
-        table: &mut Table,
-    ) -> Result<Vec<Located>, Error> {
-        let outline = &self.procedures[number];
-        let owner = outline.owner.as_ref();
-        let owner = owner.map(|name| declared(&names.types, name)).transpose()?;
-        let mut all = vec![outline.head(number, owner, table)?];
-        for (index, variable) in outline.variables.iter().enumerate() {
-            all.push(variable.located(At::Variable(number, index), table)?);
+    /// The PR, VR and IN records of all procedures.
+    fn procedure_records(&self, table: &mut Table, errors: &mut Errors) -> Vec<Located> {
+        let mut all = Vec::new();
+        for (number, outline) in self.procedures.iter().enumerate() {
+            let owner = outline.owner.map(|name| declared(self, name, errors));
+            all.push(outline.head(number, owner.flatten(), table, errors));
+            outline.variable_records(number, table, errors, &mut all);
+            let scope = Scope {
+                outlines: self,
+                outline,
+                owner: match owner {
+                    None if outline.name.is_none() => Owner::Unknown,
+                    None => Owner::None,
+                    Some(None) => Owner::Unknown,
+                    Some(Some(owner)) => Owner::Type(&self.types[owner].0),
+                },
+            };
+            scope.instruction_records(number, errors, &mut all);
+            outline.check_end(errors);
+            if errors.is_full() {
+                break;
+            }
         }
-        let formals: Vec<usize> = self.procedures.iter().map(|p| p.formals).collect();
-        let scope = Scope {
-            names,
-            formals: &formals,
-            outline,
-            owner: owner.map(|owner| &names.types[owner]),
-        };
-        for (index, (instruction, span)) in outline.instructions.iter().enumerate() {
-            let encoded = scope.instruction(instruction, *span)?;
-            all.push(Located {
+        all
+    }
+}
+
+impl Scope<'_> {
+    fn instruction_records(&self, number: usize, errors: &mut Errors, all: &mut Vec<Located>) {
+        for (index, line) in self.outline.instructions.iter().enumerate() {
+            let Some((instruction, span)) = line else {
+                continue;
+            };
+            let encoded = self.instruction(instruction, *span, errors);
+            all.extend(encoded.map(|encoded| Located {
                 at: At::Instruction(number, index),
                 record: encoded.record,
                 span: *span,
                 parts: encoded.parts,
-            });
+            }));
+            if errors.is_full() {
+                break;
+            }
         }
-        Ok(all)
     }
 }
 
-impl Outline {
+impl Outline<'_> {
     fn head(
         &self,
         number: usize,
         owner: Option<usize>,
         table: &mut Table,
-    ) -> Result<Located, Error> {
-        let mut parts = Vec::new();
-        if let Some(name) = &self.owner {
-            parts.push((Field::Owner, name.span));
-        }
-        let mut result = NONE;
-        if let Some(qualified) = &self.result {
-            result = table.number(qualified)? as u16;
-            parts.push((Field::Result, qualified.span()));
-        }
+        errors: &mut Errors,
+    ) -> Located {
+        let result = self.result.as_ref();
+        let owner_part = self.owner.map(|name| (Field::Owner, name.span));
+        let result_part = result.map(|qualified| (Field::Result, qualified.span()));
         let values = [
-            owner.map_or(0, |owner| owner as u16 + 2),
-            self.formals as u16,
+            owner.map_or(0, |owner| (owner + 2) as u16),
+            self.formals.map_or(0, |count| count as u16),
             self.variables.len() as u16,
-            result,
+            value(result.and_then(|qualified| table.number(qualified, errors))),
             self.instructions.len() as u16,
         ];
-        Ok(Located {
+        Located {
             at: At::Procedure(number),
             record: Record::new(RecordKind::Procedure, &values),
             span: self.span,
-            parts,
-        })
+            parts: owner_part.into_iter().chain(result_part).collect(),
+        }
+    }
+
+    fn variable_records(
+        &self,
+        number: usize,
+        table: &mut Table,
+        errors: &mut Errors,
+        all: &mut Vec<Located>,
+    ) {
+        let mut index = 0;
+        for line in &self.lines {
+            let (record, parts) = line.record(table, errors);
+            all.extend(line.names.iter().zip(index..).map(|(name, index)| Located {
+                at: At::Variable(number, index),
+                record: record.clone(),
+                span: name.span,
+                parts: parts.clone(),
+            }));
+            index += line.names.len();
+        }
     }
 }
 
-impl VariableOutline {
-    fn located(&self, at: At, table: &mut Table) -> Result<Located, Error> {
+impl VariableLine<'_> {
+    /// The record that each of the line's variables has.
+    fn record(&self, table: &mut Table, errors: &mut Errors) -> (Record, Vec<(Field, Span)>) {
+        let needed = self.need.as_ref();
+        let need = needed.and_then(|need| table.number(need, errors));
         let mut parts = Vec::new();
-        let mut need = NONE;
-        if let Some(qualified) = &self.need {
-            need = table.number(qualified)? as u16;
-            parts.push((Field::Need, qualified.span()));
+        parts.extend(needed.map(|need| (Field::Need, need.span())));
+        let mut inner = need;
+        if let Some(qualified) = &self.inner {
+            inner = table.number(qualified, errors);
         }
-        let inner = table.number(&self.inner)? as u16;
-        parts.push((Field::Inner, self.inner.span()));
-        Ok(Located {
-            at,
-            record: Record::new(RecordKind::Variable, &[inner, need]),
-            span: self.name.span,
-            parts,
-        })
+        let qualified = self.inner.as_ref().or(needed);
+        parts.extend(qualified.map(|inner| (Field::Inner, inner.span())));
+        let values = [value(inner), value(need)];
+        (Record::new(RecordKind::Variable, &values), parts)
     }
 }

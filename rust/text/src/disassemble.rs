@@ -3,17 +3,14 @@
 //! Well-formed sheets become named text, with generated names; any other
 //! bytes become raw text, as far as marks and lengths allow.
 
-use crate::field::Field;
 use crate::mnemonic::{Mnemonic, Piece};
 use crate::names::{generated_procedure, Names, ProcedureNames, TypeNames};
 use crate::notation::Notation;
-use crate::raw::{BYTES, RAW};
-use crate::record::Record;
+use crate::raw_text::raw_text;
 use reference::{parse, Operation, Procedure, Program, Variable};
+use std::collections::HashSet;
 use std::fmt::Write;
 
-/// The most bytes in a `bytes` line.
-const BYTES_IN_LINE: usize = 16;
 /// The longest notation that stands for a type instead of its name.
 const LONGEST_NOTATION: usize = 60;
 
@@ -21,61 +18,12 @@ const LONGEST_NOTATION: usize = 60;
 pub fn disassemble(sheet: &[u8]) -> String {
     match parse(sheet) {
         Ok(program) => named(&program),
-        Err(_) => raw(sheet),
+        Err(_) => raw_text(sheet),
     }
-}
-
-fn raw(sheet: &[u8]) -> String {
-    let mut out = format!("{RAW}\n");
-    let mut place = 0;
-    while place < sheet.len() {
-        let end = match Record::read(&sheet[place..]) {
-            Some(record) => {
-                raw_record(&mut out, &record, place);
-                place + record.kind.size()
-            }
-            None => {
-                let end = end_of_bytes(sheet, place);
-                raw_bytes(&mut out, &sheet[place..end], place);
-                end
-            }
-        };
-        place = end;
-    }
-    out
-}
-
-fn raw_record(out: &mut String, record: &Record, place: usize) {
-    let mut line = String::from(record.kind.mark());
-    for value in &record.values {
-        add(&mut line, format_args!(" {value}"));
-    }
-    let code = record.value(Field::Code);
-    let code = code.and_then(|code| u8::try_from(code).ok());
-    let word = match code.and_then(Mnemonic::by_code) {
-        Some(mnemonic) => format!(" {}", mnemonic.word),
-        None => String::new(),
-    };
-    add(out, format_args!("{line:<40} # {place}{word}\n"));
-}
-
-/// Up to the next record, or as much as a line has.
-fn end_of_bytes(sheet: &[u8], place: usize) -> usize {
-    let most = (place + BYTES_IN_LINE).min(sheet.len());
-    let next = (place + 1..most).find(|&at| Record::read(&sheet[at..]).is_some());
-    next.unwrap_or(most)
-}
-
-fn raw_bytes(out: &mut String, bytes: &[u8], place: usize) {
-    let mut line = String::from(BYTES);
-    for byte in bytes {
-        add(&mut line, format_args!(" {byte:02X}"));
-    }
-    add(out, format_args!("{line:<40} # {place}\n"));
 }
 
 /// Writing to a string cannot fail.
-fn add(out: &mut String, said: std::fmt::Arguments) {
+pub fn add(out: &mut String, said: std::fmt::Arguments) {
     let _ = out.write_fmt(said);
 }
 
@@ -269,7 +217,7 @@ fn reference_to(notation: Notation, number: usize) -> String {
 }
 
 /// The instructions that some jump of the procedure goes to.
-fn targets(procedure: &Procedure) -> Vec<usize> {
+fn targets(procedure: &Procedure) -> HashSet<usize> {
     let operations = procedure.instructions.iter().map(|i| i.operation);
     let targets = operations.filter_map(|operation| match operation {
         Operation::JumpIfZero { target, .. } => Some(target),

@@ -2,46 +2,99 @@
 
 use crate::lexer::{tokens, Token};
 use crate::mnemonic::{Mnemonic, Piece};
+use crate::quote::quoted;
 use crate::span::{Error, Span};
-use crate::syntax::{Constant, Instruction, Line, Name, Qualified, Rights, Statement, TypeLine};
+use crate::syntax::{
+    Base, Body, Constant, Instruction, Line, Name, ProcedureLine, QualLine, Qualified, Rights,
+    Statement, Tray, TypeLine, VariableLine, Wrong,
+};
 
-/// No sheet has qualified types nested deeper, since it has at most so many.
-const MAX_DEPTH: usize = 64;
-
-/// Reads one line.
-pub fn line(text: &str, number: usize) -> Result<Line, Error> {
-    let mut parser = Parser::new(text, number)?;
-    let mut labels = Vec::new();
-    while parser.is_label() {
-        labels.push(parser.name("a label")?);
-        parser.mark(":")?;
-    }
-    if parser.peek() == &Token::End {
-        let statement = None;
-        return Ok(Line { labels, statement });
-    }
-    let start = parser.span();
-    let statement = parser.statement()?;
-    let span = start.to(parser.last_span());
-    parser.end()?;
-    let statement = Some((statement, span));
-    Ok(Line { labels, statement })
+/// Reads one line. One that is wrong has one error.
+pub fn line(text: &str, number: usize) -> Line<'_> {
+    let mut parser = Parser::new(text, number);
+    let labels = parser.labels();
+    let body = match parser.body() {
+        Ok(None) => Body::Empty,
+        Ok(Some((statement, span))) => Body::Statement(statement, span),
+        Err(error) => Body::Wrong(Wrong {
+            error,
+            words: parser.words_after(2 * labels.len()),
+        }),
+    };
+    Line { labels, body }
 }
 
 /// The tokens of a line, End being the last, and the next to be read.
-pub struct Parser {
-    tokens: Vec<(Token, Span)>,
+pub struct Parser<'a> {
+    tokens: Vec<(Token<'a>, Span)>,
+    /// A character that is none of a token; it comes before other errors.
+    error: Option<Error>,
     at: usize,
 }
 
-impl Parser {
-    pub fn new(text: &str, number: usize) -> Result<Self, Error> {
-        let tokens = tokens(text, number)?;
-        Ok(Parser { tokens, at: 0 })
+impl<'a> Parser<'a> {
+    pub fn new(text: &'a str, number: usize) -> Self {
+        let tokens = tokens(text, number);
+        Parser {
+            tokens: tokens.all,
+            error: tokens.error,
+            at: 0,
+        }
     }
 
-    pub fn peek(&self) -> &Token {
-        &self.tokens[self.at].0
+    /// Whether the line says nothing.
+    pub fn is_empty(&self) -> bool {
+        self.error.is_none() && self.peek() == Token::End
+    }
+
+    /// An error where a character is none of a token.
+    pub fn lexical(&mut self) -> Result<(), Error> {
+        self.error.take().map_or(Ok(()), Err)
+    }
+
+    /// The names at the beginning that a colon follows.
+    fn labels(&mut self) -> Vec<Name<'a>> {
+        let mut all = Vec::new();
+        while let (Token::Word(word), Some((Token::Mark(":"), _))) =
+            (self.peek(), self.tokens.get(self.at + 1))
+        {
+            if starts_with_digit(word) {
+                break;
+            }
+            all.push(Name {
+                word,
+                span: self.span(),
+            });
+            self.at += 2;
+        }
+        all
+    }
+
+    /// The statement after the labels, with its columns.
+    fn body(&mut self) -> Result<Option<(Statement<'a>, Span)>, Error> {
+        self.lexical()?;
+        if self.peek() == Token::End {
+            return Ok(None);
+        }
+        let start = self.span();
+        let statement = self.statement()?;
+        let span = start.to(self.last_span());
+        self.end()?;
+        Ok(Some((statement, span)))
+    }
+
+    /// The words of the line from a token on.
+    fn words_after(&self, first: usize) -> Vec<&'a str> {
+        let tokens = self.tokens[first..].iter();
+        let words = tokens.filter_map(|(token, _)| match token {
+            Token::Word(word) => Some(*word),
+            _ => None,
+        });
+        words.collect()
+    }
+
+    pub fn peek(&self) -> Token<'a> {
+        self.tokens[self.at].0
     }
 
     pub fn span(&self) -> Span {
@@ -60,7 +113,7 @@ impl Parser {
 
     pub fn unexpected<T>(&self, expected: &str) -> Result<T, Error> {
         let found = match self.peek() {
-            Token::Word(word) => format!("`{word}`"),
+            Token::Word(word) => format!("`{}`", quoted(word)),
             Token::Mark(mark) => format!("`{mark}`"),
             Token::End => String::from("the end of the line"),
         };
@@ -84,17 +137,18 @@ impl Parser {
 
     /// Passes the mark if it is the next token.
     fn passed(&mut self, mark: &'static str) -> Option<Span> {
-        let found = *self.peek() == Token::Mark(mark);
-        found.then(|| self.word_span())
+        let found = self.peek() == Token::Mark(mark);
+        found.then(|| self.pass())
     }
 
-    fn word_span(&mut self) -> Span {
+    /// Passes the next token.
+    pub fn pass(&mut self) -> Span {
         self.advance();
         self.last_span()
     }
 
     /// Passes the word if it is the next token.
-    fn passed_word(&mut self, word: &str) -> bool {
+    pub fn passed_word(&mut self, word: &str) -> bool {
         let found = matches!(self.peek(), Token::Word(next) if next == word);
         if found {
             self.advance();
@@ -102,16 +156,15 @@ impl Parser {
         found
     }
 
-    pub fn word(&mut self, expected: &str) -> Result<Name, Error> {
+    fn word(&mut self, expected: &str) -> Result<Name<'a>, Error> {
         let Token::Word(word) = self.peek() else {
             return self.unexpected(expected);
         };
-        let word = word.clone();
-        let span = self.word_span();
+        let span = self.pass();
         Ok(Name { word, span })
     }
 
-    fn name(&mut self, expected: &str) -> Result<Name, Error> {
+    fn name(&mut self, expected: &str) -> Result<Name<'a>, Error> {
         match self.peek() {
             Token::Word(word) if !starts_with_digit(word) => self.word(expected),
             _ => self.unexpected(expected),
@@ -126,16 +179,9 @@ impl Parser {
             _ => None,
         };
         match value {
-            Some(value) => Ok((value, self.word_span())),
+            Some(value) => Ok((value, self.pass())),
             None => self.unexpected(&expected),
         }
-    }
-
-    /// A name and a colon begin a line that has a label.
-    fn is_label(&self) -> bool {
-        let next = self.tokens.get(self.at + 1).map(|(token, _)| token);
-        matches!(self.peek(), Token::Word(word) if !starts_with_digit(word))
-            && next == Some(&Token::Mark(":"))
     }
 
     /// One or more items between commas.
@@ -150,29 +196,29 @@ impl Parser {
         Ok(all)
     }
 
-    fn statement(&mut self) -> Result<Statement, Error> {
+    fn statement(&mut self) -> Result<Statement<'a>, Error> {
         let expected = "type, qual, procedure, formal, variable, an instruction or a label";
-        let Token::Word(word) = self.peek().clone() else {
+        let Token::Word(word) = self.peek() else {
             return self.unexpected(expected);
         };
-        match word.as_str() {
-            "type" => self.type_line(),
-            "qual" => self.qual_line(),
-            "procedure" => self.procedure_line(),
-            "formal" => self.formal_line(),
-            "variable" => self.variable_line(),
+        match word {
+            "type" => self.type_line().map(Statement::Type),
+            "qual" => self.qual_line().map(Statement::Qual),
+            "procedure" => self.procedure_line().map(Statement::Procedure),
+            "formal" => self.formal_line().map(Statement::Variables),
+            "variable" => self.variable_line().map(Statement::Variables),
             word => match Mnemonic::by_word(word) {
-                Some(mnemonic) => self.instruction(mnemonic),
+                Some(mnemonic) => self.instruction(mnemonic).map(Statement::Instruction),
                 None => self.unexpected(expected),
             },
         }
     }
 
-    fn type_line(&mut self) -> Result<Statement, Error> {
+    fn type_line(&mut self) -> Result<TypeLine<'a>, Error> {
         self.advance();
         let name = self.name("the name of a type")?;
         let mut rights = Vec::new();
-        if *self.peek() == Token::Mark("{") {
+        if self.peek() == Token::Mark("{") {
             rights = self.rights()?.names;
         }
         let mut slots = Vec::new();
@@ -180,27 +226,26 @@ impl Parser {
             slots = self.list(|parser| {
                 let name = parser.name("the name of a slot")?;
                 parser.mark(":")?;
-                Ok((name, parser.qualified(0)?))
+                Ok((name, parser.qualified()?))
             })?;
             self.mark(")")?;
         }
-        let line = TypeLine {
+        Ok(TypeLine {
             name,
             rights,
             slots,
-        };
-        Ok(Statement::Type(line))
+        })
     }
 
-    fn qual_line(&mut self) -> Result<Statement, Error> {
+    fn qual_line(&mut self) -> Result<QualLine<'a>, Error> {
         self.advance();
         let name = self.name("the name of a qualified type")?;
         self.mark("=")?;
-        let qualified = self.qualified(0)?;
-        Ok(Statement::Qual { name, qualified })
+        let qualified = self.qualified()?;
+        Ok(QualLine { name, qualified })
     }
 
-    fn procedure_line(&mut self) -> Result<Statement, Error> {
+    fn procedure_line(&mut self) -> Result<ProcedureLine<'a>, Error> {
         self.advance();
         let name = self.name("the name of a procedure")?;
         let owner = match self.passed_word("of") {
@@ -208,78 +253,85 @@ impl Parser {
             false => None,
         };
         let result = match self.passed_word("gives") {
-            true => Some(self.qualified(0)?),
+            true => Some(self.qualified()?),
             false => None,
         };
-        Ok(Statement::Procedure {
+        Ok(ProcedureLine {
             name,
             owner,
             result,
         })
     }
 
-    fn formal_line(&mut self) -> Result<Statement, Error> {
+    fn formal_line(&mut self) -> Result<VariableLine<'a>, Error> {
         self.advance();
         let names = self.list(|parser| parser.name("the name of a formal"))?;
         self.mark(":")?;
-        let need = self.qualified(0)?;
+        let need = Some(self.qualified()?);
         let inner = match self.passed_word("as") {
-            true => Some(self.qualified(0)?),
+            true => Some(self.qualified()?),
             false => None,
         };
-        Ok(Statement::Formals { names, need, inner })
+        Ok(VariableLine { names, need, inner })
     }
 
-    fn variable_line(&mut self) -> Result<Statement, Error> {
+    fn variable_line(&mut self) -> Result<VariableLine<'a>, Error> {
         self.advance();
         let names = self.list(|parser| parser.name("the name of a variable"))?;
         self.mark(":")?;
-        let inner = self.qualified(0)?;
-        Ok(Statement::Variables { names, inner })
+        let inner = Some(self.qualified()?);
+        let need = None;
+        Ok(VariableLine { names, need, inner })
     }
 
-    /// `integer`, `tray[..]{..}`, `TYPE{..}` or the name of a qual.
-    fn qualified(&mut self, depth: usize) -> Result<Qualified, Error> {
-        if depth == MAX_DEPTH {
-            return self.unexpected("no more than 64 trays in one another");
-        }
-        let name = self.name("a qualified type")?;
-        let start = name.span;
-        if name.word == "integer" {
-            return Ok(Qualified::Integer(start));
-        }
-        if name.word == "tray" {
+    /// A base, or a base within trays.
+    fn qualified(&mut self) -> Result<Qualified<'a>, Error> {
+        let expected = "a qualified type";
+        let mut name = self.name(expected)?;
+        let mut starts = Vec::new();
+        while name.word == "tray" {
             self.mark("[")?;
-            let element = Box::new(self.qualified(depth + 1)?);
-            self.mark("]")?;
-            let rights = self.rights()?;
-            let span = start.to(rights.span);
-            return Ok(Qualified::Tray {
-                element,
-                rights,
-                span,
-            });
+            starts.push(name.span);
+            name = self.name(expected)?;
         }
-        if *self.peek() != Token::Mark("{") {
-            return Ok(Qualified::Named(name));
+        let base = self.base(name)?;
+        // The tray that begins last ends first.
+        let ends = starts.into_iter().rev().map(|start| self.tray_end(start));
+        let trays = ends.collect::<Result<_, _>>()?;
+        Ok(Qualified { base, trays })
+    }
+
+    /// `integer`, `TYPE{..}` or the name of a qual.
+    fn base(&mut self, name: Name<'a>) -> Result<Base<'a>, Error> {
+        if name.word == "integer" {
+            return Ok(Base::Integer(name.span));
+        }
+        if self.peek() != Token::Mark("{") {
+            return Ok(Base::Named(name));
         }
         let rights = self.rights()?;
-        let span = start.to(rights.span);
-        let of = name;
-        Ok(Qualified::Declared { of, rights, span })
+        Ok(Base::Declared { of: name, rights })
     }
 
-    fn rights(&mut self) -> Result<Rights, Error> {
+    /// `]{..}`, which ends a tray.
+    fn tray_end(&mut self, start: Span) -> Result<Tray<'a>, Error> {
+        self.mark("]")?;
+        let rights = self.rights()?;
+        let span = start.to(rights.span);
+        Ok(Tray { span, rights })
+    }
+
+    fn rights(&mut self) -> Result<Rights<'a>, Error> {
         let start = self.mark("{")?;
         let mut names = Vec::new();
-        if *self.peek() != Token::Mark("}") {
+        if self.peek() != Token::Mark("}") {
             names = self.list(|parser| parser.name("a right"))?;
         }
         let span = start.to(self.mark("}")?);
         Ok(Rights { names, span })
     }
 
-    fn instruction(&mut self, mnemonic: &'static Mnemonic) -> Result<Statement, Error> {
+    fn instruction(&mut self, mnemonic: &'static Mnemonic) -> Result<Instruction<'a>, Error> {
         self.advance();
         let mut instruction = Instruction {
             mnemonic,
@@ -292,10 +344,10 @@ impl Parser {
         for &piece in mnemonic.pieces {
             self.piece(piece, &mut instruction)?;
         }
-        Ok(Statement::Instruction(instruction))
+        Ok(instruction)
     }
 
-    fn piece(&mut self, piece: Piece, instruction: &mut Instruction) -> Result<(), Error> {
+    fn piece(&mut self, piece: Piece, instruction: &mut Instruction<'a>) -> Result<(), Error> {
         const VARIABLE: &str = "a variable";
         match piece {
             Piece::A => instruction.a = Some(self.name(VARIABLE)?),
@@ -312,7 +364,7 @@ impl Parser {
             }
             Piece::Call => self.call(instruction)?,
             Piece::MaybeA => {
-                if *self.peek() != Token::End {
+                if self.peek() != Token::End {
                     instruction.a = Some(self.name("a variable or the end of the line")?);
                 }
             }
@@ -321,7 +373,7 @@ impl Parser {
     }
 
     /// `[a <-] procedure(actuals)`.
-    fn call(&mut self, instruction: &mut Instruction) -> Result<(), Error> {
+    fn call(&mut self, instruction: &mut Instruction<'a>) -> Result<(), Error> {
         let mut name = self.name("a procedure, or a variable and `<-`")?;
         if self.passed("<-").is_some() {
             instruction.a = Some(name);
@@ -329,7 +381,7 @@ impl Parser {
         }
         instruction.k = Constant::Procedure(name);
         self.mark("(")?;
-        if *self.peek() != Token::Mark(")") {
+        if self.peek() != Token::Mark(")") {
             instruction.actuals = self.list(|parser| parser.name("a variable"))?;
         }
         self.mark(")")?;

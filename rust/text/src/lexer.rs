@@ -1,11 +1,12 @@
 //! A line made into tokens.
 
+use crate::quote::quoted;
 use crate::span::{Error, Span};
 
-#[derive(Clone, Debug, PartialEq, Eq)]
-pub enum Token {
+#[derive(Clone, Copy, Debug, PartialEq, Eq)]
+pub enum Token<'a> {
     /// Letters, digits and underscores: a name, or, after a digit, a number.
-    Word(String),
+    Word(&'a str),
     Mark(&'static str),
     /// The end of the line or the beginning of its comment.
     End,
@@ -16,52 +17,57 @@ const MARKS: [&str; 15] = [
     ":=", "<-", "{", "}", "[", "]", "(", ")", ",", ":", "=", "<", "+", "-", ".",
 ];
 
-/// The tokens of a line, the last of them End.
-pub fn tokens(line: &str, number: usize) -> Result<Vec<(Token, Span)>, Error> {
-    let characters: Vec<char> = line.chars().collect();
-    let mut all = Vec::new();
-    let mut at = 0;
+/// A line's tokens, the last of them End, and its first character that
+/// starts none; such characters are passed over.
+pub struct Tokens<'a> {
+    pub all: Vec<(Token<'a>, Span)>,
+    pub error: Option<Error>,
+}
+
+pub fn tokens(line: &str, number: usize) -> Tokens<'_> {
+    let (mut all, mut error) = (Vec::new(), None);
+    let (mut rest, mut column) = (line, 1);
     loop {
-        while matches!(characters.get(at), Some(' ' | '\t' | '\r')) {
-            at += 1;
+        let after = rest.trim_start_matches([' ', '\t', '\r']);
+        column += rest.len() - after.len();
+        let (token, length) = next(after);
+        // A character may have more bytes than its one column.
+        let columns = if token.is_some() { length } else { 1 };
+        let span = Span {
+            line: number,
+            start: column,
+            end: column + columns,
+        };
+        match token {
+            Some(token) => all.push((token, span)),
+            None => error = error.or_else(|| Some(no_token(span, &after[..length]))),
         }
-        let (token, length) = next(&characters[at..]).map_err(|found| {
-            let span = columns(number, at, 1);
-            Error::new(
-                span,
-                format!("expected a name, a number or a mark, found {found:?}"),
-            )
-        })?;
-        let is_end = token == Token::End;
-        all.push((token, columns(number, at, length)));
-        if is_end {
-            return Ok(all);
+        if token == Some(Token::End) {
+            return Tokens { all, error };
         }
-        at += length;
+        column += columns;
+        rest = &after[length..];
     }
 }
 
-fn columns(line: usize, at: usize, length: usize) -> Span {
-    Span {
-        line,
-        start: at + 1,
-        end: at + 1 + length,
-    }
+fn no_token(span: Span, found: &str) -> Error {
+    let found = quoted(found);
+    let message = format!("expected a name, a number or a mark, found `{found}`");
+    Error::new(span, message)
 }
 
-/// The first token and its length, or the character that starts none.
-fn next(rest: &[char]) -> Result<(Token, usize), char> {
-    let first = match rest.first() {
-        None | Some('#') => return Ok((Token::End, 0)),
-        Some(&first) => first,
+/// The first token, or None for a character that starts none, and the length
+/// in bytes.
+fn next(rest: &str) -> (Option<Token<'_>>, usize) {
+    let Some(first) = rest.chars().next().filter(|&first| first != '#') else {
+        return (Some(Token::End), 0);
     };
-    let is_word = |character: &&char| character.is_ascii_alphanumeric() || **character == '_';
-    let word: String = rest.iter().take_while(is_word).collect();
-    if !word.is_empty() {
-        let length = word.len();
-        return Ok((Token::Word(word), length));
+    let is_word = |byte: &u8| byte.is_ascii_alphanumeric() || *byte == b'_';
+    let length = rest.bytes().take_while(|byte| is_word(byte)).count();
+    if length > 0 {
+        return (Some(Token::Word(&rest[..length])), length);
     }
-    let starts = |mark: &&str| mark.chars().eq(rest.iter().copied().take(mark.len()));
-    let mark = MARKS.into_iter().find(starts);
-    mark.map_or(Err(first), |mark| Ok((Token::Mark(mark), mark.len())))
+    let mark = MARKS.into_iter().find(|mark| rest.starts_with(mark));
+    let length = mark.map_or(first.len_utf8(), str::len);
+    (mark.map(Token::Mark), length)
 }

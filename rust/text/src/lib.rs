@@ -7,6 +7,7 @@
 
 mod assemble;
 mod disassemble;
+mod errors;
 pub mod field;
 mod grammar;
 mod lexer;
@@ -15,18 +16,23 @@ mod mnemonic;
 mod names;
 mod notation;
 mod outline;
+mod outlines;
 mod procedure;
 mod qualified;
+mod quote;
 mod raw;
+mod raw_text;
 mod record;
 mod span;
 mod syntax;
 
 pub use assemble::{assemble, Assembled};
 pub use disassemble::disassemble;
+pub use errors::MAX_ERRORS;
 pub use listing::{At, Entry, Listing};
 pub use mnemonic::{Mnemonic, Piece, MNEMONICS};
 pub use names::Names;
 pub use notation::Notation;
+pub use quote::quoted;
 pub use record::{Record, RecordKind};
 pub use span::{Error, Span};

@@ -1,253 +1,195 @@
-//! The statements of a text, put where they belong.
+//! A procedure as its lines say it.
 
-use crate::grammar::line;
-use crate::names::{Names, ProcedureNames, TypeNames};
+use crate::errors::Errors;
+use crate::names::ProcedureNames;
+use crate::outlines::{not_new, words};
+use crate::quote::quoted;
 use crate::span::{Error, Span};
-use crate::syntax::{Instruction, Line, Name, Qualified, Statement, TypeLine};
-use reference::layout::{MAX_NAMED_RIGHTS, MAX_SLOTS};
+use crate::syntax::{Instruction, Name, ProcedureLine, Qualified, VariableLine};
+use std::collections::hash_map::Entry;
+use std::collections::HashMap;
 
-/// Counts that their fields can hold. Which of them are in range is the
-/// checker's to say; named rights and slots have no more room in a record.
-const MAX_TYPES: usize = 253;
-const MAX_PROCEDURES: usize = 255;
+/// Counts that the fields of a PR record can hold; 255 names no variable.
 const MAX_VARIABLES: usize = 255;
 const MAX_INSTRUCTIONS: usize = 65_535;
 
-#[derive(Default)]
-pub struct Outlines {
-    pub types: Vec<(TypeLine, Span)>,
-    pub quals: Vec<(Name, Qualified, Span)>,
-    pub procedures: Vec<Outline>,
-}
-
-/// A procedure as its lines say it.
-pub struct Outline {
-    pub name: Name,
+pub struct Outline<'a> {
+    /// None where its line could not be read.
+    pub name: Option<Name<'a>>,
     pub span: Span,
-    pub owner: Option<Name>,
-    pub result: Option<Qualified>,
-    pub formals: usize,
-    pub variables: Vec<VariableOutline>,
-    /// Each label with the instruction that follows it.
-    pub labels: Vec<(Name, usize)>,
-    pub instructions: Vec<(Instruction, Span)>,
+    pub owner: Option<Name<'a>>,
+    pub result: Option<Qualified<'a>>,
+    /// How many; None where a line of them may be wrong.
+    pub formals: Option<usize>,
+    pub lines: Vec<VariableLine<'a>>,
+    /// All variables, formals first.
+    pub variables: Vec<Name<'a>>,
+    numbers: HashMap<&'a str, usize>,
+    /// Each label with the instruction that follows it, and its line.
+    labels: HashMap<&'a str, (usize, usize)>,
+    /// The first label that no instruction has followed yet.
+    waiting: Option<Name<'a>>,
+    /// None where a line could not be read.
+    pub instructions: Vec<Option<(Instruction<'a>, Span)>>,
+    /// Whether it is told that variables are not in their place.
+    misplaced: bool,
+    /// Whether a line that may have been anything came after instructions.
+    broken: bool,
 }
 
-pub struct VariableOutline {
-    pub name: Name,
-    pub inner: Qualified,
-    pub need: Option<Qualified>,
-}
-
-impl Outlines {
-    pub fn read(text: &str) -> Result<Self, Error> {
-        let mut all = Outlines::default();
-        for (number, text) in text.lines().enumerate() {
-            let Line { labels, statement } = line(text, number + 1)?;
-            for label in labels {
-                all.label(label)?;
-            }
-            if let Some((statement, span)) = statement {
-                all.statement(statement, span)?;
-            }
-        }
-        for procedure in &all.procedures {
-            procedure.ends_well()?;
-        }
-        Ok(all)
-    }
-
-    fn label(&mut self, label: Name) -> Result<(), Error> {
-        let procedure = self.procedure(label.span)?;
-        let labels = procedure.labels.iter().map(|(label, _)| label);
-        first_of_name(&label, labels)?;
-        let next = procedure.instructions.len();
-        procedure.labels.push((label, next));
-        Ok(())
-    }
-
-    /// The procedure that the line belongs to.
-    fn procedure(&mut self, span: Span) -> Result<&mut Outline, Error> {
-        let last = self.procedures.last_mut();
-        last.ok_or_else(|| Error::new(span, "expected a `procedure` line before this one"))
-    }
-
-    fn statement(&mut self, statement: Statement, span: Span) -> Result<(), Error> {
-        match statement {
-            Statement::Type(line) => {
-                self.first_type_name(&line.name)?;
-                check_type(&line)?;
-                limit(self.types.len() + 1, MAX_TYPES, "types", span)?;
-                self.types.push((line, span));
-            }
-            Statement::Qual { name, qualified } => {
-                self.first_type_name(&name)?;
-                self.quals.push((name, qualified, span));
-            }
-            Statement::Procedure {
-                name,
-                owner,
-                result,
-            } => {
-                let names = self.procedures.iter().map(|procedure| &procedure.name);
-                first_of_name(&name, names)?;
-                let count = self.procedures.len() + 1;
-                limit(count, MAX_PROCEDURES, "procedures", span)?;
-                let procedure = Outline::new(name, owner, result, span);
-                self.procedures.push(procedure);
-            }
-            Statement::Formals { names, need, inner } => {
-                let inner = inner.unwrap_or_else(|| need.clone());
-                let procedure = self.procedure(span)?;
-                procedure.add_variables(names, &inner, Some(&need), span)?;
-            }
-            Statement::Variables { names, inner } => {
-                let procedure = self.procedure(span)?;
-                procedure.add_variables(names, &inner, None, span)?;
-            }
-            Statement::Instruction(instruction) => {
-                let procedure = self.procedure(span)?;
-                procedure.instructions.push((instruction, span));
-                let count = procedure.instructions.len();
-                limit(count, MAX_INSTRUCTIONS, "instructions", span)?;
-            }
-        }
-        Ok(())
-    }
-
-    /// Types and qualified types have their names in common.
-    fn first_type_name(&self, name: &Name) -> Result<(), Error> {
-        if matches!(name.word.as_str(), "integer" | "tray") {
-            let message = format!("expected a new name, `{}` has a meaning already", name.word);
-            return Err(Error::new(name.span, message));
-        }
-        let types = self.types.iter().map(|(line, _)| &line.name);
-        let quals = self.quals.iter().map(|(name, _, _)| name);
-        first_of_name(name, types.chain(quals))
-    }
-
-    pub fn names(&self) -> Names {
-        let types = self.types.iter().map(|(line, _)| TypeNames {
-            name: line.name.word.clone(),
-            rights: words(&line.rights),
-            slots: line
-                .slots
-                .iter()
-                .map(|(name, _)| name.word.clone())
-                .collect(),
-        });
-        let procedures = self.procedures.iter().map(|outline| {
-            let variables = outline.variables.iter();
-            ProcedureNames {
-                name: outline.name.word.clone(),
-                variables: variables.map(|v| v.name.word.clone()).collect(),
-            }
-        });
-        Names {
-            types: types.collect(),
-            procedures: procedures.collect(),
-        }
-    }
-}
-
-impl Outline {
-    fn new(name: Name, owner: Option<Name>, result: Option<Qualified>, span: Span) -> Self {
+impl<'a> Outline<'a> {
+    pub fn new(line: ProcedureLine<'a>, span: Span) -> Self {
         Outline {
-            name,
-            span,
-            owner,
-            result,
-            formals: 0,
-            variables: Vec::new(),
-            labels: Vec::new(),
-            instructions: Vec::new(),
+            name: Some(line.name),
+            owner: line.owner,
+            result: line.result,
+            formals: Some(0),
+            ..Outline::unread(span)
         }
     }
 
-    fn add_variables(
+    /// A procedure whose line could not be read.
+    pub fn unread(span: Span) -> Self {
+        Outline {
+            name: None,
+            span,
+            owner: None,
+            result: None,
+            formals: None,
+            lines: Vec::new(),
+            variables: Vec::new(),
+            numbers: HashMap::new(),
+            labels: HashMap::new(),
+            waiting: None,
+            instructions: Vec::new(),
+            misplaced: false,
+            broken: false,
+        }
+    }
+
+    /// The procedure in a message.
+    pub fn said(&self) -> String {
+        match self.name {
+            Some(name) => format!("`{}`", quoted(name.word)),
+            None => String::from("the procedure"),
+        }
+    }
+
+    pub fn add_variables(&mut self, line: VariableLine<'a>, span: Span, errors: &mut Errors) {
+        let is_formal = line.need.is_some();
+        self.check_place(is_formal, span, errors);
+        if is_formal {
+            self.formals = self.formals.map(|count| count + line.names.len());
+        }
+        for &name in &line.names {
+            let number = self.variables.len();
+            match self.numbers.entry(name.word) {
+                Entry::Vacant(place) => {
+                    place.insert(number);
+                    self.variables.push(name);
+                    limit(number + 1, MAX_VARIABLES, "variables", name.span, errors);
+                }
+                Entry::Occupied(first) => {
+                    let first = self.variables[*first.get()];
+                    errors.add(not_new(name, first.span.line));
+                }
+            }
+        }
+        self.lines.push(line);
+    }
+
+    /// Formals come first and instructions last; the first line out of its
+    /// place is told, which may have moved all others.
+    fn check_place(&mut self, is_formal: bool, span: Span, errors: &mut Errors) {
+        let after_others = self.lines.last().is_some_and(|line| line.need.is_none());
+        let message = if !self.instructions.is_empty() {
+            "expected variables before the instructions of their procedure"
+        } else if is_formal && after_others {
+            "expected formals before all other variables"
+        } else {
+            return;
+        };
+        if !self.misplaced {
+            errors.add(Error::new(span, message));
+        }
+        self.misplaced = true;
+    }
+
+    pub fn add_label(&mut self, label: Name<'a>, errors: &mut Errors) {
+        let next = self.instructions.len();
+        match self.labels.entry(label.word) {
+            Entry::Vacant(place) => {
+                place.insert((next, label.span.line));
+                self.waiting = self.waiting.or(Some(label));
+            }
+            Entry::Occupied(first) => errors.add(not_new(label, first.get().1)),
+        }
+    }
+
+    pub fn add_instruction(
         &mut self,
-        names: Vec<Name>,
-        inner: &Qualified,
-        need: Option<&Qualified>,
+        instruction: Instruction<'a>,
         span: Span,
-    ) -> Result<(), Error> {
-        if !self.instructions.is_empty() {
-            let message = "expected variables before the instructions of their procedure";
-            return Err(Error::new(span, message));
+        errors: &mut Errors,
+    ) {
+        self.instructions.push(Some((instruction, span)));
+        self.waiting = None;
+        let count = self.instructions.len();
+        limit(count, MAX_INSTRUCTIONS, "instructions", span, errors);
+    }
+
+    /// An instruction that could not be read.
+    pub fn add_unread(&mut self) {
+        self.instructions.push(None);
+        self.waiting = None;
+    }
+
+    /// A line that may have been anything: variables before the first
+    /// instruction, an instruction or the next procedure after it.
+    pub fn add_unknown(&mut self) {
+        if self.instructions.is_empty() && self.waiting.is_none() {
+            self.formals = None;
+        } else {
+            self.add_unread();
+            self.broken = true;
         }
-        if need.is_some() && self.formals < self.variables.len() {
-            let message = "expected formals before all other variables";
-            return Err(Error::new(span, message));
-        }
-        for name in names {
-            self.formals += usize::from(need.is_some());
-            let others = self.variables.iter().map(|variable| &variable.name);
-            first_of_name(&name, others)?;
-            limit(
-                self.variables.len() + 1,
-                MAX_VARIABLES,
-                "variables",
-                name.span,
-            )?;
-            self.variables.push(VariableOutline {
-                name,
-                inner: inner.clone(),
-                need: need.cloned(),
-            });
-        }
-        Ok(())
+    }
+
+    /// Whether variables that follow may be those of another procedure.
+    pub fn may_have_ended(&self) -> bool {
+        self.broken
     }
 
     /// A label needs an instruction after it.
-    fn ends_well(&self) -> Result<(), Error> {
-        let count = self.instructions.len();
-        let late = self.labels.iter().find(|(_, next)| *next == count);
-        match late {
-            Some((label, _)) => {
-                let message = format!("expected an instruction after the label `{}`", label.word);
-                Err(Error::new(label.span, message))
-            }
-            None => Ok(()),
+    pub fn check_end(&self, errors: &mut Errors) {
+        if let Some(label) = self.waiting {
+            let word = quoted(label.word);
+            let message = format!("expected an instruction after the label `{word}`, found none");
+            errors.add(Error::new(label.span, message));
+        }
+    }
+
+    pub fn variable(&self, name: Name) -> Option<usize> {
+        self.numbers.get(name.word).copied()
+    }
+
+    pub fn label(&self, name: Name) -> Option<usize> {
+        self.labels.get(name.word).map(|&(next, _)| next)
+    }
+
+    pub fn names(&self) -> ProcedureNames {
+        let name = self.name.map_or("", |name| name.word);
+        ProcedureNames {
+            name: String::from(name),
+            variables: words(&self.variables),
         }
     }
 }
 
-fn words(names: &[Name]) -> Vec<String> {
-    names.iter().map(|name| name.word.clone()).collect()
-}
-
-/// The counts and the names of a `type` line.
-fn check_type(line: &TypeLine) -> Result<(), Error> {
-    for (number, right) in line.rights.iter().enumerate() {
-        if right.word == "open" {
-            let message = "expected a right of the type's own, `open` is a right of every type";
-            return Err(Error::new(right.span, message));
-        }
-        first_of_name(right, line.rights[..number].iter())?;
-        limit(number + 1, MAX_NAMED_RIGHTS, "named rights", right.span)?;
+/// One error where the count is first above the most.
+pub fn limit(count: usize, most: usize, what: &str, span: Span, errors: &mut Errors) {
+    if count == most + 1 {
+        let message = format!("expected at most {most} {what}, found one more");
+        errors.add(Error::new(span, message));
     }
-    for (number, (slot, _)) in line.slots.iter().enumerate() {
-        first_of_name(slot, line.slots[..number].iter().map(|(name, _)| name))?;
-        limit(number + 1, MAX_SLOTS, "slots", slot.span)?;
-    }
-    Ok(())
-}
-
-fn first_of_name<'a>(name: &Name, mut others: impl Iterator<Item = &'a Name>) -> Result<(), Error> {
-    match others.find(|other| other.word == name.word) {
-        Some(other) => {
-            let (word, line) = (&name.word, other.span.line);
-            let message = format!("expected a new name, `{word}` is declared in line {line}");
-            Err(Error::new(name.span, message))
-        }
-        None => Ok(()),
-    }
-}
-
-fn limit(count: usize, most: usize, what: &str, span: Span) -> Result<(), Error> {
-    if count > most {
-        let message = format!("expected at most {most} {what}, a sheet has no room for more");
-        return Err(Error::new(span, message));
-    }
-    Ok(())
 }

@@ -2,6 +2,7 @@
 //! Nothing is counted or resolved, so that it can say any bytes.
 
 use crate::assemble::{Assembled, Writer};
+use crate::errors::Errors;
 use crate::grammar::Parser;
 use crate::lexer::Token;
 use crate::listing::{At, Entry};
@@ -15,34 +16,33 @@ pub const BYTES: &str = "bytes";
 
 /// Whether the first line that says something says that the text is raw.
 pub fn is_raw(text: &str) -> bool {
-    let said = text.lines().map(|line| line.split('#').next());
-    let mut said = said.flatten().map(str::trim);
-    said.find(|line| !line.is_empty()) == Some(RAW)
+    let first = parsers(text).find(|parser| !parser.is_empty());
+    first.is_some_and(|mut first| {
+        first.lexical().is_ok() && first.passed_word(RAW) && first.end().is_ok()
+    })
 }
 
-pub fn assemble(text: &str) -> Result<Assembled, Error> {
+/// The lines of a text, none of them read.
+fn parsers(text: &str) -> impl Iterator<Item = Parser<'_>> {
+    let lines = text.lines().enumerate();
+    lines.map(|(number, line)| Parser::new(line, number + 1))
+}
+
+/// A line that is wrong is one error, and the others are read.
+pub fn assemble(text: &str) -> Result<Assembled, Vec<Error>> {
     let mut writer = Writer::default();
-    let mut started = false;
-    for (number, line) in text.lines().enumerate() {
-        let mut parser = Parser::new(line, number + 1)?;
-        if *parser.peek() == Token::End {
-            continue;
+    let mut errors = Errors::default();
+    // The first that says something says `raw`.
+    for mut parser in parsers(text).skip_while(Parser::is_empty).skip(1) {
+        if let Err(error) = statement(&mut parser, &mut writer) {
+            errors.add(error);
         }
-        let word = parser.word("a mark or `bytes`")?;
-        if !started {
-            started = true;
-        } else if word.word == BYTES {
-            bytes(&mut parser, &mut writer)?;
-        } else if let Some(kind) = RecordKind::by_mark(word.word.as_bytes()) {
-            record(kind, &mut parser, &mut writer)?;
-        } else {
-            let message = format!(
-                "expected HD, TY, QT, PR, VR, IN or `bytes`, found `{}`",
-                word.word
-            );
-            return Err(Error::new(word.span, message));
+        if errors.is_full() {
+            break;
         }
-        parser.end()?;
+    }
+    if !errors.is_empty() {
+        return Err(errors.sorted());
     }
     Ok(Assembled {
         sheet: writer.sheet,
@@ -51,8 +51,25 @@ pub fn assemble(text: &str) -> Result<Assembled, Error> {
     })
 }
 
+fn statement(parser: &mut Parser, writer: &mut Writer) -> Result<(), Error> {
+    parser.lexical()?;
+    if parser.is_empty() {
+        return Ok(());
+    }
+    let expected = "HD, TY, QT, PR, VR, IN or `bytes`";
+    match parser.peek() {
+        Token::Word(BYTES) => bytes(parser, writer)?,
+        Token::Word(word) => match RecordKind::by_mark(word.as_bytes()) {
+            Some(kind) => record(kind, parser, writer)?,
+            None => return parser.unexpected(expected),
+        },
+        _ => return parser.unexpected(expected),
+    }
+    parser.end()
+}
+
 fn record(kind: RecordKind, parser: &mut Parser, writer: &mut Writer) -> Result<(), Error> {
-    let start = parser.last_span();
+    let start = parser.pass();
     let mut values = Vec::new();
     let mut parts = Vec::new();
     for field in kind.fields() {
@@ -68,18 +85,17 @@ fn record(kind: RecordKind, parser: &mut Parser, writer: &mut Writer) -> Result<
 }
 
 fn bytes(parser: &mut Parser, writer: &mut Writer) -> Result<(), Error> {
-    let start = parser.last_span();
+    let start = parser.pass();
     let place = writer.sheet.len();
-    while *parser.peek() != Token::End {
-        let expected = "a byte as two hexadecimal digits";
+    while parser.peek() != Token::End {
         let digits = match parser.peek() {
             Token::Word(word) if word.len() == 2 => u8::from_str_radix(word, 16).ok(),
             _ => None,
         };
         let Some(byte) = digits else {
-            return parser.unexpected(expected);
+            return parser.unexpected("a byte as two hexadecimal digits");
         };
-        parser.word(expected)?;
+        parser.pass();
         writer.sheet.push(byte);
     }
     writer.listing.entries.push(Entry {

@@ -1,11 +1,11 @@
 //! What does not assemble: the line, the column and what was expected there.
 
-use text::assemble;
+use text::{assemble, Error};
 
 /// A text, and the line, the column and a part of the message.
 const BAD: &[(&str, usize, usize, &str)] = &[
-    ("$", 1, 1, "expected a name, a number or a mark, found '$'"),
-    ("procedure main\nreturn\nbéf", 3, 2, "expected a name, a number or a mark, found 'é'"),
+    ("$", 1, 1, "expected a name, a number or a mark, found `$`"),
+    ("procedure main\nreturn\nbéf", 3, 2, "expected a name, a number or a mark, found `é`"),
     ("hello", 1, 1, "expected type, qual, procedure"),
     ("{", 1, 1, "found `{`"),
     ("12 set", 1, 1, "found `12`"),
@@ -31,7 +31,14 @@ const BAD: &[(&str, usize, usize, &str)] = &[
     ("qual q = tray[integer]{peek}", 1, 24, "expected a right of a tray (fetch, store, size), found `peek`"),
     ("qual q = tray(integer)", 1, 14, "expected `[`, found `(`"),
     ("qual q = tray[integer]", 1, 23, "expected `{`, found the end of the line"),
-    ("qual q = tray[r]{}\nqual r = integer", 1, 15, "expected a qualified type that is declared above, found `r`"),
+    ("qual q = tray[r]{}\nqual r = integer", 1, 15, "expected a qualified type that is declared above, found `r`, which is declared below, in line 2"),
+    ("qual q = tray[q]{}", 1, 15, "expected a qualified type that is declared above, found `q`, which this line declares"),
+    ("qual q = tray[r]{}", 1, 15, "expected a qualified type that is declared above, found `r`"),
+    ("type t (s: r)", 1, 12, "expected a qualified type, found `r`"),
+    ("procedure main gives r", 1, 22, "expected a qualified type, found `r`"),
+    ("procedure main\n  variable i: r", 2, 15, "expected a qualified type, found `r`"),
+    ("qual q = integer\nqual r = q{}", 2, 10, "expected a declared type, found `q`, a qualified type"),
+    ("qual q = integer\nprocedure main of q", 2, 19, "expected a declared type, found `q`, a qualified type"),
     ("qual q integer", 1, 8, "expected `=`, found `integer`"),
     ("qual q = integer{}", 1, 17, "expected the end of the line, found `{`"),
     ("procedure main\nprocedure main", 2, 11, "`main` is declared in line 1"),
@@ -54,10 +61,12 @@ const BAD: &[(&str, usize, usize, &str)] = &[
     ("procedure main\n  call sum()", 2, 8, "expected a procedure, found `sum`"),
     ("procedure main\n  call main(", 2, 13, "expected a variable, found the end of the line"),
     ("procedure main\n  variable a, b: integer\n  call p(a)\nprocedure p\n  formal x, y: integer", 3, 8, "expected 2 actuals for `p`, found 1"),
-    ("procedure main\n  variable a, b: integer\n  call p(b, a)\nprocedure p\n  formal x, y: integer", 3, 13, "expected `no other`, the variable after the last actual, found `a`"),
-    ("procedure main\n  variable a, b, c: integer\n  call p(a, c)\nprocedure p\n  formal x, y: integer", 3, 13, "expected `b`, the variable after the last actual, found `c`"),
+    ("procedure main\n  variable a, b: integer\n  call p(b, a)\nprocedure p\n  formal x, y: integer", 3, 13, "expected none after `b`, the last variable, found `a`"),
+    ("procedure main\n  variable a, b, c: integer\n  call p(a, c)\nprocedure p\n  formal x, y: integer", 3, 13, "expected `b`, the variable after `a`, found `c`"),
     ("procedure main\n  variable a: integer\n  getslot a <- a.time", 3, 18, "`main` is of none"),
     ("type t{} (s: integer)\nprocedure main of t\n  variable a: integer\n  setslot a.time <- a", 4, 13, "expected a slot of `t` (s), found `time`"),
+    ("type t\nprocedure main of t\n  variable a: integer\n  setslot a.time <- a", 4, 13, "expected a slot of `t` (it has none), found `time`"),
+    ("procedure main\n  variable a: integer\n  call p()\nprocedure p\n  formal x: integer", 3, 8, "expected 1 actual for `p`, found 0"),
     ("raw\nXX 1 2", 2, 1, "expected HD, TY, QT, PR, VR, IN or `bytes`, found `XX`"),
     ("raw\nHD 1 0 0", 2, 9, "expected a number from 0 to 255, found the end of the line"),
     ("raw\nHD 1 0 0 256", 2, 10, "expected a number from 0 to 255, found `256`"),
@@ -66,12 +75,19 @@ const BAD: &[(&str, usize, usize, &str)] = &[
     ("raw\nbytes GG", 2, 7, "expected a byte as two hexadecimal digits"),
 ];
 
+/// The error of a text that has one.
+fn only_error(text: &str) -> Error {
+    let errors = assemble(text).err().unwrap_or_default();
+    let [error] = errors.as_slice() else {
+        panic!("expected one error of {text:?}, found {errors:?}");
+    };
+    error.clone()
+}
+
 #[test]
 fn errors_name_line_and_column_and_what_was_expected() {
     for &(text, line, column, expected) in BAD {
-        let Err(error) = assemble(text) else {
-            panic!("assembles: {text:?}");
-        };
+        let error = only_error(text);
         let found = (error.span.line, error.span.start);
         assert_eq!(found, (line, column), "{text:?}: {error}");
         let message = &error.message;
@@ -80,16 +96,21 @@ fn errors_name_line_and_column_and_what_was_expected() {
     }
 }
 
+/// Every tray in another is a qualified type of its own, and the base is one.
 #[test]
-fn trays_deeper_than_any_sheet_has_are_an_error() {
+fn trays_in_one_another_are_as_many_as_qualified_types() {
     let deep = |depth: usize| {
         let (before, after) = ("tray[".repeat(depth), "]{}".repeat(depth));
-        assemble(&format!("qual q = {before}integer{after}"))
+        format!("qual q = {before}integer{after}")
     };
-    assert!(deep(63).is_ok());
-    for depth in [64, 65, 10_000] {
-        let error = deep(depth).err().expect("too deep");
-        assert!(error.message.contains("64 trays"), "{error}");
+    for depth in [1, 64, 254] {
+        let assembled = assemble(&deep(depth)).unwrap_or_else(|errors| panic!("{errors:?}"));
+        assert_eq!(assembled.sheet.len(), 6 + 6 * (depth + 1));
+    }
+    for depth in [255, 10_000, 200_000] {
+        let error = only_error(&deep(depth));
+        let expected = "expected at most 255 qualified types, found one more";
+        assert_eq!(error.message, expected);
     }
 }
 

@@ -5,7 +5,7 @@ use text::{assemble, disassemble, At};
 
 /// The bytes of QT records: base, rights and element.
 fn quals(text: &str) -> Vec<[u8; 3]> {
-    let assembled = assemble(text).unwrap_or_else(|error| panic!("{error}"));
+    let assembled = assemble(text).unwrap_or_else(|errors| panic!("{errors:?}"));
     let entries = assembled.listing.entries.iter();
     let quals = entries.filter(|entry| matches!(entry.at, At::Qualified(_)));
     quals
@@ -51,7 +51,7 @@ fn an_element_in_place_is_made_just_before_its_qual() {
 #[test]
 fn equal_quals_stay_apart_and_the_first_is_meant_in_place() {
     let text = "qual a = integer\nqual b = integer\nqual c = b\nprocedure main\n variable x: b\n variable y: integer\n return";
-    let assembled = assemble(text).unwrap_or_else(|error| panic!("{error}"));
+    let assembled = assemble(text).unwrap_or_else(|errors| panic!("{errors:?}"));
     assert_eq!(quals(text).len(), 3);
     let inner = |number| {
         let entry = assembled.listing.find(At::Variable(0, number));
@@ -80,7 +80,7 @@ again:
 
 #[test]
 fn the_listing_tells_lines_columns_and_bytes() {
-    let assembled = assemble(SMALL).unwrap_or_else(|error| panic!("{error}"));
+    let assembled = assemble(SMALL).unwrap_or_else(|errors| panic!("{errors:?}"));
     let listing = &assembled.listing;
     let entry = listing.find(At::Instruction(1, 1)).expect("an instruction");
     let span = entry.span.expect("a line");
@@ -107,7 +107,7 @@ fn the_listing_tells_lines_columns_and_bytes() {
 
 #[test]
 fn a_text_is_accepted_by_the_second_engine() {
-    let assembled = assemble(SMALL).unwrap_or_else(|error| panic!("{error}"));
+    let assembled = assemble(SMALL).unwrap_or_else(|errors| panic!("{errors:?}"));
     let verdict = reference::check(&assembled.sheet);
     assert_eq!(verdict, reference::Verdict::Accepted);
     // Names go, all else stays.

@@ -16,7 +16,7 @@ fn round_trip(sheet: &[u8], what: &str) -> String {
     let said = disassemble(sheet);
     match assemble(&said) {
         Ok(assembled) => assert!(assembled.sheet == sheet, "{what}: other bytes from\n{said}"),
-        Err(error) => panic!("{what}: {error} in\n{said}"),
+        Err(errors) => panic!("{what}: {errors:?} in\n{said}"),
     }
     said
 }
