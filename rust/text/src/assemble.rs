@@ -68,7 +68,8 @@ fn header(names: &Names, quals: usize) -> Record {
     Record::new(RecordKind::Header, &counts)
 }
 
-/// A record to be written, with where it comes from.
+/// A record to be written, with where it comes from. Those of a text that has
+/// an error are not kept.
 struct Located {
     at: At,
     record: Record,
@@ -133,6 +134,9 @@ impl Outlines<'_> {
             let slots = line.slots.iter().map(|(_, qualified)| qualified);
             values.extend(slots.clone().map(|slot| value(table.number(slot, errors))));
             values.resize(2 + MAX_SLOTS, NONE);
+            if !errors.is_empty() {
+                continue;
+            }
             let parts = slots.enumerate();
             let parts = parts.map(|(slot, qualified)| (Field::Slot(slot), qualified.span()));
             all.push(Located {
@@ -179,7 +183,8 @@ impl Scope<'_> {
                 continue;
             };
             let encoded = self.instruction(instruction, *span, errors);
-            all.extend(encoded.map(|encoded| Located {
+            let kept = encoded.filter(|_| errors.is_empty());
+            all.extend(kept.map(|encoded| Located {
                 at: At::Instruction(number, index),
                 record: encoded.record,
                 span: *span,
@@ -228,6 +233,9 @@ impl Outline<'_> {
         let mut index = 0;
         for line in &self.lines {
             let (record, parts) = line.record(table, errors);
+            if !errors.is_empty() {
+                continue;
+            }
             all.extend(line.names.iter().zip(index..).map(|(name, index)| Located {
                 at: At::Variable(number, index),
                 record: record.clone(),

@@ -2,8 +2,9 @@
 //! grammar.
 //!
 //! [`assemble`] makes the bytes of a text and a [`Listing`], which tells the
-//! line and the columns of every record. [`disassemble`] makes a text of any
-//! bytes, which assembles to the same bytes again.
+//! line and the columns of every record, or tells all errors of the text.
+//! [`disassemble`] makes a text of any bytes, which assembles to the same
+//! bytes again. Both take time in proportion to what they are given.
 
 mod assemble;
 mod disassemble;

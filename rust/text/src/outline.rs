@@ -103,9 +103,9 @@ impl<'a> Outline<'a> {
     fn check_place(&mut self, is_formal: bool, span: Span, errors: &mut Errors) {
         let after_others = self.lines.last().is_some_and(|line| line.need.is_none());
         let message = if !self.instructions.is_empty() {
-            "expected variables before the instructions of their procedure"
+            "expected variables before the instructions of their procedure, found them after"
         } else if is_formal && after_others {
-            "expected formals before all other variables"
+            "expected formals before all other variables, found them after"
         } else {
             return;
         };

@@ -136,7 +136,9 @@ impl<'a> Outlines<'a> {
     /// Gives the name its meaning unless it has one.
     fn mean(&mut self, name: Name<'a>, meaning: Meaning, errors: &mut Errors) -> bool {
         if matches!(name.word, "integer" | "tray") {
-            let message = format!("expected a new name, `{}` has a meaning already", name.word);
+            let word = name.word;
+            let message =
+                format!("expected a new name, found `{word}`, which has a meaning already");
             errors.add(Error::new(name.span, message));
             return false;
         }
@@ -218,7 +220,7 @@ fn check_rights(rights: &[Name], errors: &mut Errors) {
     check_names(rights, MAX_NAMED_RIGHTS, "named rights", errors);
     let open = rights.iter().find(|right| right.word == "open");
     if let Some(open) = open {
-        let message = "expected a right of the type's own, `open` is a right of every type";
+        let message = "expected a right of the type's own, found `open`, a right of every type";
         errors.add(Error::new(open.span, message));
     }
 }
@@ -237,6 +239,6 @@ fn check_names(names: &[Name], most: usize, what: &str, errors: &mut Errors) {
 
 pub fn not_new(name: Name, line: usize) -> Error {
     let word = quoted(name.word);
-    let message = format!("expected a new name, `{word}` is declared in line {line}");
+    let message = format!("expected a new name, found `{word}`, which is declared in line {line}");
     Error::new(name.span, message)
 }

@@ -107,7 +107,7 @@ impl Scope<'_> {
             Owner::None => {
                 let procedure = self.outline.said();
                 let message = format!(
-                    "expected a procedure `of` the type whose slot this is, and {procedure} is of none"
+                    "expected a procedure `of` the type whose slot this is, found {procedure}, which is of none"
                 );
                 return errors.none(Error::new(name.span, message));
             }

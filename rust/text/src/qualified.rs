@@ -252,7 +252,7 @@ fn bits(
         let bit = 1 << right(name, errors)?;
         if bits & bit != 0 {
             let word = quoted(name.word);
-            let message = format!("expected another right, `{word}` stands here twice");
+            let message = format!("expected another right, found `{word}` again");
             return errors.none(Error::new(name.span, message));
         }
         bits |= bit;

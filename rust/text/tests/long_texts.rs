@@ -47,8 +47,10 @@ fn declarations() {
     let deeper = numbered(MANY, |n| format!("qual t{} = tray[t{n}]{{}}\n", n + 1));
     let deeper = format!("qual t0 = integer\n{deeper}");
     one_error(&deeper, &too_many(255, "qualified types"), 256);
-    let procedures = numbered(MANY, |n| format!("procedure p{n}\n call p{n}()\n"));
-    one_error(&procedures, &too_many(255, "procedures"), 511);
+    let procedures = numbered(MANY, |n| format!("procedure p{n}\n"));
+    let called = " call p7()\n call p999999()\n return";
+    let message = too_many(255, "procedures");
+    one_error(&format!("{procedures}{called}"), &message, 256);
 }
 
 #[test]
@@ -61,8 +63,8 @@ fn variables() {
     let messages: Vec<&str> = errors.iter().map(|error| error.message.as_str()).collect();
     let expected = [too_many(255, "variables"), too_many(65_535, "instructions")];
     assert_eq!(messages, expected);
-    let text = format!("procedure main\n{}{}", line("formal"), line("variable"));
-    assert!(assemble(&text).is_err());
+    let text = format!("procedure main\n{}", line("formal"));
+    one_error(&text, &too_many(255, "variables"), 257);
     // Names in one line, with a type that is long itself.
     let names = numbered(MANY, |n| format!("v{n},"));
     let (before, after) = ("tray[".repeat(300), "]{}".repeat(300));
@@ -117,9 +119,9 @@ fn lists_in_one_line() {
         1,
     );
     let same = "a,".repeat(MANY);
-    let message = "expected another right, `a` stands here twice";
+    let message = "expected another right, found `a` again";
     one_error(&format!("type t{{a}}\nqual q = t{{{same}a}}"), message, 2);
-    let message = "expected another right, `size` stands here twice";
+    let message = "expected another right, found `size` again";
     let sizes = "size,".repeat(MANY);
     one_error(
         &format!("qual q = tray[integer]{{{sizes}size}}"),

@@ -23,6 +23,20 @@ fn what_is_not_printed_is_escaped() {
     }
 }
 
+/// All characters that turn the direction of others, and some that take no
+/// room.
+#[test]
+fn what_changes_the_text_beside_it_is_escaped() {
+    let turns = ['\u{61c}', '\u{200e}', '\u{200f}'].into_iter();
+    let turns = turns.chain('\u{202a}'..='\u{202e}');
+    let turns = turns.chain('\u{2066}'..='\u{2069}');
+    let small = ['\u{ad}', '\u{180e}', '\u{2060}', '\u{301}', '\u{e0001}'];
+    for character in turns.chain(small) {
+        let escaped = format!("\\u{{{:x}}}", u32::from(character));
+        assert_eq!(quoted(&format!("a{character}b")), format!("a{escaped}b"));
+    }
+}
+
 #[test]
 fn a_long_word_is_cut() {
     let word = |length: usize| "a".repeat(length);
@@ -46,7 +60,7 @@ fn a_long_word_is_cut() {
     );
     assert_eq!(
         message(&format!("procedure {long}\nprocedure {long}")),
-        format!("expected a new name, `{cut}` is declared in line 1")
+        format!("expected a new name, found `{cut}`, which is declared in line 1")
     );
     let rights: Vec<String> = (0..15).map(|number| format!("{long}{number}")).collect();
     let text = format!(
@@ -116,6 +130,7 @@ fn every_message_is_short_and_printed() {
             assert!(!message.contains(['\u{202e}', '\u{feff}']), "{message:?}");
             assert!(!message.chars().any(char::is_control), "{message:?}");
             assert!(message.starts_with("expected "), "{message}");
+            assert!(message.contains(", found "), "{message}");
         }
     }
 }
