@@ -1,12 +1,12 @@
 //! The arguments after the word of a task, told apart into files and options.
 
 use crate::help;
-use crate::quote::quoted;
 use crate::tasks::{Entry, Known, TASKS};
 use crate::Failure;
 use std::ffi::{OsStr, OsString};
 use std::os::unix::ffi::OsStrExt;
 use std::slice::Iter;
+use text::quoted;
 
 pub struct Given {
     pub task: &'static Entry,

@@ -2,10 +2,10 @@
 
 use crate::arguments::{misuse, nearest, Given};
 use crate::paint::When;
-use crate::quote::quoted;
 use crate::tasks::{by_word, Entry, Kind, TASKS};
 use crate::{help, Failure};
 use std::ffi::{OsStr, OsString};
+use text::quoted;
 
 pub enum Task {
     /// Of one task, or of all.

@@ -1,21 +1,7 @@
-//! What was found, as a message may show it: nothing that a terminal obeys,
-//! and not too much of it.
+//! What a message shows of names and lines: nothing that a terminal obeys.
+//! What is found in a file is also shortened, by [`text::quoted`].
 
 use std::fmt::Write;
-
-/// The most characters that are quoted.
-const LONGEST: usize = 40;
-
-/// Escaped and shortened.
-pub fn quoted(said: &str) -> String {
-    match said.chars().nth(LONGEST) {
-        None => escaped(said),
-        Some(_) => {
-            let start: String = said.chars().take(LONGEST).collect();
-            format!("{}..", escaped(&start))
-        }
-    }
-}
 
 /// With what is not shown as it stands written out, as in `\u{1b}`.
 pub fn escaped(said: &str) -> String {
@@ -44,14 +30,11 @@ pub fn is_hidden(character: char) -> bool {
 
 #[cfg(test)]
 mod tests {
-    use super::{escaped, quoted, LONGEST};
+    use super::escaped;
 
     #[test]
     fn what_a_terminal_obeys_is_written_out() {
         let said = "a\x1b[31m\u{202e}b\n\u{9b}é";
         assert_eq!(escaped(said), "a\\u{1b}[31m\\u{202e}b\\n\\u{9b}é");
-        assert_eq!(quoted("short"), "short");
-        let long = "x".repeat(LONGEST + 1);
-        assert_eq!(quoted(&long), format!("{}..", &long[1..]));
     }
 }

@@ -2,10 +2,9 @@
 
 use crate::failure::{Faulty, FileError};
 use crate::files;
-use crate::quote::quoted;
 use crate::Failure;
 use std::ffi::OsStr;
-use text::Span;
+use text::{quoted, Span};
 
 /// The longest file of reads: a device may have no end.
 const MAX_READS: usize = 64 << 20;

@@ -1,8 +1,7 @@
 //! The lines `# KEY: VALUE` of a head.
 
-use crate::quote::quoted;
 use std::str::FromStr;
-use text::{Error, Span};
+use text::{quoted, Error, Span};
 
 const KEYS: [&str; 10] = [
     "expect", "at", "stop", "watch", "watch-at", "put", "reads", "fuel", "memory", "report",
