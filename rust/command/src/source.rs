@@ -9,8 +9,8 @@ use std::ffi::OsStr;
 use std::path::Path;
 use text::{assemble, disassemble, Assembled, Listing, Names, Span};
 
-/// The longest text. The assembler makes at least a line of a record, and a
-/// sheet has less than 8,192 of them.
+/// The longest text: 2,048 characters for each of the 8,192 records that a
+/// sheet has at most. A device may have no end.
 const MAX_TEXT: usize = 16 << 20;
 /// The most bytes that are disassembled: their text is never longer than the
 /// longest that assembles.
