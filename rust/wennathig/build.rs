@@ -1,13 +1,15 @@
 //! Links the two proved libraries, which `make lib` writes to build/ at the
-//! root of the repository.
+//! root of the repository, and reads the version from their header.
 
-use std::env;
-use std::path::PathBuf;
+use std::path::{Path, PathBuf};
+use std::{env, fs};
 
 fn main() {
     println!("cargo:rerun-if-env-changed=WENNATHIG_LIB_DIR");
     let manifest = env::var_os("CARGO_MANIFEST_DIR").map(PathBuf::from);
-    let beside = manifest.expect("cargo sets it").join("../../build");
+    let root = manifest.expect("cargo sets it").join("../..");
+    version(&root.join("include/wennathig.h"));
+    let beside = root.join("build");
     // Another folder may be named, to try the tests on changed libraries.
     let folder = env::var_os("WENNATHIG_LIB_DIR").map_or(beside, PathBuf::from);
     println!("cargo:rustc-link-search=native={}", folder.display());
@@ -23,4 +25,24 @@ fn main() {
         );
         println!("cargo:rustc-link-lib=static={library}");
     }
+}
+
+/// Gives the compiler the version, which stands in the header and nowhere else.
+fn version(header: &Path) {
+    println!("cargo:rerun-if-changed={}", header.display());
+    let said = fs::read_to_string(header).expect("the header is read");
+    let part = |name: &str| {
+        let mut lines = said.lines();
+        let value =
+            lines.find_map(|line| line.strip_prefix(&format!("#define WN_VERSION_{name} ")));
+        let value = value.map(str::trim).unwrap_or_default().to_owned();
+        assert!(
+            value.parse::<u32>().is_ok(),
+            "{} has no WN_VERSION_{name}",
+            header.display()
+        );
+        value
+    };
+    let dotted = ["MAJOR", "MINOR", "PATCH"].map(part).join(".");
+    println!("cargo:rustc-env=WENNATHIG_VERSION={dotted}");
 }

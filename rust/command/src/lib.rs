@@ -1,49 +1,52 @@
-//! What the command `wennathig` does. [`options`] says how it is used.
+//! What the command `wennathig` does. [`tasks`] says how it is used.
 //!
 //! The verdict on a sheet and its run are the proved engine's. The second
 //! engine tells what the rule that refused it looked at, and makes the trace;
 //! where the two disagree, that is said and nothing else.
 
+mod answer;
+mod arguments;
 mod engine;
+mod expect;
 mod explain;
+mod failure;
 mod files;
+mod help;
+mod json;
+mod located;
+mod objects;
 mod options;
 mod output;
+mod paint;
 mod progress;
+mod quote;
+mod reads;
 mod run;
+mod sheets;
 mod show;
 mod source;
 mod stop;
+mod tasks;
 mod trace;
 mod words;
+mod writing;
 
-use explain::explain;
-use options::{Task, HELP, USAGE};
+use failure::Failure;
+use options::Task;
 use output::Output;
-use source::Source;
-use std::ffi::OsString;
+use paint::When;
+use std::ffi::{OsStr, OsString};
 use std::io::Write;
 
 /// Exit statuses.
 pub const ACCEPTED: u8 = 0;
 pub const REFUSED: u8 = 1;
+/// Misuse, an error in a text, or a file that cannot be read.
 pub const MISUSE: u8 = 2;
 /// The output cannot be written, or the two engines disagree.
 pub const FAILED: u8 = 3;
-
-/// Why a task is not done.
-#[derive(Debug)]
-pub enum Failure {
-    /// A wrong call, or a file that is not what it must be.
-    Misuse(String),
-    Failed(String),
-}
-
-impl From<std::io::Error> for Failure {
-    fn from(cause: std::io::Error) -> Self {
-        Failure::Failed(format!("the output cannot be written: {cause}"))
-    }
-}
+/// A run that was expected to be done stopped otherwise.
+pub const NOT_DONE: u8 = 4;
 
 /// Does what the arguments ask and gives the exit status.
 pub fn main(arguments: &[OsString]) -> u8 {
@@ -53,48 +56,38 @@ pub fn main(arguments: &[OsString]) -> u8 {
         output.flush()?;
         Ok(status)
     });
-    let (message, status) = match outcome {
-        Ok(status) => return status,
-        Err(Failure::Misuse(message)) => (message, MISUSE),
-        Err(Failure::Failed(message)) => (message, FAILED),
-    };
-    // What was printed before comes first; nobody may be left to read either.
-    let _ = output.flush();
-    let _ = writeln!(std::io::stderr(), "wennathig: {message}");
-    status
+    match outcome {
+        Ok(status) => status,
+        Err(failure) => {
+            // What was printed before comes first.
+            let _ = output.flush();
+            failure.say(When::Auto.errors());
+            failure.status()
+        }
+    }
 }
 
 fn perform(task: Task, output: &mut Output) -> Result<u8, Failure> {
     match task {
-        Task::Help => {
-            write!(output, "{USAGE}\n\n{HELP}")?;
-            Ok(ACCEPTED)
+        Task::Help(task) => {
+            let help = task.map_or_else(help::whole, help::of);
+            write!(output, "{help}")?;
         }
-        Task::Check(source) => check(&Source::read(&source)?, output),
-        Task::Run(run) => run::run(&run, output),
+        Task::Version => writeln!(output, "wennathig {}", wennathig::VERSION)?,
+        Task::Check(sheets) => return sheets::check(&sheets, output),
+        Task::Run(run) => return run::run(&run, output),
+        Task::Test(files) => return expect::test(&files, output),
         Task::Assemble { from, to } => {
+            writing::apart(&to, [OsStr::new(&from)].into_iter())?;
             let sheet = source::assembled(&from)?.sheet;
-            files::write(&to, &sheet, output)?;
-            Ok(ACCEPTED)
+            writing::write(&to, &sheet, output)?;
         }
         Task::Disassemble { from, to } => {
-            let text = text::disassemble(&files::read(&from)?);
-            files::write(&to, text.as_bytes(), output)?;
-            Ok(ACCEPTED)
+            writing::apart(&to, [OsStr::new(&from)].into_iter())?;
+            let bytes = files::read(&from, source::MAX_DISASSEMBLED)?;
+            let text = text::disassemble(&bytes);
+            writing::write(&to, text.as_bytes(), output)?;
         }
     }
-}
-
-/// Prints the verdict, and why a refused sheet is refused.
-fn check(source: &Source, output: &mut Output) -> Result<u8, Failure> {
-    match engine::check(&source.sheet)? {
-        None => {
-            writeln!(output, "accepted 0 0")?;
-            Ok(ACCEPTED)
-        }
-        Some(refusal) => {
-            write!(output, "{}", explain(source, refusal)?)?;
-            Ok(REFUSED)
-        }
-    }
+    Ok(ACCEPTED)
 }

@@ -23,10 +23,15 @@ const WORDS: [(&str, &str); 19] = [
     ("unlicensed", "a value does not carry the right needed"),
 ];
 
+/// The word and the meaning of a number, if it has them.
+pub fn of(number: u64) -> Option<(&'static str, &'static str)> {
+    let index = usize::try_from(number).ok()?.checked_sub(1)?;
+    WORDS.get(index).copied()
+}
+
 /// For example `wrong kind: base, element or form of return`.
 pub fn words(number: u64) -> String {
-    let index = usize::try_from(number).ok().and_then(|n| n.checked_sub(1));
-    match index.and_then(|index| WORDS.get(index)) {
+    match of(number) {
         Some((word, meaning)) => format!("{word}: {meaning}"),
         None => format!("the number {number}, which means nothing"),
     }

@@ -3,6 +3,9 @@
 //! A call whose name ends in `_into` is the one that the host makes. The
 //! buffers hold afterwards what include/wennathig.h says.
 
+/// The version that include/wennathig.h has, as MAJOR.MINOR.PATCH.
+pub const VERSION: &str = env!("WENNATHIG_VERSION");
+
 /// What the proved checker says about a sheet.
 #[derive(Clone, Copy, Debug, PartialEq, Eq)]
 pub enum Verdict {

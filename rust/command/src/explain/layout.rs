@@ -1,10 +1,9 @@
-//! Refusals 1 to 5: what is due at a place of a sheet, and what is found.
+//! Refusals 2 to 5: what is due at a place of a sheet, and what is found.
 
 use super::fields::{Context, Limits};
 use super::instruction::{call_limits, Scope};
 use super::Explanation;
 use crate::engine::Refusal;
-use reference::MAX_SHEET;
 use text::field::Field;
 use text::{Record, RecordKind};
 
@@ -26,12 +25,6 @@ struct Walk {
 pub fn explain(sheet: &[u8], refusal: Refusal) -> Option<Explanation> {
     let Refusal { number, place } = refusal;
     let said = |line: String| Some(Explanation::new(Vec::new(), vec![line]));
-    if number == 1 {
-        let bytes = sheet.len();
-        return said(format!(
-            "the sheet has {bytes} bytes, at most {MAX_SHEET} are read"
-        ));
-    }
     let walk = walk(sheet);
     if number == 2 || number == 3 {
         return (walk.end == place)

@@ -9,13 +9,11 @@ mod reads;
 mod watched;
 
 use crate::engine::{agreed, disagree, Lent};
-use crate::explain::located;
 use crate::progress;
 use crate::source::Source;
 use crate::trace::before_main;
 use crate::trace::machine::Machine;
 use crate::trace::value::Teller;
-use crate::words::words;
 use crate::Failure;
 use cause::{Cause, Reason};
 use reference::machine::Resources;
@@ -27,14 +25,16 @@ const MOST_STEPS: u64 = 50_000_000;
 
 /// What can be told of a stop beside its number.
 pub struct Stopped {
-    /// The byte of the record stopped at and the parts of it that are at
-    /// fault, none for all of it.
-    pub place: Option<(usize, Vec<Field>)>,
+    /// The byte of the record stopped at, which is main's where that has no
+    /// room, and the parts of it that are at fault, none for all of it.
+    pub place: usize,
+    pub is_instruction: bool,
+    pub parts: Vec<Field>,
     /// The lines of the reason.
     pub reason: Vec<String>,
 }
 
-/// Tells of a stop; a refusal has neither a place in the run nor a reason.
+/// Tells of a stop.
 pub fn stopped(
     source: &Source,
     lent: &Lent,
@@ -45,19 +45,18 @@ pub fn stopped(
         stop, steps, place, ..
     } = outcome
     else {
-        return Ok(Stopped {
-            place: None,
-            reason: Vec::new(),
-        });
+        return Err(disagree(&outcome, &"that it stops"));
     };
     let program = parse(lent.sheet).map_err(|refusal| disagree(&outcome, &refusal))?;
     let procedure = &program.procedures[place.procedure];
     let mut record = procedure.instructions[place.instruction].place;
+    let mut is_instruction = true;
     let reason = match stop {
         Stop::Done => Reason::default(),
         Stop::FuelSpent | Stop::InputEnded | Stop::OutputFull => lacking(lent, outcome),
         Stop::MemoryFull if main_units(&program) > lent.memory_words => {
             record = procedure.place;
+            is_instruction = false;
             let units = main_units(&program);
             Reason::line(format!(
                 "main's frame needs {units} words before the first step"
@@ -67,36 +66,15 @@ pub fn stopped(
         _ => progress::shown(|| again(source, lent, watch, outcome, &program))?,
     };
     Ok(Stopped {
-        place: Some((record, reason.parts)),
+        place: record,
+        is_instruction,
+        parts: reason.parts,
         reason: reason.lines,
     })
 }
 
 fn main_units(program: &Program) -> usize {
     program.procedures[0].variables.len() + 2
-}
-
-/// The stop as it is printed: its number, its place, and why.
-pub fn printed(source: &Source, outcome: Outcome, stopped: &Stopped) -> String {
-    let Outcome::Stopped {
-        stop,
-        steps,
-        words: put,
-        ..
-    } = outcome
-    else {
-        return String::new();
-    };
-    let number = stop as u64;
-    let mut said = format!("stopped {number} {}\n", words(number));
-    said += &format!("steps {steps}, words put {put}\n");
-    if let Some((place, parts)) = &stopped.place {
-        said += &located(source, *place, parts);
-    }
-    for line in &stopped.reason {
-        said += &format!("  {line}\n");
-    }
-    said
 }
 
 /// 12, 15 and 16: what was lent is used up.

@@ -1,6 +1,10 @@
 //! The command as its users meet it.
 
+#![allow(dead_code)] // each test file uses some of these
+
+use std::fs;
 use std::io::{ErrorKind, Write};
+use std::path::{Path, PathBuf};
 use std::process::{Command, Output, Stdio};
 
 /// Runs the command with the arguments and this standard input.
@@ -31,7 +35,21 @@ pub fn stdout(output: &Output) -> String {
     String::from_utf8(output.stdout.clone()).expect("the output is text")
 }
 
-#[allow(dead_code)] // each test file uses some of these
 pub fn stderr(output: &Output) -> String {
     String::from_utf8(output.stderr.clone()).expect("the message is text")
+}
+
+/// A folder of its own for a test, empty.
+pub fn folder(name: &str) -> PathBuf {
+    let folder = PathBuf::from(env!("CARGO_TARGET_TMPDIR")).join(name);
+    let _ = fs::remove_dir_all(&folder);
+    fs::create_dir_all(&folder).expect("a folder for the test");
+    folder
+}
+
+/// A file in a folder, and its path.
+pub fn written(folder: &Path, name: &str, bytes: &[u8]) -> String {
+    let path = folder.join(name);
+    fs::write(&path, bytes).expect("a file for the test");
+    path.to_str().expect("a plain path").to_owned()
 }
