@@ -1,9 +1,9 @@
-//! Texts of a million things. What is looked up by going through all of them
-//! would take many minutes here.
+//! Texts of three hundred thousand things. What is looked up by going through all of them
+//! would take minutes here.
 
 use text::{assemble, Assembled, Error};
 
-const MANY: usize = 1_000_000;
+const MANY: usize = 300_000;
 
 /// So many numbered pieces, one after the other.
 fn numbered(count: usize, piece: impl Fn(usize) -> String) -> String {
@@ -31,11 +31,11 @@ fn too_many(most: usize, what: &str) -> String {
 
 #[test]
 fn declarations() {
-    let used = "procedure main\n variable v: t999999{}\n variable w: tray[t7{}]{}\n return";
+    let used = "procedure main\n variable v: t299999{}\n variable w: tray[t7{}]{}\n return";
     let types = numbered(MANY, |n| format!("type t{n}\n"));
     one_error(&format!("{types}{used}"), &too_many(254, "types"), 255);
     let quals = numbered(MANY, |n| format!("qual t{n} = integer\n"));
-    let used = "procedure main\n variable v: t999999\n variable w: t0\n return";
+    let used = "procedure main\n variable v: t299999\n variable w: t0\n return";
     one_error(
         &format!("{quals}{used}"),
         &too_many(255, "qualified types"),
@@ -48,7 +48,7 @@ fn declarations() {
     let deeper = format!("qual t0 = integer\n{deeper}");
     one_error(&deeper, &too_many(255, "qualified types"), 256);
     let procedures = numbered(MANY, |n| format!("procedure p{n}\n"));
-    let called = " call p7()\n call p999999()\n return";
+    let called = " call p7()\n call p299999()\n return";
     let message = too_many(255, "procedures");
     one_error(&format!("{procedures}{called}"), &message, 256);
 }
@@ -128,7 +128,7 @@ fn lists_in_one_line() {
         message,
         1,
     );
-    let message = "expected 0 actuals for `main`, found 1000001";
+    let message = "expected 0 actuals for `main`, found 300001";
     one_error(&format!("procedure main\n call main({same}a)"), message, 2);
     let (before, after) = ("tray[".repeat(MANY), "]{}".repeat(MANY));
     let deep = format!("qual q = {before}integer{after}");
