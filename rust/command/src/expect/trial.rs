@@ -3,8 +3,9 @@
 use super::head::{numbered, Head, Run, Verdict};
 use crate::engine::{self, Lent, Refusal};
 use crate::quote::escaped;
+use crate::stop::instruction;
 use crate::{progress, Failure};
-use reference::{parse, Outcome, Place, Stop};
+use reference::{parse, Outcome, Place};
 use std::fmt;
 use text::{assemble, Assembled};
 
@@ -202,12 +203,8 @@ impl Trial<'_> {
             return None;
         };
         let program = parse(&self.assembled.sheet).ok()?;
-        let main = &program.procedures[0];
-        if stop == Stop::MemoryFull && main.variables.len() + 2 > self.lent().memory_words {
-            return Some(main.place);
-        }
-        let procedure = &program.procedures[place.procedure];
-        Some(procedure.instructions[place.instruction].place)
+        let instruction = instruction(&program, &self.lent(), stop, place);
+        Some(instruction.unwrap_or(program.procedures[0].place))
     }
 }
 

@@ -17,7 +17,7 @@ use crate::trace::value::Teller;
 use crate::Failure;
 use cause::{Cause, Reason};
 use reference::machine::Resources;
-use reference::{parse, Outcome, Program, Stop};
+use reference::{parse, Outcome, Place, Program, Stop};
 use text::field::Field;
 
 /// The most steps that are made again only to tell why: some seconds.
@@ -48,15 +48,11 @@ pub fn stopped(
         return Err(disagree(&outcome, &"that it stops"));
     };
     let program = parse(lent.sheet).map_err(|refusal| disagree(&outcome, &refusal))?;
-    let procedure = &program.procedures[place.procedure];
-    let mut record = procedure.instructions[place.instruction].place;
-    let mut is_instruction = true;
+    let instruction = instruction(&program, lent, stop, place);
     let reason = match stop {
         Stop::Done => Reason::default(),
         Stop::FuelSpent | Stop::InputEnded | Stop::OutputFull => lacking(lent, outcome),
-        Stop::MemoryFull if main_units(&program) > lent.memory_words => {
-            record = procedure.place;
-            is_instruction = false;
+        _ if instruction.is_none() => {
             let units = main_units(&program);
             Reason::line(format!(
                 "main's frame needs {units} words before the first step"
@@ -66,11 +62,21 @@ pub fn stopped(
         _ => progress::shown(|| again(source, lent, watch, outcome, &program))?,
     };
     Ok(Stopped {
-        place: record,
-        is_instruction,
+        place: instruction.unwrap_or(program.procedures[0].place),
+        is_instruction: instruction.is_some(),
         parts: reason.parts,
         reason: reason.lines,
     })
+}
+
+/// The byte of the instruction stopped at; None where main's frame has no
+/// room, and main itself is what the run stopped at.
+pub fn instruction(program: &Program, lent: &Lent, stop: Stop, place: Place) -> Option<usize> {
+    if stop == Stop::MemoryFull && main_units(program) > lent.memory_words {
+        return None;
+    }
+    let procedure = &program.procedures[place.procedure];
+    Some(procedure.instructions[place.instruction].place)
 }
 
 fn main_units(program: &Program) -> usize {

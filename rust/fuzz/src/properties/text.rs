@@ -6,7 +6,7 @@ use std::cell::OnceCell;
 use text::{assemble, disassemble, Error, Span};
 
 /// The longest message of one error.
-const LONGEST: usize = 1_024;
+const LONGEST: usize = 300;
 
 /// A text and what the assembler says of it.
 pub struct Text {
@@ -30,29 +30,9 @@ impl Text {
     }
 }
 
-/// One error or a list of them.
-trait Errors {
-    fn all(self) -> Vec<Error>;
-}
-
-impl Errors for Error {
-    fn all(self) -> Vec<Error> {
-        vec![self]
-    }
-}
-
-impl Errors for Vec<Error> {
-    fn all(self) -> Vec<Error> {
-        self
-    }
-}
-
 /// The bytes of a text, or what is wrong with it.
 pub fn assembled(text: &str) -> Result<Vec<u8>, Vec<Error>> {
-    match assemble(text) {
-        Ok(assembled) => Ok(assembled.sheet),
-        Err(errors) => Err(Errors::all(errors)),
-    }
+    assemble(text).map(|assembled| assembled.sheet)
 }
 
 pub fn assembles_or_not(text: &Text, counts: &mut Counts) -> Result<(), String> {

@@ -30,7 +30,7 @@ pub const SIZES: Family = Family {
     count: || 3 * 2 * sizes().len(),
     bound: array_of_a_size,
     due: || {
-        let fits = |size: &u32| SIZE_FRAME + *size as usize + 1 <= MOST;
+        let fits = |size: &u32| SIZE_FRAME + (*size as usize) < MOST;
         let fitting = sizes().into_iter().filter(fits);
         let done = fitting.map(|size| seen(size as usize, 0, 11));
         let full = sizes().into_iter().map(|size| seen(size as usize, 0, 17));
