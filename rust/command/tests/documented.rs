@@ -1,5 +1,6 @@
 //! The manual pages, the completion for bash and the header say what the
-//! program's help says, and nothing else.
+//! program's help says, and nothing else. The numbers have the program's words
+//! there and in docs/RULES.md.
 
 mod common;
 
@@ -329,6 +330,19 @@ fn the_header_has_the_same_numbers() {
             adds_to(&said, &due),
             "{number}: {said}, and the program: {due}"
         );
+    }
+}
+
+/// Each number has a heading with its word, and its section begins with what
+/// the program says.
+#[test]
+fn the_rules_have_the_same_numbers() {
+    let rules = page("docs/RULES.md");
+    for number in 1..=19 {
+        let due = words(number);
+        let (word, _) = due.split_once(':').expect("a word and a meaning");
+        let start = format!("\n### {number} {word}\n\n`{due}`. ");
+        assert!(rules.contains(&start), "the rules lack: {start}");
     }
 }
 
