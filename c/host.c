@@ -34,10 +34,23 @@ static const struct {
     {"watch", wn_watch},
 };
 
+/* A name or a read may hold anything: only what is printable in ASCII is printed as it is. */
+static void print_escaped(const char *text, size_t len)
+{
+    size_t i;
+
+    for (i = 0; i < len; i++)
+        fprintf(stderr, text[i] >= ' ' && text[i] <= '~' && text[i] != '\\' ? "%c" : "\\x%02x", (unsigned char)text[i]);
+}
+
 /* Says what errno says of a file. */
 static void complain(const char *file)
 {
-    fprintf(stderr, "wennathig-host: %s: %s\n", file, strerror(errno));
+    const char *reason = strerror(errno);
+
+    fprintf(stderr, "wennathig-host: ");
+    print_escaped(file, strlen(file));
+    fprintf(stderr, ": %s\n", reason);
 }
 
 /* Gives 1, and what a text says, if it is a decimal number up to a limit. */
@@ -90,14 +103,10 @@ static size_t next_read(char *text, size_t room)
     return len;
 }
 
-/* The text may be anything: only what is printable in ASCII is printed as it is. */
 static void complain_of_read(const char *text, size_t len, size_t room)
 {
-    size_t i;
-
     fprintf(stderr, "wennathig-host: standard input: read %lu is no number of 32 bits: ", (unsigned long)reads_len + 1);
-    for (i = 0; i < len && i < room; i++)
-        fprintf(stderr, text[i] > ' ' && text[i] <= '~' && text[i] != '\\' ? "%c" : "\\x%02x", (unsigned char)text[i]);
+    print_escaped(text, len < room ? len : room);
     fprintf(stderr, len > room ? "..\n" : "\n");
 }
 

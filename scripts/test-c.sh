@@ -62,6 +62,8 @@ host_answers() {
 host_complaints() {
     local usage="usage: wennathig-host SHEET [FUEL] <READS" says="wennathig-host: standard input:"
     host "no file" 2 "wennathig-host: $sheets/none: No such file or directory" "$sheets/none" </dev/null
+    host "a name that a terminal would obey" 2 'wennathig-host: \x1b[31m here: No such file or directory' \
+        "$(printf '\033[31m here')" </dev/null
     host "a folder" 2 "wennathig-host: $sheets: Is a directory" "$sheets" </dev/null
     host "reads that are a folder" 2 "$says Is a directory" "$sheets/countdown" <"$sheets"
     host "a read of 33 bits" 2 "$says read 1 is no number of 32 bits: 4294967296" "$sheets/countdown" <<<4294967296
