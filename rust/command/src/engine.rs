@@ -68,7 +68,8 @@ pub fn watch(lent: &Lent, report: &mut [u32]) -> Result<Outcome, Failure> {
 }
 
 fn answer(machine: Machine, lent: &Lent, report: &mut [u32]) -> Result<Outcome, Failure> {
-    let mut memory = memory(lent);
+    // One word too many is refused as any more are.
+    let mut memory = zeros("--memory", lent.memory_words.min(MAX_MEMORY + 1))?;
     let mut reply = [0; 5];
     let number = machine(
         lent.sheet,
@@ -81,9 +82,15 @@ fn answer(machine: Machine, lent: &Lent, report: &mut [u32]) -> Result<Outcome, 
     meant(number, reply)
 }
 
-/// The memory lent. One word too many is refused as any more are.
-fn memory(lent: &Lent) -> Vec<u64> {
-    vec![0; lent.memory_words.min(MAX_MEMORY + 1)]
+/// So many words as an option asks for. `vec!` would end the program where
+/// there are not so many.
+pub fn zeros<Word: Copy + Default>(option: &str, count: usize) -> Result<Vec<Word>, Failure> {
+    let mut words = Vec::new();
+    words
+        .try_reserve_exact(count)
+        .map_err(|_| Failure::Misuse(format!("{option} {count}: there is not so much memory")))?;
+    words.resize(count, Word::default());
+    Ok(words)
 }
 
 fn meant(number: u64, reply: [u64; 5]) -> Result<Outcome, Failure> {

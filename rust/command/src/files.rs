@@ -1,6 +1,7 @@
 //! Files that are read, no further than is needed.
 
 use crate::quote::escaped;
+use crate::streams::{self, Stream, INPUT};
 use crate::Failure;
 use std::ffi::{OsStr, OsString};
 use std::fs::File;
@@ -14,6 +15,16 @@ pub fn name_of(path: &OsStr) -> String {
     }
 }
 
+/// Refuses an empty name, of which nothing could be said.
+pub fn must_be_named(path: &OsStr) -> Result<(), Failure> {
+    match path.is_empty() {
+        true => Err(Failure::Misuse(String::from(
+            "the name of a file cannot be empty",
+        ))),
+        false => Ok(()),
+    }
+}
+
 /// A file that is being read; - is standard input.
 pub struct Reader {
     path: OsString,
@@ -22,10 +33,8 @@ pub struct Reader {
 
 impl Reader {
     pub fn open(path: &OsStr) -> Result<Reader, Failure> {
-        let from: Box<dyn Read> = match path == "-" {
-            true => Box::new(io::stdin()),
-            false => Box::new(File::open(path).map_err(|cause| unreadable(path, &cause))?),
-        };
+        must_be_named(path)?;
+        let from = opened(path).map_err(|cause| unreadable(path, &cause))?;
         let path = path.to_owned();
         Ok(Reader { path, from })
     }
@@ -49,6 +58,17 @@ impl Reader {
             false => Ok(()),
         }
     }
+}
+
+fn opened(path: &OsStr) -> io::Result<Box<dyn Read>> {
+    if path == "-" {
+        return Ok(Box::new(Stream::of(INPUT)));
+    }
+    if let Some(number) = streams::number_of(path) {
+        // /dev/stdin is there even where standard input is closed.
+        Stream::of(number).metadata()?;
+    }
+    Ok(Box::new(File::open(path)?))
 }
 
 /// The bytes of a file that has at most so many.

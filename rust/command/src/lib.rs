@@ -26,6 +26,7 @@ mod sheets;
 mod show;
 mod source;
 mod stop;
+mod streams;
 mod tasks;
 mod trace;
 mod words;

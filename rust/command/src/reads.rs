@@ -36,7 +36,14 @@ fn numbers_of(line: &[u8], number: usize, numbers: &mut Vec<u32>) -> Result<(), 
     for word in said.split_whitespace() {
         let plain = word.bytes().all(|byte| byte.is_ascii_digit());
         match word.parse().ok().filter(|_| plain) {
-            Some(word) => numbers.push(word),
+            Some(word) => {
+                let room = numbers.try_reserve(1);
+                room.map_err(|_| FileError {
+                    span: None,
+                    message: String::from("holds more numbers than there is memory for"),
+                })?;
+                numbers.push(word);
+            }
             None => {
                 // Both are parts of one string.
                 let before = word.as_ptr() as usize - said.as_ptr() as usize;

@@ -48,7 +48,7 @@ fn one(
         fuel: options.fuel,
         memory_words: usize::try_from(options.memory).unwrap_or(usize::MAX),
     };
-    let mut report = vec![0; options.report as usize];
+    let mut report = engine::zeros("--report", options.report as usize)?;
     let outcome = progress::shown(|| match options.watch {
         true => engine::watch(&lent, &mut report),
         false => engine::run(&lent, &mut report),

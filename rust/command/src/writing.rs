@@ -1,8 +1,9 @@
 //! Files that are written, never over what is read.
 
-use crate::files::name_of;
+use crate::files::{must_be_named, name_of};
 use crate::output::Output;
 use crate::quote::escaped;
+use crate::streams::{self, Stream, ERRORS, OUTPUT};
 use crate::Failure;
 use std::ffi::{OsStr, OsString};
 use std::fs::{self, File, Metadata, OpenOptions};
@@ -13,6 +14,7 @@ use std::process;
 
 /// Refuses to write to one of the files that are read, by whatever name.
 pub fn apart<'a>(to: &OsStr, mut from: impl Iterator<Item = &'a OsStr>) -> Result<(), Failure> {
+    must_be_named(to)?;
     // What goes to a device or a pipe is no file that is lost.
     let written = fs::metadata(to).ok().filter(Metadata::is_file);
     let Some(written) = written.filter(|_| to != "-") else {
@@ -25,7 +27,7 @@ pub fn apart<'a>(to: &OsStr, mut from: impl Iterator<Item = &'a OsStr>) -> Resul
             path
         };
         let read = fs::metadata(path);
-        read.is_ok_and(|read| (read.dev(), read.ino()) == (written.dev(), written.ino()))
+        read.is_ok_and(|read| are_same(&read, &written))
     };
     match from.find(is_same) {
         Some(path) => Err(Failure::Misuse(format!(
@@ -37,15 +39,23 @@ pub fn apart<'a>(to: &OsStr, mut from: impl Iterator<Item = &'a OsStr>) -> Resul
     }
 }
 
-/// Writes the bytes to a file; - is standard output.
+fn are_same(one: &Metadata, other: &Metadata) -> bool {
+    (one.dev(), one.ino()) == (other.dev(), other.ino())
+}
+
+/// Writes the bytes to a file, all or an error; - is standard output.
 pub fn write(path: &OsStr, bytes: &[u8], output: &mut Output) -> Result<(), Failure> {
-    if path == "-" {
+    let stream = stream(path);
+    if stream == Some(OUTPUT) {
         output.write_all(bytes)?;
-        return Ok(());
+        return Ok(output.arrive()?);
     }
-    let outcome = match target(Path::new(path)) {
-        Some(target) => whole(&target, bytes),
-        None => fs::write(path, bytes),
+    // It may go to the same place by another descriptor.
+    output.flush()?;
+    let outcome = match (stream, target(Path::new(path))) {
+        (Some(stream), _) => Stream::of(stream).write_all(bytes),
+        (None, Some(target)) => whole(&target, bytes),
+        (None, None) => fs::write(path, bytes),
     };
     outcome.map_err(|cause| {
         let name = escaped(&path.to_string_lossy());
@@ -53,10 +63,28 @@ pub fn write(path: &OsStr, bytes: &[u8], output: &mut Output) -> Result<(), Fail
     })
 }
 
+/// The open descriptor that a path means. What others write by it would be
+/// lost if the file were written anew.
+fn stream(path: &OsStr) -> Option<i32> {
+    if path == "-" {
+        return Some(OUTPUT);
+    }
+    let is_same = |stream: &i32| {
+        let open = Stream::of(*stream).metadata();
+        let found = fs::metadata(path);
+        open.is_ok_and(|open| found.is_ok_and(|found| are_same(&open, &found)))
+    };
+    streams::number_of(path).or_else(|| [OUTPUT, ERRORS].into_iter().find(is_same))
+}
+
 /// The regular file, there or to be made, that a path means; None for a
 /// device, a pipe, a link to nothing, and a file with other names, which would
 /// keep the old bytes.
 fn target(path: &Path) -> Option<PathBuf> {
+    // These folders are the system's: nothing in them is replaced.
+    if path.starts_with("/dev") || path.starts_with("/proc") {
+        return None;
+    }
     match fs::symlink_metadata(path) {
         Err(_) => Some(path.to_owned()),
         Ok(_) => {

@@ -1,16 +1,21 @@
-//! Files that are too long, written over or not to be written, and messages
-//! that a terminal would obey.
+//! Files that are too long, written over or not to be written, streams that
+//! are closed or not ready, and messages that a terminal would obey.
 
 mod common;
 
 use common::{folder, status, stderr, stdout, wennathig, written};
 use std::fs::{self, File, OpenOptions};
+use std::io::{Read, Write};
+use std::os::fd::OwnedFd;
 use std::os::unix::fs::{symlink, PermissionsExt};
+use std::os::unix::net::UnixStream;
 use std::path::Path;
-use std::process::{Command, Output, Stdio};
+use std::process::{Child, Command, Output, Stdio};
+use std::thread;
 use std::time::{Duration, Instant};
 
 const TEXT: &[u8] = b"procedure main\n    return\n";
+const PUT: &[u8] = b"procedure main\n  variable n: integer\n  set n := 7\n  put n\n  return\n";
 
 /// Far more than any of these takes, and far less than they took.
 const AT_ONCE: Duration = Duration::from_secs(5);
@@ -250,4 +255,204 @@ fn messages_are_short_and_nothing_that_a_terminal_obeys() {
     let name = format!("/nowhere/{}", "\u{1b}]0;x\u{7}");
     let said = stderr(&wennathig(&["check", &name], &[]));
     assert!(said.starts_with("wennathig: /nowhere/\\u{1b}]0;x\\u{7} cannot be read: "));
+}
+
+/// What a shell does in a folder with put.ws, reads and the command as $W.
+fn shell(folder: &Path, script: &str) -> Output {
+    written(folder, "put.ws", PUT);
+    written(folder, "reads", b"1 2\n");
+    Command::new("sh")
+        .args(["-c", script])
+        .env("W", env!("CARGO_BIN_EXE_wennathig"))
+        .current_dir(folder)
+        .stdin(Stdio::null())
+        .output()
+        .expect("the shell starts")
+}
+
+#[test]
+fn a_file_that_is_open_as_a_stream_keeps_what_others_write_there() {
+    let folder = folder("faults-streams");
+    let run = "$W run put.ws --reads reads";
+    let around = |words: &str| format!("{{ echo before; {run} {words}; echo after; }}");
+    let around_3 = |to: &str| {
+        format!("{{ echo before >&3; $W run put.ws -q --words {to}; echo after >&3; }} 3>log")
+    };
+    symlink("/dev/fd/3", folder.join("link")).expect("a link");
+    let said = stdout(&shell(&folder, run));
+    let (_, rest) = said.split_once("7\n").expect("the word put");
+    let all = format!("before\n7\n{rest}after\n");
+    let cases = [
+        (format!("{} >log", around("--words /dev/stdout")), &all),
+        (format!("{} >log", around("--words /dev/fd/1")), &all),
+        (format!("{} >log", around("--words log")), &all),
+        (format!("{} >>log", around("--words ./log")), &all),
+        (format!("{} >log 2>&1", around("--words /dev/stderr")), &all),
+        (around_3("/dev/fd/3"), &String::from("before\n7\nafter\n")),
+        (around_3("link"), &String::from("before\n7\nafter\n")),
+    ];
+    for (script, expected) in cases {
+        let output = shell(&folder, &format!("rm -f log; {script}; cat log"));
+        assert_eq!(&stdout(&output), expected, "{script}");
+        assert_eq!((status(&output), stderr(&output).as_str()), (0, ""));
+    }
+}
+
+#[test]
+fn what_is_written_to_a_stream_stands_in_its_order() {
+    let folder = folder("faults-order");
+    // The trace comes before the words by whatever descriptor they go.
+    let traced = "$W run put.ws --trace --words /dev/fd/3 3>&1";
+    let said = stdout(&shell(&folder, traced));
+    assert!(said.contains("main ends\n7\nstopped 11 "), "{said}");
+    let sheet = shell(&folder, "$W asm put.ws -o -").stdout;
+    for to in ["/dev/stdout", "-", "log"] {
+        let script = format!("{{ echo before; $W asm put.ws -o {to}; echo after; }} >log; cat log");
+        let expected = [b"before\n", &sheet[..], b"after\n"].concat();
+        assert_eq!(shell(&folder, &script).stdout, expected, "{to}");
+    }
+}
+
+#[test]
+fn an_input_that_is_closed_is_an_error() {
+    let folder = folder("faults-closed-input");
+    let reading = [
+        ("check - <&-", "standard input"),
+        ("check --json - <&- >/dev/null", "standard input"),
+        ("run put.ws --reads - <&-", "standard input"),
+        ("asm - -o out <&-", "standard input"),
+        ("check /dev/stdin <&-", "/dev/stdin"),
+        // Open, but not to be read.
+        ("check - 0>out", "standard input"),
+    ];
+    for (call, name) in reading {
+        let output = shell(&folder, &format!("$W {call}"));
+        assert_eq!((status(&output), stdout(&output).as_str()), (2, ""));
+        let message = format!("wennathig: {name} cannot be read: Bad file descriptor");
+        assert!(stderr(&output).starts_with(&message), "{call}");
+    }
+}
+
+#[test]
+fn an_output_that_is_closed_is_an_error_where_it_is_needed() {
+    let folder = folder("faults-closed-output");
+    for call in [
+        "check put.ws >&-",
+        "run put.ws >&-",
+        "run put.ws --words out >&-",
+        "asm put.ws -o - >&-",
+        "asm put.ws -o /dev/stdout >&-",
+        "dis put.ws >&-",
+        "help >&-",
+        "--version >&-",
+        "check put.ws 1<put.ws",
+    ] {
+        let output = shell(&folder, &format!("$W {call}"));
+        assert_eq!(status(&output), 3, "{call}");
+        let message = "wennathig: the output cannot be written: Bad file descriptor";
+        assert!(stderr(&output).starts_with(message), "{call}");
+    }
+    // What needs no stream does without, and a device given is no closed one.
+    for call in [
+        "check -q put.ws <&- >&- 2>&-",
+        "asm put.ws -o out <&- >&- 2>&-",
+        "run -q put.ws --words /dev/null >&-",
+        "run put.ws --reads - </dev/null >/dev/null",
+    ] {
+        assert_eq!(status(&shell(&folder, &format!("$W {call}"))), 0, "{call}");
+    }
+}
+
+/// The command with sockets that do not wait for its streams, and ours.
+fn unready(arguments: &[&str]) -> (Child, UnixStream, UnixStream) {
+    let socket = || {
+        let (ours, theirs) = UnixStream::pair().expect("two sockets");
+        theirs.set_nonblocking(true).expect("a socket");
+        (ours, Stdio::from(OwnedFd::from(theirs)))
+    };
+    let ((input, stdin), (output, stdout)) = (socket(), socket());
+    let child = Command::new(env!("CARGO_BIN_EXE_wennathig"))
+        .args(arguments)
+        .stdin(stdin)
+        .stdout(stdout)
+        .spawn()
+        .expect("the command starts");
+    (child, input, output)
+}
+
+#[test]
+fn a_stream_that_is_not_ready_is_waited_for() {
+    // So much that an output without a reader is full.
+    let bytes = b"\0VR\0\0".repeat(50_000);
+    let expected = wennathig(&["dis", "-"], &bytes).stdout;
+    let (mut child, mut input, mut output) = unready(&["dis", "-"]);
+    for half in bytes.chunks(bytes.len() / 2) {
+        thread::sleep(Duration::from_millis(50));
+        input.write_all(half).expect("the command reads");
+    }
+    drop(input);
+    thread::sleep(Duration::from_millis(200));
+    let mut found = Vec::new();
+    output.read_to_end(&mut found).expect("the command writes");
+    assert!(found == expected, "{} bytes", found.len());
+    assert_eq!(child.wait().expect("it ends").code(), Some(0));
+}
+
+#[test]
+fn a_reader_that_is_gone_is_an_error_for_a_sheet_or_a_text_only() {
+    let folder = folder("faults-gone");
+    let put = written(&folder, "put.ws", PUT);
+    let cases: [(&[&str], i32, &str); 6] = [
+        (&["asm", &put, "-o", "-"], 3, "Broken pipe"),
+        (&["asm", &put, "-o", "/dev/stdout"], 3, "Broken pipe"),
+        (&["dis", &put], 3, "Broken pipe"),
+        (&["check", &put], 0, ""),
+        (&["run", &put], 0, ""),
+        (&["help"], 0, ""),
+    ];
+    for (call, expected, cause) in cases {
+        let (ours, theirs) = UnixStream::pair().expect("two sockets");
+        drop(ours);
+        let output = Command::new(env!("CARGO_BIN_EXE_wennathig"))
+            .args(call)
+            .stdout(OwnedFd::from(theirs))
+            .stderr(Stdio::piped())
+            .output()
+            .expect("the command starts");
+        assert_eq!(status(&output), expected, "{call:?}");
+        let said = stderr(&output);
+        assert_eq!(said.lines().count(), usize::from(expected != 0), "{said}");
+        assert!(said.contains(cause), "{said}");
+    }
+}
+
+#[test]
+fn a_report_for_which_there_is_no_memory_is_misuse() {
+    let folder = folder("faults-memory");
+    let script = "ulimit -v 60000; $W run --report 16777216 put.ws --fuel 10";
+    let output = shell(&folder, script);
+    assert_eq!((status(&output), stdout(&output).as_str()), (2, ""));
+    let expected = "wennathig: --report 16777216: there is not so much memory\n";
+    assert_eq!(stderr(&output), expected);
+}
+
+#[test]
+fn an_empty_name_is_misuse() {
+    let folder = folder("faults-empty");
+    let put = written(&folder, "put.ws", PUT);
+    let calls: [&[&str]; 7] = [
+        &["check", ""],
+        &["run", &put, "--reads", ""],
+        &["run", &put, "--words", ""],
+        &["asm", "", "-o", "-"],
+        &["asm", &put, "-o", ""],
+        &["dis", ""],
+        &["dis", &put, "-o", ""],
+    ];
+    for call in calls {
+        let output = wennathig(call, &[]);
+        assert_eq!((status(&output), stdout(&output).as_str()), (2, ""));
+        let expected = "wennathig: the name of a file cannot be empty\n";
+        assert_eq!(stderr(&output), expected, "{call:?}");
+    }
 }
