@@ -5,7 +5,7 @@ use crate::paint::Paint;
 use crate::{show, FAILED, MISUSE};
 use std::ffi::{OsStr, OsString};
 use std::io::{self, BufWriter, Write};
-use text::Span;
+use text::{Span, MAX_ERRORS};
 
 #[derive(Debug)]
 pub enum Failure {
@@ -89,6 +89,11 @@ impl Faulty {
                 let line = lines.get(span.line - 1).copied().unwrap_or_default();
                 writeln!(errors, "{}", show::line(line, span.line, &[*span], paint))?;
             }
+        }
+        // The text may have more.
+        if self.errors.len() == MAX_ERRORS {
+            let only = format!("only the first {MAX_ERRORS} errors are told");
+            writeln!(errors, "wennathig: of {name} {only}")?;
         }
         Ok(())
     }
