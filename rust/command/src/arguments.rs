@@ -1,7 +1,7 @@
 //! The arguments after the word of a task, told apart into files and options.
 
 use crate::help;
-use crate::tasks::{Entry, Known, TASKS};
+use crate::tasks::{Entry, Known, OF_ALL, OF_NONE, TASKS};
 use crate::Failure;
 use std::ffi::{OsStr, OsString};
 use std::os::unix::ffi::OsStrExt;
@@ -35,11 +35,8 @@ impl Given {
 
     fn add_option(&mut self, argument: &OsStr, rest: &mut Iter<OsString>) -> Result<(), Failure> {
         let (name, attached) = parted(argument);
-        let is_long = name.len() > 2;
         let known = name.to_str().and_then(|name| self.task.option(name));
-        // `-quiet` is no -q with a value.
-        let known = known.filter(|known| known.value.is_some() || is_long || attached.is_none());
-        let Some(known) = known else {
+        let Some(known) = known.filter(|known| is_meant(known, name, attached)) else {
             return self.misuse(self.unknown(argument));
         };
         let shown = quoted(&name.to_string_lossy());
@@ -66,6 +63,9 @@ impl Given {
         let shown = quoted(name);
         if TASKS.iter().any(|task| task.option(name).is_some()) {
             return format!("{shown} is no option of {}", self.task.word);
+        }
+        if OF_NONE.iter().any(|known| known.names.contains(&name)) {
+            return format!("{shown} stands alone, in place of a task");
         }
         let names = self.task.options().flat_map(|known| known.names);
         let near = nearest(name, names.copied());
@@ -131,6 +131,25 @@ pub fn misuse<T>(message: impl AsRef<str>, usage: &str) -> Result<T, Failure> {
     Err(Failure::Misuse(format!("{message}\n{usage}")))
 }
 
+/// What is said of a call that begins with something other than a task, and
+/// with a dash.
+pub fn misplaced(argument: &OsStr) -> String {
+    if argument == "--" {
+        return String::from("-- comes after the task, where it ends the options");
+    }
+    let (name, attached) = parted(argument);
+    let said = name.to_string_lossy();
+    let known = TASKS.iter().find_map(|task| task.option(&said));
+    if known.is_some_and(|known| is_meant(known, name, attached)) {
+        return format!("{said} is an option: options come after the task");
+    }
+    let whole = argument.to_string_lossy();
+    let in_place = OF_ALL.iter().chain(OF_NONE);
+    let names = in_place.flat_map(|known| known.names).copied();
+    let near = nearest(&whole, names);
+    format!("no such option: {}{near}", quoted(&whole))
+}
+
 /// The name of an option and the value that stands with it, as in `--fuel=3`
 /// and `-oOUT`.
 fn parted(argument: &OsStr) -> (&OsStr, Option<&OsStr>) {
@@ -148,12 +167,23 @@ fn parted(argument: &OsStr) -> (&OsStr, Option<&OsStr>) {
     (OsStr::from_bytes(name), value.map(OsStr::from_bytes))
 }
 
+/// Whether an option is meant where its name and what is attached stand:
+/// `-quiet` is no -q with a value.
+fn is_meant(known: &Known, name: &OsStr, attached: Option<&OsStr>) -> bool {
+    let is_long = name.len() > 2;
+    known.value.is_some() || is_long || attached.is_none()
+}
+
 /// A question after the known words that a wrong one nearly is, if any.
 pub fn nearest<'a>(wrong: &str, known: impl Iterator<Item = &'a str>) -> String {
     let begun = |word: &str| !wrong.trim_start_matches('-').is_empty() && word.starts_with(wrong);
-    let near: Vec<&str> = known
-        .filter(|word| begun(word) || one_slip(wrong.as_bytes(), word.as_bytes()))
-        .collect();
+    // Every short option is one slip from any other.
+    let is_short = wrong.starts_with('-') && wrong.chars().count() == 2;
+    let is_near = |word: &&str| match is_short {
+        true => word.eq_ignore_ascii_case(wrong),
+        false => begun(word) || one_slip(wrong.as_bytes(), word.as_bytes()),
+    };
+    let near: Vec<&str> = known.filter(is_near).collect();
     match near.is_empty() {
         true => String::new(),
         false => format!("; is it {}?", near.join(" or ")),

@@ -2,10 +2,11 @@
 
 use crate::files::name_of;
 use crate::paint::Paint;
+use crate::streams::{Stream, ERRORS};
 use crate::{show, FAILED, MISUSE};
 use std::ffi::{OsStr, OsString};
 use std::io::{self, BufWriter, Write};
-use text::Span;
+use text::{Span, MAX_ERRORS};
 
 #[derive(Debug)]
 pub enum Failure {
@@ -63,7 +64,7 @@ impl Failure {
 
     /// Says it on standard error, which nobody may be left to read.
     pub fn say(&self, paint: Paint) {
-        let mut errors = BufWriter::new(io::stderr());
+        let mut errors = BufWriter::new(Stream::of(ERRORS));
         let _ = match self {
             Failure::Faulty(faulty) => faulty.say(paint, &mut errors),
             Failure::Misuse(message) | Failure::Failed(message) | Failure::Output(message) => {
@@ -89,6 +90,11 @@ impl Faulty {
                 let line = lines.get(span.line - 1).copied().unwrap_or_default();
                 writeln!(errors, "{}", show::line(line, span.line, &[*span], paint))?;
             }
+        }
+        // The text may have more.
+        if self.errors.len() == MAX_ERRORS {
+            let only = format!("only the first {MAX_ERRORS} errors are told");
+            writeln!(errors, "wennathig: of {name} {only}")?;
         }
         Ok(())
     }

@@ -1,5 +1,6 @@
 //! JSON, as far as the command writes it: an object on one line.
 
+use crate::quote::is_hidden;
 use std::fmt::Write;
 
 /// An object whose keys stay in the order in which they are added.
@@ -59,7 +60,8 @@ fn list(values: impl Iterator<Item = String>) -> String {
     said + "]"
 }
 
-/// A string of JSON.
+/// A string of JSON. It may be shown on a terminal, and what ends a line where
+/// a reader takes JSON for a script, 2028 and 2029, is hidden too.
 fn text(value: &str) -> String {
     let mut said = String::from("\"");
     for character in value.chars() {
@@ -68,10 +70,11 @@ fn text(value: &str) -> String {
             '\n' => said += "\\n",
             '\r' => said += "\\r",
             '\t' => said += "\\t",
-            // 2028 and 2029 end a line where a reader takes JSON for a script.
-            control if control.is_control() || matches!(control, '\u{2028}' | '\u{2029}') => {
-                // Writing to a string cannot fail.
-                let _ = write!(said, "\\u{:04x}", u32::from(control));
+            hidden if is_hidden(hidden) => {
+                for unit in hidden.encode_utf16(&mut [0; 2]) {
+                    // Writing to a string cannot fail.
+                    let _ = write!(said, "\\u{unit:04x}");
+                }
             }
             plain => said.push(plain),
         }
@@ -94,5 +97,12 @@ mod tests {
         let expected = r#"{"a\"b":"c\\d\n\u001b\u007fé\u2028","none":[],"two":["x","\t"],"objects":[{"n":1,"yes":true}]}"#;
         assert_eq!(said.said(), expected);
         assert_eq!(Object::new().said(), "{}");
+    }
+
+    #[test]
+    fn what_a_terminal_obeys_is_escaped_and_what_it_shows_is_not() {
+        let said = Object::new().text("a", "\u{202e}b\u{feff}\u{200b}\u{e0001}'\u{1f600}\u{a0}");
+        let expected = "{\"a\":\"\\u202eb\\ufeff\\u200b\\udb40\\udc01'\u{1f600}\u{a0}\"}";
+        assert_eq!(said.said(), expected);
     }
 }

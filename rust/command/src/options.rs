@@ -1,10 +1,11 @@
 //! What the arguments ask for.
 
-use crate::arguments::{misuse, nearest, Given};
+use crate::arguments::{misplaced, misuse, nearest, Given};
 use crate::paint::When;
 use crate::tasks::{by_word, Entry, Kind, TASKS};
 use crate::{help, Failure};
 use std::ffi::{OsStr, OsString};
+use std::os::unix::ffi::OsStrExt;
 use text::quoted;
 
 pub enum Task {
@@ -78,8 +79,11 @@ impl Task {
         if is_help(word) {
             return about(rest);
         }
-        if rest.is_empty() && (word == "--version" || word == "-V") {
-            return Ok(Task::Version);
+        if word == "--version" || word == "-V" {
+            return version(word, rest);
+        }
+        if word.as_bytes().starts_with(b"-") && word.len() > 1 {
+            return misuse(misplaced(word), &help::usages());
         }
         let given = Given::read(task(word)?, rest)?;
         if given.has("--help") {
@@ -118,6 +122,16 @@ fn task(word: &OsStr) -> Result<&'static Entry, Failure> {
 
 fn is_help(word: &OsStr) -> bool {
     ["help", "--help", "-h"].iter().any(|help| word == *help)
+}
+
+/// The version is asked for by that word and no other.
+fn version(word: &OsStr, rest: &[OsString]) -> Result<Task, Failure> {
+    let Some(next) = rest.first() else {
+        return Ok(Task::Version);
+    };
+    let (word, found) = (word.to_string_lossy(), next.to_string_lossy());
+    let message = format!("{word} stands alone, found also {}", quoted(&found));
+    misuse(message, &help::usages())
 }
 
 /// The task that help is wanted of.

@@ -33,14 +33,18 @@ impl When {
 
     fn of(self, stream: &impl IsTerminal) -> Paint {
         let refused = env::var_os("NO_COLOR").is_some_and(|value| !value.is_empty());
-        let dumb = env::var_os("TERM").is_some_and(|value| value == "dumb");
         let on = match self {
-            When::Auto => stream.is_terminal() && !refused && !dumb,
+            When::Auto => stream.is_terminal() && !refused && !is_dumb(),
             When::Always => true,
             When::Never => false,
         };
         Paint { on }
     }
+}
+
+/// Whether the terminal is said to obey no controls.
+pub fn is_dumb() -> bool {
+    env::var_os("TERM").is_some_and(|value| value == "dumb")
 }
 
 /// Paints, or leaves as it is.

@@ -1,6 +1,7 @@
 //! A sign of life on the terminal while a run takes long. Where standard
-//! error is no terminal, nothing is written.
+//! error is no terminal, or a dumb one, nothing is written.
 
+use crate::paint::is_dumb;
 use std::io::{self, IsTerminal, Write};
 use std::sync::mpsc::{channel, RecvTimeoutError};
 use std::thread;
@@ -10,7 +11,12 @@ const EVERY: Duration = Duration::from_secs(1);
 
 /// Does the work; meanwhile the seconds since its beginning are shown.
 pub fn shown<T>(work: impl FnOnce() -> T) -> T {
-    if !io::stderr().is_terminal() {
+    shown_if(true, work)
+}
+
+/// As [`shown`], if it is wanted.
+pub fn shown_if<T>(is_wanted: bool, work: impl FnOnce() -> T) -> T {
+    if !is_wanted || is_dumb() || !io::stderr().is_terminal() {
         return work();
     }
     let (done, wait) = channel::<()>();

@@ -49,7 +49,8 @@ fn one(
         memory_words: usize::try_from(options.memory).unwrap_or(usize::MAX),
     };
     let mut report = engine::zeros("--report", options.report as usize)?;
-    let outcome = progress::shown(|| match options.watch {
+    let is_loud = options.sheets.manner != Manner::Quiet;
+    let outcome = progress::shown_if(is_loud, || match options.watch {
         true => engine::watch(&lent, &mut report),
         false => engine::run(&lent, &mut report),
     })?;

@@ -262,13 +262,13 @@ fn lines_that_cannot_be_meant_are_errors() {
         "# put: 1 2\n# expect: accepted 0 0",
         PUTS,
         "1:3",
-        "`put:` stands outside",
+        "`put:` stands before `# expect:`",
     );
     errs(
         "# expect: accepted 0 0\n\n# put: 1 2",
         PUTS,
         "3:3",
-        "`put:` stands outside",
+        "`put:` stands outside the head, after line 2, which is empty",
     );
     errs(
         "# expect: accepted 0 0\n\n# expect: accepted 0 0",
@@ -276,12 +276,56 @@ fn lines_that_cannot_be_meant_are_errors() {
         "3:3",
         "`expect:` stands outside",
     );
+}
+
+#[test]
+fn keys_in_the_body_are_errors_also_where_they_are_indented() {
+    let head = "# expect: accepted 0 0\nprocedure main";
+    let after = "`put:` stands outside the head, after line 2, which does not begin with `#`";
+    for (line, place) in [
+        ("# put: the next", "3:3"),
+        (" # put: the next", "3:4"),
+        ("\t  #put: the next", "3:5"),
+    ] {
+        errs(&format!("{head}\n{line}"), "return", place, after);
+    }
+    // What is no key, or follows a statement, is a comment like any other.
+    let body = " # output: the next\n # put the next\n return # put: the next";
+    holds(&format!("{head}\n{body}"), "", "accepted 0 0", 1);
+}
+
+#[test]
+fn a_head_that_does_not_begin_the_text_is_told_why() {
+    let expect = "# expect: accepted 0 0";
+    let first = "expected `# expect:` at the start of the text, found it after line 1, which";
     errs(
-        "\n# expect: accepted 0 0",
+        &format!("\n{expect}"),
         PUTS,
         "2:3",
-        "`expect:` stands outside",
+        &format!("{first} is empty"),
     );
+    let text = format!("procedure main\n  {expect}");
+    let message = format!("{first} does not begin with `#`");
+    errs(&text, "return", "2:5", &message);
+    // A line of the head has nothing before its #, whatever it says.
+    let blank = "expected `#` at the start of the line, found a blank before it";
+    errs(&format!("  {expect}"), PUTS, "1:1", blank);
+    errs(
+        &format!("# Prose.\n\t# More.\n{expect}"),
+        PUTS,
+        "2:1",
+        blank,
+    );
+    errs(&format!("{expect}\n # put: 1 2"), PUTS, "2:1", blank);
+    errs(&format!("{expect}\n # stpo: 11 done"), PUTS, "2:1", blank);
+}
+
+/// Which of the stops a head may expect, its help says.
+#[test]
+fn help_names_the_refusal_of_the_memory() {
+    let help = stdout(&wennathig(&["help", "test"], &[]));
+    assert!(help.contains("or 10 big bench where the memory lent is refused"));
+    assert!(help.lines().all(|line| line.chars().count() <= 120));
 }
 
 #[test]

@@ -196,7 +196,7 @@ fn layout() -> Vec<Case> {
     let raw = |lines: &str| format!("raw\n{lines}");
     const MAIN: &str = "PR 0 0 0 255 1\nIN 17 255 255 255 0";
     vec![
-        case(raw(&format!("bytes{}", " 00".repeat(32_769))), 1, "", &["the sheet has 32769 bytes, at most 32768 are read"]),
+        case(raw(&format!("bytes{}", " 00".repeat(32_769))), 1, "", &["the sheet has 32,769 bytes, 1 more than there may be"]),
         case(raw("HD 1 0 0 1\nPR 0 0 0 255 1\nbytes 49 4E 11"), 2, "bytes 49 4E 11", &["IN, a record of 8 bytes, is due here, and 3 bytes are left"]),
         case(raw("HD 1 0 0 1\nPR 0 0 0 255 1"), 2, "", &["IN, a record of 8 bytes, is due here, and 0 bytes are left"]),
         case(raw(&format!("HD 1 0 0 1\n{MAIN}\nbytes 00")), 2, "bytes 00", &["1 byte is left over after the last record"]),

@@ -5,6 +5,7 @@ mod common;
 use common::{folder, status, stderr, stdout, wennathig, written};
 use std::fs;
 use std::process::{Command, Output, Stdio};
+use std::thread;
 
 /// Puts one word and is done after three steps.
 const ONE: &[u8] =
@@ -103,7 +104,7 @@ fn the_version_is_that_of_the_header() {
 
 #[test]
 fn a_near_miss_is_told_and_not_taken() {
-    let calls: [(&[&str], &str); 11] = [
+    let calls: [(&[&str], &str); 15] = [
         (
             &["run", "--feul", "3"],
             "no such option: --feul; is it --fuel?",
@@ -121,6 +122,11 @@ fn a_near_miss_is_told_and_not_taken() {
             "no such option: --re; is it --reads or --report?",
         ),
         (&["run", "-quiet"], "no such option: -quiet; is it --quiet?"),
+        // Of short options any is one slip from any other.
+        (&["run", "-x"], "no such option: -x"),
+        (&["run", "-Q"], "no such option: -Q; is it -q?"),
+        (&["asm", "-O", "x"], "no such option: -O; is it -o?"),
+        (&["run", "-qx"], "no such option: -qx; is it -q?"),
         (&["run", "--json=yes"], "--json takes no value"),
         (&["run", "--nothing"], "no such option: --nothing"),
         (&["check", "--fuel=3"], "--fuel is no option of check"),
@@ -132,6 +138,49 @@ fn a_near_miss_is_told_and_not_taken() {
         let output = wennathig(call, &[]);
         let first = stderr(&output).lines().next().map(String::from);
         assert_eq!(first, Some(format!("wennathig: {expected}")), "{call:?}");
+        assert_eq!((status(&output), stdout(&output).as_str()), (2, ""));
+    }
+}
+
+#[test]
+fn what_stands_in_place_of_a_task_is_told() {
+    let calls: [(&[&str], &str); 12] = [
+        (&["--version", "x"], "--version stands alone, found also x"),
+        (
+            &["-V", "\x1b[31m"],
+            "-V stands alone, found also \\u{1b}[31m",
+        ),
+        (
+            &["check", "--version"],
+            "--version stands alone, in place of a task",
+        ),
+        (
+            &["--quiet", "check", "s.ws"],
+            "--quiet is an option: options come after the task",
+        ),
+        (
+            &["--fuel=3", "run", "s.ws"],
+            "--fuel is an option: options come after the task",
+        ),
+        (
+            &["-oout", "asm", "s.ws"],
+            "-o is an option: options come after the task",
+        ),
+        (
+            &["--", "check", "s.ws"],
+            "-- comes after the task, where it ends the options",
+        ),
+        (&["--vesion"], "no such option: --vesion; is it --version?"),
+        (&["-v"], "no such option: -v; is it -V?"),
+        (&["-x"], "no such option: -x"),
+        (&["-quiet", "check"], "no such option: -quiet"),
+        (&["-"], "no such task: -"),
+    ];
+    for (call, expected) in calls {
+        let output = wennathig(call, &[]);
+        let said = stderr(&output);
+        let expected = format!("wennathig: {expected}\nusage: wennathig ");
+        assert!(said.starts_with(&expected), "{call:?}: {said}");
         assert_eq!((status(&output), stdout(&output).as_str()), (2, ""));
     }
 }
@@ -188,10 +237,11 @@ fn colour_is_only_where_it_is_asked_for() {
     }
 }
 
-/// What the command prints on a terminal, with these variables set.
-fn on_terminal(variables: &str, sheet: &str) -> String {
+/// What the command prints on a terminal, with these variables set and these
+/// arguments. It is ended after a while.
+fn on_terminal(variables: &str, arguments: &str) -> String {
     let command = env!("CARGO_BIN_EXE_wennathig");
-    let line = format!("env {variables} '{command}' check '{sheet}'");
+    let line = format!("env {variables} timeout 3 '{command}' {arguments}");
     let output = Command::new("script")
         .args(["-qec", &line, "/dev/null"])
         .env_remove("NO_COLOR")
@@ -205,12 +255,44 @@ fn on_terminal(variables: &str, sheet: &str) -> String {
 fn a_terminal_has_colour_unless_it_is_refused() {
     let folder = folder("options-terminal");
     let sheet = written(&folder, "one.ws", ONE);
+    let call = format!("check '{sheet}'");
     let painted = "\x1b[32maccepted\x1b[0m 0 0";
     for variables in ["TERM=xterm", "TERM=xterm NO_COLOR="] {
-        assert_eq!(on_terminal(variables, &sheet).trim_end(), painted);
+        assert_eq!(on_terminal(variables, &call).trim_end(), painted);
     }
     for variables in ["TERM=dumb", "TERM=xterm NO_COLOR=1"] {
-        let said = on_terminal(variables, &sheet);
+        let said = on_terminal(variables, &call);
         assert_eq!(said.trim_end(), "accepted 0 0", "{variables}");
     }
+}
+
+/// Runs until its fuel is spent, which takes longer than a test waits.
+const ENDLESS: &[u8] = b"procedure main
+    variable zero: integer
+    set zero := 0
+again:
+    jumpzero zero, again
+    return
+";
+
+#[test]
+fn a_long_run_shows_that_it_lives_unless_it_is_quiet_or_the_terminal_dumb() {
+    let folder = folder("options-progress");
+    let sheet = written(&folder, "endless.ws", ENDLESS);
+    let call = format!("run '{sheet}' --fuel={}", u64::MAX);
+    let quiet = format!("{call} --quiet");
+    let calls = [
+        ("TERM=xterm", &call, true),
+        ("TERM=xterm", &quiet, false),
+        ("TERM=dumb", &call, false),
+    ];
+    thread::scope(|scope| {
+        for (variables, call, is_shown) in calls {
+            scope.spawn(move || {
+                let said = on_terminal(variables, call);
+                assert_eq!(said.contains("\rrunning, 1 s"), is_shown, "{said:?}");
+                assert!(is_shown || said.is_empty(), "{said:?}");
+            });
+        }
+    });
 }

@@ -293,3 +293,26 @@ fn reads_have_white_space_between_them() {
     let output = wennathig(&["run", &all.echo, "--reads", "-"], &long);
     assert!(output.stderr.len() < 300, "{} bytes", output.stderr.len());
 }
+
+#[test]
+fn that_errors_are_left_out_is_said() {
+    let folder = folder("scripting-many");
+    let many = |count: usize| {
+        let text = format!("procedure main\n{}", "put $\n".repeat(count));
+        written(&folder, &format!("{count}.ws"), text.as_bytes())
+    };
+    let last = |path: &str, manner: &str| {
+        let output = wennathig(&["check", path, manner], &[]);
+        assert_eq!(status(&output), 2);
+        let said = stderr(&output);
+        assert_eq!(stdout(&output).matches("\"line\":").count() % 100, 0);
+        said.lines().last().map(String::from)
+    };
+    let path = many(101);
+    let expected = format!("wennathig: of {path} only the first 100 errors are told");
+    for manner in ["--text", "--quiet", "--json"] {
+        assert_eq!(last(&path, manner).as_ref(), Some(&expected), "{manner}");
+    }
+    let all = last(&many(99), "--text").unwrap_or_default();
+    assert!(!all.contains("only"), "{all}");
+}

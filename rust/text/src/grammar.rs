@@ -3,6 +3,7 @@
 use crate::lexer::{tokens, Token};
 use crate::mnemonic::{Mnemonic, Piece};
 use crate::quote::quoted;
+use crate::raw::{RAW, RAW_ELSEWHERE};
 use crate::span::{Error, Span};
 use crate::syntax::{
     Base, Body, Constant, Instruction, Line, Name, ProcedureLine, QualLine, Qualified, Rights,
@@ -27,29 +28,18 @@ pub fn line(text: &str, number: usize) -> Line<'_> {
 /// The tokens of a line, End being the last, and the next to be read.
 pub struct Parser<'a> {
     tokens: Vec<(Token<'a>, Span)>,
-    /// A character that is none of a token; it comes before other errors.
-    error: Option<Error>,
     at: usize,
 }
 
 impl<'a> Parser<'a> {
     pub fn new(text: &'a str, number: usize) -> Self {
         let tokens = tokens(text, number);
-        Parser {
-            tokens: tokens.all,
-            error: tokens.error,
-            at: 0,
-        }
+        Parser { tokens, at: 0 }
     }
 
     /// Whether the line says nothing.
     pub fn is_empty(&self) -> bool {
-        self.error.is_none() && self.peek() == Token::End
-    }
-
-    /// An error where a character is none of a token.
-    pub fn lexical(&mut self) -> Result<(), Error> {
-        self.error.take().map_or(Ok(()), Err)
+        self.peek() == Token::End
     }
 
     /// The names at the beginning that a colon follows.
@@ -72,8 +62,7 @@ impl<'a> Parser<'a> {
 
     /// The statement after the labels, with its columns.
     fn body(&mut self) -> Result<Option<(Statement<'a>, Span)>, Error> {
-        self.lexical()?;
-        if self.peek() == Token::End {
+        if self.is_empty() {
             return Ok(None);
         }
         let start = self.span();
@@ -115,6 +104,7 @@ impl<'a> Parser<'a> {
         let found = match self.peek() {
             Token::Word(word) => format!("`{}`", quoted(word)),
             Token::Mark(mark) => format!("`{mark}`"),
+            Token::Stray(character) => format!("`{}`", quoted(&character.to_string())),
             Token::End => String::from("the end of the line"),
         };
         let message = format!("expected {expected}, found {found}");
@@ -207,6 +197,7 @@ impl<'a> Parser<'a> {
             "procedure" => self.procedure_line().map(Statement::Procedure),
             "formal" => self.formal_line().map(Statement::Variables),
             "variable" => self.variable_line().map(Statement::Variables),
+            RAW => Err(Error::new(self.span(), RAW_ELSEWHERE)),
             word => match Mnemonic::by_word(word) {
                 Some(mnemonic) => self.instruction(mnemonic).map(Statement::Instruction),
                 None => self.unexpected(expected),

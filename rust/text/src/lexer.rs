@@ -1,13 +1,14 @@
 //! A line made into tokens.
 
-use crate::quote::quoted;
-use crate::span::{Error, Span};
+use crate::span::Span;
 
 #[derive(Clone, Copy, Debug, PartialEq, Eq)]
 pub enum Token<'a> {
     /// Letters, digits and underscores: a name, or, after a digit, a number.
     Word(&'a str),
     Mark(&'static str),
+    /// A character that starts none of the others; no statement has it.
+    Stray(char),
     /// The end of the line or the beginning of its comment.
     End,
 }
@@ -17,57 +18,47 @@ const MARKS: [&str; 15] = [
     ":=", "<-", "{", "}", "[", "]", "(", ")", ",", ":", "=", "<", "+", "-", ".",
 ];
 
-/// A line's tokens, the last of them End, and its first character that
-/// starts none; such characters are passed over.
-pub struct Tokens<'a> {
-    pub all: Vec<(Token<'a>, Span)>,
-    pub error: Option<Error>,
-}
-
-pub fn tokens(line: &str, number: usize) -> Tokens<'_> {
-    let (mut all, mut error) = (Vec::new(), None);
+/// A line's tokens, the last of them End. Of its stray characters only the
+/// first is among them: no reader of the line passes it.
+pub fn tokens(line: &str, number: usize) -> Vec<(Token<'_>, Span)> {
+    let (mut all, mut has_strayed) = (Vec::new(), false);
     let (mut rest, mut column) = (line, 1);
     loop {
         let after = rest.trim_start_matches([' ', '\t', '\r']);
         column += rest.len() - after.len();
         let (token, length) = next(after);
+        let is_stray = matches!(token, Token::Stray(_));
         // A character may have more bytes than its one column.
-        let columns = if token.is_some() { length } else { 1 };
+        let columns = if is_stray { 1 } else { length };
         let span = Span {
             line: number,
             start: column,
             end: column + columns,
         };
-        match token {
-            Some(token) => all.push((token, span)),
-            None => error = error.or_else(|| Some(no_token(span, &after[..length]))),
+        if !(is_stray && has_strayed) {
+            all.push((token, span));
         }
-        if token == Some(Token::End) {
-            return Tokens { all, error };
+        if token == Token::End {
+            return all;
         }
+        has_strayed |= is_stray;
         column += columns;
         rest = &after[length..];
     }
 }
 
-fn no_token(span: Span, found: &str) -> Error {
-    let found = quoted(found);
-    let message = format!("expected a name, a number or a mark, found `{found}`");
-    Error::new(span, message)
-}
-
-/// The first token, or None for a character that starts none, and the length
-/// in bytes.
-fn next(rest: &str) -> (Option<Token<'_>>, usize) {
+/// The first token, and its length in bytes.
+fn next(rest: &str) -> (Token<'_>, usize) {
     let Some(first) = rest.chars().next().filter(|&first| first != '#') else {
-        return (Some(Token::End), 0);
+        return (Token::End, 0);
     };
     let is_word = |byte: &u8| byte.is_ascii_alphanumeric() || *byte == b'_';
     let length = rest.bytes().take_while(|byte| is_word(byte)).count();
     if length > 0 {
-        return (Some(Token::Word(&rest[..length])), length);
+        return (Token::Word(&rest[..length]), length);
     }
-    let mark = MARKS.into_iter().find(|mark| rest.starts_with(mark));
-    let length = mark.map_or(first.len_utf8(), str::len);
-    (mark.map(Token::Mark), length)
+    match MARKS.into_iter().find(|mark| rest.starts_with(mark)) {
+        Some(mark) => (Token::Mark(mark), mark.len()),
+        None => (Token::Stray(first), first.len_utf8()),
+    }
 }

@@ -14,12 +14,14 @@ use crate::span::Error;
 pub const RAW: &str = "raw";
 pub const BYTES: &str = "bytes";
 
-/// Whether the first line that says something says that the text is raw.
+pub const RAW_ELSEWHERE: &str =
+    "expected `raw` alone in its line and before all others, found it elsewhere";
+
+/// Whether the first line that says something begins with `raw`, and not as
+/// a label.
 pub fn is_raw(text: &str) -> bool {
     let first = parsers(text).find(|parser| !parser.is_empty());
-    first.is_some_and(|mut first| {
-        first.lexical().is_ok() && first.passed_word(RAW) && first.end().is_ok()
-    })
+    first.is_some_and(|mut first| first.passed_word(RAW) && first.peek() != Token::Mark(":"))
 }
 
 /// The lines of a text, none of them read.
@@ -32,8 +34,10 @@ fn parsers(text: &str) -> impl Iterator<Item = Parser<'_>> {
 pub fn assemble(text: &str) -> Result<Assembled, Vec<Error>> {
     let mut writer = Writer::default();
     let mut errors = Errors::default();
-    // The first that says something says `raw`.
-    for mut parser in parsers(text).skip_while(Parser::is_empty).skip(1) {
+    let mut lines = parsers(text).skip_while(Parser::is_empty);
+    let first = lines.next().map_or(Ok(()), first_line);
+    first.unwrap_or_else(|error| errors.add(error));
+    for mut parser in lines {
         if let Err(error) = statement(&mut parser, &mut writer) {
             errors.add(error);
         }
@@ -51,14 +55,23 @@ pub fn assemble(text: &str) -> Result<Assembled, Vec<Error>> {
     })
 }
 
+/// The line that begins with `raw`.
+fn first_line(mut parser: Parser) -> Result<(), Error> {
+    parser.pass();
+    match parser.is_empty() {
+        true => Ok(()),
+        false => parser.unexpected("the end of the line after `raw`, which stands alone"),
+    }
+}
+
 fn statement(parser: &mut Parser, writer: &mut Writer) -> Result<(), Error> {
-    parser.lexical()?;
     if parser.is_empty() {
         return Ok(());
     }
     let expected = "HD, TY, QT, PR, VR, IN or `bytes`";
     match parser.peek() {
         Token::Word(BYTES) => bytes(parser, writer)?,
+        Token::Word(RAW) => return Err(Error::new(parser.span(), RAW_ELSEWHERE)),
         Token::Word(word) => match RecordKind::by_mark(word.as_bytes()) {
             Some(kind) => record(kind, parser, writer)?,
             None => return parser.unexpected(expected),

@@ -4,13 +4,23 @@ use text::{assemble, Error};
 
 /// A text, and the line, the column and a part of the message.
 const BAD: &[(&str, usize, usize, &str)] = &[
-    ("$", 1, 1, "expected a name, a number or a mark, found `$`"),
-    ("procedure main\nreturn\nbéf", 3, 2, "expected a name, a number or a mark, found `é`"),
+    // Characters that no statement has.
+    ("$", 1, 1, "expected type, qual, procedure, formal, variable, an instruction or a label, found `$`"),
+    ("procedure main\nreturn\nbéf", 3, 1, "expected type, qual, procedure"),
+    ("procedure main\n variable b\u{e9}: integer", 2, 12, "expected `:`, found `é`"),
+    ("procedure main\n variable a: integer\n put a; return", 3, 7, "expected the end of the line, found `;`"),
+    ("procedure main\n variable a: integer\n less a := a > a; $", 3, 14, "expected `<`, found `>`"),
+    ("procedure main\n return // x", 2, 9, "expected a variable or the end of the line, found `/`"),
+    ("procedure main\n set a = $", 2, 8, "expected `:=`, found `=`"),
+    ("procedure main\non$ return", 2, 1, "found `on`"),
+    ("type t{$}", 1, 8, "expected a right, found `$`"),
+    ("raw\nbytes 00 \u{9b}", 2, 10, r"expected a byte as two hexadecimal digits, found `\u{9b}`"),
     ("hello", 1, 1, "expected type, qual, procedure"),
     ("{", 1, 1, "found `{`"),
     ("12 set", 1, 1, "found `12`"),
     ("return", 1, 1, "expected a `procedure` line before"),
     ("loop: return", 1, 1, "expected a `procedure` line before"),
+    ("raw: return", 1, 1, "expected a `procedure` line before"),
     ("type", 1, 5, "expected the name of a type, found the end of the line"),
     ("type 7", 1, 6, "expected the name of a type, found `7`"),
     ("type integer", 1, 6, "found `integer`, which has a meaning already"),
@@ -72,6 +82,13 @@ const BAD: &[(&str, usize, usize, &str)] = &[
     ("raw\nHD 1 0 0 256", 2, 10, "expected a number from 0 to 255, found `256`"),
     ("raw\nVR 0 255 1", 2, 10, "expected the end of the line, found `1`"),
     ("raw\nbytes 48 4", 2, 10, "expected a byte as two hexadecimal digits, found `4`"),
+    // The word `raw`.
+    ("raw raw", 1, 5, "expected the end of the line after `raw`, which stands alone, found `raw`"),
+    ("# raw\n\n raw HD 1 0 0 0\nbytes 00", 3, 6, "expected the end of the line after `raw`, which stands alone, found `HD`"),
+    ("raw;\nHD 1 0 0 0", 1, 4, "after `raw`, which stands alone, found `;`"),
+    ("raw\nbytes 00\nraw", 3, 1, "expected `raw` alone in its line and before all others, found it elsewhere"),
+    ("procedure main\n return\nraw", 3, 1, "expected `raw` alone in its line and before all others, found it elsewhere"),
+    ("type t\nraw raw", 2, 1, "expected `raw` alone in its line and before all others, found it elsewhere"),
     ("raw\nbytes GG", 2, 7, "expected a byte as two hexadecimal digits"),
 ];
 

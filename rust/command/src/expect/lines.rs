@@ -7,23 +7,17 @@ const KEYS: [&str; 10] = [
     "expect", "at", "stop", "watch", "watch-at", "put", "reads", "fuel", "memory", "report",
 ];
 
+/// A line that is a comment.
 pub struct Line<'a> {
+    /// What stands before the colon, or all where there is none.
     pub key: &'a str,
     /// What follows the colon, without the blanks around it.
     pub value: &'a str,
+    has_colon: bool,
+    /// What stands before the #.
+    blank: Span,
     key_span: Span,
     value_span: Span,
-}
-
-/// Where a line stands.
-#[derive(Clone, Copy, PartialEq, Eq)]
-enum Part {
-    /// In the head, before `# expect:`.
-    Prose,
-    /// In the head, from `# expect:` on.
-    Keys,
-    /// After the first line that does not begin with #.
-    Body,
 }
 
 /// The lines of the head from `# expect:` on. All have a known key, and no
@@ -31,31 +25,62 @@ enum Part {
 pub fn read(text: &str) -> Result<Vec<Line<'_>>, Error> {
     // Some editors write a byte order mark before the first line.
     let text = text.strip_prefix('\u{feff}').unwrap_or(text);
-    let mut part = Part::Prose;
-    let mut found: Vec<Line> = Vec::new();
+    let mut found = Vec::new();
+    let mut end = None;
     for (index, said) in text.lines().enumerate() {
-        let Some(comment) = said.strip_prefix('#') else {
-            part = Part::Body;
-            continue;
-        };
-        let line = Line::new(comment, index + 1);
-        let is_known = comment.contains(':') && KEYS.contains(&line.key);
-        if part == Part::Prose && is_known && line.key == "expect" {
-            part = Part::Keys;
-        }
-        match (part, is_known) {
-            (Part::Keys, true) if found.iter().any(|other| other.key == line.key) => {
-                return Err(line.wrong("is said twice"));
+        let number = index + 1;
+        match (Line::of_comment(said, number), &end) {
+            (None, None) => end = Some(End::new(said, number)),
+            (Some(line), None) => add_to_head(line, &mut found)?,
+            (Some(line), Some(end)) if line.is_known() => {
+                return Err(line.outside(end, found.is_empty()));
             }
-            (Part::Keys, true) => found.push(line),
-            (Part::Keys, false) if !comment.trim().is_empty() => return Err(line.unknown()),
-            (Part::Prose | Part::Body, true) => {
-                return Err(line.wrong("stands outside the lines that begin with `# expect:`"));
-            }
-            (_, false) => {}
+            (_, Some(_)) => {}
         }
     }
     Ok(found)
+}
+
+/// A line of the head, which is prose before `# expect:` and has a key from
+/// there on.
+fn add_to_head<'a>(line: Line<'a>, found: &mut Vec<Line<'a>>) -> Result<(), Error> {
+    if line.blank.start < line.blank.end {
+        let message = "expected `#` at the start of the line, found a blank before it";
+        return Err(Error::new(line.blank, message));
+    }
+    let is_prose = found.is_empty() && line.key != "expect";
+    match line.is_known() {
+        true if is_prose => Err(line.wrong("stands before `# expect:`, from which the keys begin")),
+        true if found.iter().any(|other| other.key == line.key) => Err(line.wrong("is said twice")),
+        true => {
+            found.push(line);
+            Ok(())
+        }
+        false if found.is_empty() || line.is_empty() => Ok(()),
+        false => Err(line.unknown()),
+    }
+}
+
+/// The line after the head, the first that is no comment.
+struct End {
+    number: usize,
+    is_empty: bool,
+}
+
+impl End {
+    fn new(said: &str, number: usize) -> End {
+        let is_empty = said.trim().is_empty();
+        End { number, is_empty }
+    }
+
+    /// For a message about what stands after it.
+    fn said(&self) -> String {
+        let what = match self.is_empty {
+            true => "is empty",
+            false => "does not begin with `#`",
+        };
+        format!("after line {}, which {what}", self.number)
+    }
 }
 
 /// The error of a text whose head says nothing.
@@ -72,17 +97,46 @@ pub fn decimal<N: FromStr>(word: &str) -> Option<N> {
 }
 
 impl<'a> Line<'a> {
-    /// A line without a colon is all key.
-    fn new(comment: &'a str, number: usize) -> Self {
-        let (key, value) = comment.split_once(':').unwrap_or((comment, ""));
+    /// None where the line is no comment.
+    fn of_comment(said: &'a str, number: usize) -> Option<Self> {
+        let bare = said.trim_start_matches([' ', '\t', '\r']);
+        let comment = bare.strip_prefix('#')?;
+        // The blanks are characters of one byte.
+        let sign = said.len() - bare.len() + 1;
+        let parts = comment.split_once(':');
+        let (key, value) = parts.unwrap_or((comment, ""));
         let before_value = key.chars().count() + 1;
-        Line {
+        Some(Line {
             key: key.trim(),
             value: value.trim(),
-            // The # is the first column.
-            key_span: trimmed(key, number, 2),
-            value_span: trimmed(value, number, 2 + before_value),
+            has_colon: parts.is_some(),
+            blank: Span {
+                line: number,
+                start: 1,
+                end: sign,
+            },
+            key_span: trimmed(key, number, sign + 1),
+            value_span: trimmed(value, number, sign + 1 + before_value),
+        })
+    }
+
+    /// Whether it has one of the keys.
+    fn is_known(&self) -> bool {
+        self.has_colon && KEYS.contains(&self.key)
+    }
+
+    fn is_empty(&self) -> bool {
+        !self.has_colon && self.key.is_empty()
+    }
+
+    /// The error of a key after the end of the head.
+    fn outside(&self, end: &End, is_first: bool) -> Error {
+        let end = end.said();
+        if is_first && self.key == "expect" {
+            let message = format!("expected `# expect:` at the start of the text, found it {end}");
+            return Error::new(self.key_span, message);
         }
+        self.wrong(&format!("stands outside the head, {end}"))
     }
 
     fn wrong(&self, what: &str) -> Error {

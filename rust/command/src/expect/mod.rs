@@ -23,11 +23,13 @@ pub const ABOUT: &[&str] = &[
 /// What the help of the task says of heads.
 pub const HEADS: &[&str] = &[
     "The head of a text is the lines at its start that begin with #. From '# expect:' on, each of these says one",
-    "thing, as '# KEY: VALUE'; what stands before is prose. Any other line there, a key elsewhere in the text, a",
-    "value that is not of its form and a key that says nothing about the sheet are errors.",
+    "thing, as '# KEY: VALUE'; what stands before is prose. Any other line there, a blank before its #, a comment's line",
+    "elsewhere in the text that begins with a key, a value that is not of its form and a key that says nothing about the",
+    "sheet are errors.",
     "  expect    accepted 0 0, or refused NUMBER PLACE, or error LINE:COLUMN where the text does not assemble",
     "  at        the line refused, in error or stopped at, without its comment",
-    "  stop      runs an accepted sheet: its stop, such as 11 done; the watched machine must give the same",
+    "  stop      runs an accepted sheet: its stop, such as 11 done, or 10 big bench where the memory lent is refused;",
+    "            the watched machine must give the same",
     "  watch     runs a sheet refused for 6 to 9: the stop of the watched machine",
     "  watch-at  the line at which that one stops, where it is not the line refused",
     "  put       the words put by the run; none by default",

@@ -181,7 +181,7 @@ impl Trial<'_> {
     }
 
     fn ran(&self, machine: Machine) -> Result<Ran, Failure> {
-        let mut put = vec![0; self.run.report as usize];
+        let mut put = engine::zeros("report:", self.run.report as usize)?;
         let outcome = progress::shown(|| machine(&self.lent(), &mut put))?;
         match outcome {
             Outcome::Refused { .. } => put.clear(),

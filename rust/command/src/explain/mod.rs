@@ -52,10 +52,39 @@ pub fn explain(source: &Source, refusal: Refusal) -> Result<Refused, Failure> {
 }
 
 fn overlong(source: &Source) -> Explanation {
-    let bytes = match source.is_cut {
-        true => format!("more than {MAX_SHEET}"),
-        false => source.sheet.len().to_string(),
+    let (bytes, most) = (source.sheet.len(), figure(MAX_SHEET));
+    let line = match source.is_cut {
+        true => format!("the sheet has more than {most} bytes, the most that there may be"),
+        false => format!(
+            "the sheet has {} bytes, {} more than there may be",
+            figure(bytes),
+            figure(bytes.saturating_sub(MAX_SHEET))
+        ),
     };
-    let line = format!("the sheet has {bytes} bytes, at most {MAX_SHEET} are read");
     Explanation::new(Vec::new(), vec![line])
+}
+
+/// A number with a comma before every three digits but the first.
+fn figure(number: usize) -> String {
+    let digits = number.to_string();
+    let mut said = String::new();
+    for (index, digit) in digits.chars().enumerate() {
+        if index > 0 && (digits.len() - index).is_multiple_of(3) {
+            said.push(',');
+        }
+        said.push(digit);
+    }
+    said
+}
+
+#[cfg(test)]
+mod tests {
+    use super::figure;
+
+    #[test]
+    fn a_comma_stands_before_every_three_digits() {
+        let said = [0, 999, 1_000, 32_806, 123_456, 5_592_403].map(figure);
+        let expected = ["0", "999", "1,000", "32,806", "123,456", "5,592,403"];
+        assert_eq!(said, expected);
+    }
 }
