@@ -28,8 +28,8 @@ Room size done Again = done ≤ size
 Room size done Wait = done ≤ size
 Room size done Failed = done ≤ size
 
--- no more is read than the buffer holds
-abbrev pub Held : ℕ → Input → Type 0
-Held size (Partial n) = n ≤ size
-Held size (Whole n) = n ≤ size
-Held size Unread = Unit {0}
+-- no less is read than was before, and no more than the buffer holds
+abbrev pub Held : (least size : ℕ) → Input → Type 0
+Held least size (Partial n) = (least ≤ n) × (n ≤ size)
+Held least size (Whole n) = (least ≤ n) × (n ≤ size)
+Held least size Unread = Unit {0}

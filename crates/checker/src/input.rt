@@ -41,7 +41,7 @@ fn reached(size: usize, n: usize) -> Input
 // One call of read for what is free of the buffer. The bytes read before stay.
 fn read_once(buffer: &mut [u8], done: usize) -> Input
     requires { ⌜ done ≤ length (now buffer) ⌝ }
-    ensures { λ r. ⌜ def.Held (length (now (buffer .entry))) r ⌝ }
+    ensures { λ r. ⌜ def.Held done (length (now (buffer .entry))) r ⌝ }
     ensures { λ _. ⌜ take done (now (buffer .exit)) ≡ take done (now (buffer .entry)) ⌝ }
 {
     let size = buffer.len();
@@ -55,7 +55,7 @@ fn read_once(buffer: &mut [u8], done: usize) -> Input
 
 // Reads until nothing is left, the buffer is full or a call fails.
 pub fn read_input(buffer: &mut [u8]) -> Input
-    ensures { λ r. ⌜ def.Held (length (now (buffer .exit))) r ⌝ }
+    ensures { λ r. ⌜ def.Held 0 (length (now (buffer .exit))) r ⌝ }
 {
     let mut done = 0;
     // A proved loop has to end, and nothing says that an input does: a number of turns that none uses up.

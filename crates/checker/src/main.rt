@@ -16,7 +16,7 @@ ghost use Rattle.checker.specs.Said.{said};
 
 // The line of the verdict on the bytes read, where they are the whole input; otherwise nothing.
 fn put_said(buffer: &[u8], input: Input, line: &mut [u8; LINE_BYTES]) -> usize
-    requires { ⌜ Held (length (now buffer)) input ⌝ }
+    requires { ⌜ Held 0 (length (now buffer)) input ⌝ }
     ensures { λ r. ⌜ Counts r (now (line .exit)) ⌝ }
     ensures { λ r. ⌜ take r (now (line .exit)) ≡ said (now (buffer .entry)) input ⌝ }
 {

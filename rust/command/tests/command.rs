@@ -2,7 +2,7 @@
 
 mod common;
 
-use common::{folder, status, stderr, stdout, wennathig, written};
+use common::{folder, status, stderr, stdout, wennathig, written, ECHO, SMALLEST};
 use generator::handwritten::runs;
 use generator::loops;
 use generator::runs::Run;
@@ -11,18 +11,6 @@ use std::fs;
 use std::io::Read;
 use std::path::PathBuf;
 use std::process::{Command, Stdio};
-
-const SMALLEST: &[u8] = b"HD\x01\x00\x00\x01PR\x00\x00\x00\xff\x01\x00IN\x11\xff\xff\xff\x00\x00";
-
-const ECHO: &str = "procedure main
-    variable n, zero: integer
-    set zero := 0
-again:
-    take n
-    put n
-    jumpzero zero, again
-    return
-";
 
 #[test]
 fn accepted_is_0_and_refused_is_1() {

@@ -3,24 +3,12 @@
 
 mod common;
 
-use common::{folder, status, stderr, stdout, wennathig, written};
+use common::{folder, status, stderr, stdout, wennathig, written, ECHO, SMALLEST};
 use std::ffi::OsStr;
 use std::fs;
 use std::os::unix::ffi::OsStrExt;
 use std::path::{Path, PathBuf};
 use std::process::Command;
-
-const ECHO: &[u8] = b"procedure main
-    variable n, zero: integer
-    set zero := 0
-again:
-    take n
-    put n
-    jumpzero zero, again
-    return
-";
-
-const SMALLEST: &[u8] = b"HD\x01\x00\x00\x01PR\x00\x00\x00\xff\x01\x00IN\x11\xff\xff\xff\x00\x00";
 
 /// A folder with one sheet of each kind.
 struct Sheets {
@@ -41,7 +29,7 @@ fn sheets(name: &str) -> Sheets {
     let put_tray = b"procedure main\n  variable t: tray[integer]{fetch}\n  put t\n  return\n";
     Sheets {
         done: written(&folder, "done", SMALLEST),
-        echo: written(&folder, "echo.ws", ECHO),
+        echo: written(&folder, "echo.ws", ECHO.as_bytes()),
         refused: written(&folder, "refused.ws", put_tray),
         wrong: written(&folder, "wrong.ws", b"procedure main\n  put n\n"),
         missing: path(&folder, "missing"),

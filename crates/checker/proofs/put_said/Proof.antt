@@ -14,7 +14,7 @@ use Rattle.checker.proofs.put_said.Tie as tie
 slice-aggregate-check : tie.Need-slice-aggregate-check
 slice-aggregate-check c =
     let start = c .before .before .before .before .before in
-    counts _ _ (subst (λ (i : Input). Held (length (start .args .buffer .now)) i) (c .before .before .input .given .1) (start .pre)) .1
+    counts _ _ (subst (λ (i : Input). Held 0 (length (start .args .buffer .now)) i) (c .before .before .input .given .1) (start .pre) .1) .1
 
 returns : tie.Need-returns
 unfolding said

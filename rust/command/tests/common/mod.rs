@@ -9,6 +9,21 @@ use std::io::{ErrorKind, Write};
 use std::path::{Path, PathBuf};
 use std::process::{Command, Output, Stdio};
 
+/// The smallest sheet.
+pub const SMALLEST: &[u8] =
+    b"HD\x01\x00\x00\x01PR\x00\x00\x00\xff\x01\x00IN\x11\xff\xff\xff\x00\x00";
+
+/// Puts every word that it takes.
+pub const ECHO: &str = "procedure main
+    variable n, zero: integer
+    set zero := 0
+again:
+    take n
+    put n
+    jumpzero zero, again
+    return
+";
+
 /// Runs the command with the arguments and this standard input.
 pub fn wennathig(arguments: &[&str], input: &[u8]) -> Output {
     let mut child = Command::new(env!("CARGO_BIN_EXE_wennathig"))

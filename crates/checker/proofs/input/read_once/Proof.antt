@@ -33,7 +33,7 @@ returns c =
     let start = c .before .before .before .before .before .before .before .before .before in
     let size = length (start .args .buffer .now) in
     let done = start .args .done in
-    (subst (λ (i : Input). Held size i) (sym (c .after .ensures)) (held size done _ (after-requires (c .before) tt)), take-put done (size - done) (start .args .buffer .now) (c .before .before .before .before .before .before .read .last .1 .0) (start .pre))
+    (subst (λ (i : Input). Held done size i) (sym (c .after .ensures)) (held size done _ (after-requires (c .before) tt)), take-put done (size - done) (start .args .buffer .now) (c .before .before .before .before .before .before .read .last .1 .0) (start .pre))
 
 pub read-once-spec : {M : Type 1} → statement M
 read-once-spec =
