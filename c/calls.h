@@ -102,10 +102,11 @@ static uint64_t made(const struct run *run, struct lent lent)
 /* After a stop the bench is all zero, after a refusal as it was. */
 static int bench_holds(const uint64_t *bench, size_t len, uint64_t number)
 {
+    int stopped = number >= WN_DONE && number <= WN_CARRIED_RIGHT;
     size_t i;
 
     for (i = 0; i < len; i++)
-        if (bench[i] != (number >= WN_DONE ? 0 : BEFORE + i))
+        if (bench[i] != (stopped ? 0 : BEFORE + i))
             return 0;
     return 1;
 }

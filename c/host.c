@@ -134,10 +134,11 @@ static int load_reads(void)
 
 static void print_answer(const char *name, uint64_t answer)
 {
+    int stopped = answer >= WN_DONE && answer <= WN_CARRIED_RIGHT; /* 20 and 21 are refusals again */
     size_t i;
 
     printf("%-6s %2lu %s", name, (unsigned long)answer, wn_word(answer));
-    if (answer < WN_DONE) {
+    if (!stopped) {
         printf(", place %lu\n", (unsigned long)reply[WN_PLACE]);
         return;
     }

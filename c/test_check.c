@@ -145,10 +145,53 @@ static void access_rules(void)
     expect_changed("a refusal before one with a lower number", 123, 3, WN_WRONG_KIND, 102);
 }
 
+/* main calls a procedure whose two formals are ?R, at least call{read}, with two calls that may be read */
+static const uint8_t named[] = {
+    'H', 'D', 1, 1, 3, 2,                                   /*   0 */
+    'T', 'Y', 2, 0, 255, 255, 255, 255, 255, 255, 255, 255, /*   6: call, read and amend */
+    'Q', 'T', 2, 2, 0, 255,                                 /*  18: call{read} */
+    'Q', 'T', 2, 6, 0, 255,                                 /*  24: call{read,amend} */
+    'Q', 'T', 255, 0, 0, 255,                               /*  30: ?R */
+    'P', 'R', 0, 0, 2, 255, 2, 0,                           /*  36: main */
+    'V', 'R', 0, 255,                                       /*  44 */
+    'V', 'R', 0, 255,                                       /*  48 */
+    'I', 'N', 16, 255, 0, 255, 1, 0,                        /*  52: call of procedure 1 */
+    'I', 'N', 17, 255, 255, 255, 0, 0,                      /*  60 */
+    'P', 'R', 0, 2, 2, 255, 1, 0,                           /*  68 */
+    'G', 'N', 2, 2, 0,                                      /*  76: for ?R >= call{read} */
+    'V', 'R', 2, 2,                                         /*  81 */
+    'V', 'R', 2, 2,                                         /*  85 */
+    'I', 'N', 17, 255, 255, 255, 0, 0                       /*  89 */
+};
+
+/* One byte of the sheet with a rights name changed. */
+static void expect_named(const char *what, size_t at, uint8_t byte, uint64_t number, uint64_t place)
+{
+    uint8_t sheet[sizeof named];
+
+    memcpy(sheet, named, sizeof sheet);
+    sheet[at] = byte;
+    expect(what, sheet, sizeof sheet, number, place);
+}
+
+static void rights_names(void)
+{
+    expect("a sheet with a rights name", named, sizeof named, WN_ACCEPTED, 0);
+    expect("a GN cut after its mark", named, 78, WN_TORN, 76);
+    expect_named("two actuals that differ", 50, 1, WN_UNSETTLED, 52);
+    expect_named("a settled set that lacks a right", 79, 6, WN_SHORT, 52);
+    expect_named("no mark of a GN", 76, 'V', WN_STRAY_MARK, 76);
+    expect_named("a least set with open", 79, 3, WN_OFF_SCALE, 76);
+    expect_named("a base that is not declared", 78, 3, WN_OFF_SCALE, 76);
+    expect_named("?R in main", 46, 2, WN_OFF_SCALE, 44);
+    expect_named("?R inside that needs a call", 84, 0, WN_FALSE_RAISE, 81);
+}
+
 int main(void)
 {
     replies();
     form();
     access_rules();
+    rights_names();
     return finish();
 }

@@ -32,7 +32,7 @@ extern "C" {
 
 /* The version, which stands here and nowhere else: a request that lands raises the minor number. */
 #define WN_VERSION_MAJOR 1
-#define WN_VERSION_MINOR 0
+#define WN_VERSION_MINOR 1
 #define WN_VERSION_PATCH 0
 
 /* The same as text, "MAJOR.MINOR.PATCH". */
@@ -49,7 +49,7 @@ extern "C" {
 /* More bytes of stack than a call takes, as these libraries are built, for x86-64. */
 #define WN_STACK_MAX 4096
 
-/* What an answer's number says: document 01's word, then its meaning. The letters tell which calls answer it: c wn_check,
+/* What an answer's number says: the papers' word, then its meaning. The letters tell which calls answer it: c wn_check,
 ** r wn_run, w wn_watch.
 */
 enum wn_number {
@@ -81,10 +81,14 @@ WN_READS_ENDED    = 15, /*  rw reads ended: none is left to take                
 WN_REPORT_FULL    = 16, /*  rw report full: no word is free                          */
 WN_MEMORY_FULL    = 17, /*  rw bench full: the units exceed the words of memory lent */
 WN_CARRIED_KIND   = 18, /*   w mixed sample: a value of the wrong kind               */
-WN_CARRIED_RIGHT  = 19  /*   w unlicensed: a value does not carry the right needed   */
+WN_CARRIED_RIGHT  = 19, /*   w unlicensed: a value does not carry the right needed   */
+
+/* refusals once more, of a call whose callee has a rights name, ?R: asked before 8 and 9 of the same call */
+WN_UNSETTLED      = 20, /* cr  unsettled: no formal uses ?R, or two actuals differ   */
+WN_SHORT          = 21  /* cr  short: the settled set lacks a least right            */
 };
 
-/* Document 01's word for a number, as above; "no such number" for any other, so that the text is never NULL. */
+/* The papers' word for a number, as above; "no such number" for any other, so that the text is never NULL. */
 static inline const char *wn_word(uint64_t number)
 {
     static const char *const words[] = {
@@ -92,13 +96,14 @@ static inline const char *wn_word(uint64_t number)
         "overlong", "torn", "stray mark", "edition", "off scale",
         "loose key", "false raise", "wrong kind", "no licence", "big bench",
         "done", "fuel spent", "blank", "past the tray", "reads ended",
-        "report full", "bench full", "mixed sample", "unlicensed"
+        "report full", "bench full", "mixed sample", "unlicensed", "unsettled",
+        "short"
     };
 
     return number < sizeof words / sizeof *words ? words[number] : "no such number";
 }
 
-/* Checks a sheet. Gives WN_ACCEPTED (0), or the number of the refusal (1 to 9).
+/* Checks a sheet. Gives WN_ACCEPTED (0), or the number of the refusal (1 to 9, 20 or 21).
 **
 **   sheet   sheet_len bytes, of any content and length; only read.
 **   reply   reply_len words. The first, if there is one, becomes the refusal's place, the byte of the sheet at which the
@@ -116,8 +121,8 @@ WN_INSTRUCTION    =  4, /*    stopped at, or main's return; 0, 0 before main ope
 WN_REPLY_WORDS    =  5
 };
 
-/* Checks a sheet and, if it is accepted, runs it to its stop. Gives the number of the refusal (1 to 10) or of the stop (11
-** to 17). A sheet that wn_check refuses is refused with the same number and place; then a bench of more than
+/* Checks a sheet and, if it is accepted, runs it to its stop. Gives the number of the refusal (1 to 10, 20 or 21) or of the
+** stop (11 to 17). A sheet that wn_check refuses is refused with the same number and place; then a bench of more than
 ** WN_MEMORY_MAX words is refused with WN_BIG_MEMORY.
 **
 **   sheet   sheet_len bytes, of any content and length; only read.

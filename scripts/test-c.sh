@@ -36,6 +36,12 @@ write_sheets() {
         'IN\7\0\377\377\0\0' 'IN\1\1\377\377\1\0' 'IN\1\2\377\377\0\0' 'IN\5\0\377\377\7\0' 'IN\10\0\377\377\0\0' \
         'IN\3\0\0\1\0\0' 'IN\5\2\377\377\3\0' "$return"
     sheet refused 'HD\1\0\2\1' "$integer" 'QT\1\16\0\0' 'PR\0\0\1\377\2\0' 'VR\1\377' 'IN\7\0\377\377\0\0' "$return"
+    # a procedure with a rights name, at least read, and a call with two actuals: both may be read or not
+    local named=('TY\1\0\377\377\377\377\377\377\377\377' 'QT\2\2\0\377' 'QT\2\0\0\377' 'QT\377\0\0\377'
+        'PR\0\0\2\377\2\0')
+    local called=('IN\20\377\0\377\1\0' "$return" 'PR\0\2\2\377\1\0' 'GN\2\2\0' 'VR\2\2' 'VR\2\2' "$return")
+    sheet unsettled 'HD\1\1\3\2' "${named[@]}" 'VR\0\377' 'VR\1\377' "${called[@]}"
+    sheet short 'HD\1\1\3\2' "${named[@]}" 'VR\1\377' 'VR\1\377' "${called[@]}"
     head -c 40000 /dev/zero >"$sheets/long"
 }
 
@@ -55,6 +61,10 @@ host_answers() {
         "$sheets/countdown" < <(yes 1 | head -n 4096)
     host "a refused sheet" 1 "$(printf '%s\n' 'check   8 wrong kind, place 30' 'run     8 wrong kind, place 30' \
         'watch  18 mixed sample, 0 steps, 0 words put, procedure 0, instruction 0' report)" "$sheets/refused" <<<2
+    host "two actuals that differ" 1 "$(printf '%s\n' 'check  20 unsettled, place 52' 'run    20 unsettled, place 52' \
+        'watch  18 mixed sample, 0 steps, 0 words put, procedure 0, instruction 0' report)" "$sheets/unsettled" </dev/null
+    host "a settled set that lacks a right" 1 "$(printf '%s\n' 'check  21 short, place 52' 'run    21 short, place 52' \
+        'watch  19 unlicensed, 0 steps, 0 words put, procedure 0, instruction 0' report)" "$sheets/short" </dev/null
     host "an overlong sheet" 1 "$(printf '%-6s  1 overlong, place 0\n' check run watch)" "$sheets/long" </dev/null
 }
 
@@ -115,7 +125,7 @@ END
 word_tests() {
     local beside
     beside=$(perl -ne 'print "$1 $2\n" if m{^WN_\w+ *= +(\d+),? +/\* [c ][r ][w ] ([^:]+): }' include/wennathig.h)
-    [ "$(wc -l <<<"$beside")" -eq 20 ]
+    [ "$(wc -l <<<"$beside")" -eq 22 ]
     tally $? "every number has a word beside it"
     diff <(echo "$beside") <(words_of gcc -std=c99 -x c)
     tally $? "wn_word gives the words beside the numbers, in C"

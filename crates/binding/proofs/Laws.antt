@@ -1,5 +1,5 @@
 -- What binding comes to, by what the tests of the code say.
-use Prim.Native.Nat.{ℕ, _+_}
+use Prim.Native.Nat.{ℕ, _+_, _%_}
 use native.Mathlib.Omega.{arith}
 use mathlib.Core.Path.{_≡_, refl, sym, ap, subst, _∙_}
 use mathlib.Core.Bool.{Bool, true, false, _&&_, cond, false≢true}
@@ -9,7 +9,9 @@ use lib.Dec.{eqb, leb}
 use lib.ListN.{getD}
 use borrow.Author.Tests.{ne-eqb, eqb-true}
 use Rattle.model.specs.Rights.{Rights, within}
-use Rattle.model.specs.Qualified.{Qual, integer, base, rights, element, isInteger, isArray, same}
+use Rattle.model.specs.Qualified.{Qual, integer, declared, base, rights, element, isInteger, isArray, same}
+use Rattle.model.specs.Generic.{instance, read, read-result}
+use Rattle.model.specs.Rules.{amplifies}
 use Rattle.model.specs.Outcome.{blank, past-end, input-ended, output-full, memory-full, wrong-kind, missing-right, Res, ok, stop, stuck, _>>=_, _>>_, ensure}
 use Rattle.model.specs.Program.{Program}
 use Rattle.model.specs.Modes.{watched, Kind, amiss, fits, bind, is-record-of, raise-if, raise, bind-result}
@@ -17,46 +19,80 @@ use Rattle.model.specs.Machine.{Value, word, object, Cell, empty, filled, Head,
 use Rattle.model.proofs.Rights.{within-refl}
 use Rattle.sheet.specs.Bytes.{byteAt}
 use Rattle.sheet.specs.Layout.{procedureAt, needAt, innerAt, ownerAt, resultAt}
-use Rattle.sheet.specs.Meaning.{qualOf, programOf, needIn, innerIn, resultIn}
-use Rattle.index.specs.Types.{word-in, rights-of, base-of, element-below, qualIn}
+use Rattle.sheet.specs.Meaning.{qualOf, programOf, innerIn, resultIn}
+use Rattle.index.specs.Types.{word-in, rights-of, shape-of, of-shape, element-below, qualIn, named-as, typeIn, word-as}
 use Rattle.index.specs.Indexed.{Ready}
-use Rattle.index.proofs.Trees.{integer-base, array-base, proper, base-qual, rights-qual, qual-integer, element-said}
+use Rattle.index.specs.Scope.{boundOf}
+use Rattle.index.specs.declared.procedures.Scope.{Scope}
+use Rattle.index.proofs.Trees.{integer-shape, array-shape, element-shape, qual-integer}
+use Rattle.index.proofs.Reading.{type-word-as, rights-as, inner-read, need-read, type-read, inner-type, need-type}
 use Rattle.index.proofs.Ready.{same-types}
-use Rattle.words.specs.Word.{tag, low, payload, info-of, cell, slot-in, as-head}
+use Rattle.order.proofs.Laws.{base-part}
+use Rattle.words.specs.Word.{tag, low, payload, info-of, settled-base, cell, slot-in, as-head}
 use Rattle.words.specs.Sees.{heads-in}
 use Rattle.words.specs.Answers.{halted, IsCell, MovedOk}
 use Rattle.words.specs.declared.Moved.{Moved}
 use Rattle.words.specs.declared.Moved.the-variants.{To, Halt}
 use Rattle.words.proofs.Laws.{slot-array, slot-record, blank-word}
-use Rattle.binding.specs.Binds.{kind-in, Heads, moved-cell, handed-cell, raised, BindsFilled, BindsWord, Raises}
+use Rattle.binding.specs.Binds.{kind-in, Heads, moved-cell, handed-cell, raised, FrameScope, InScope, BindsFilled, BindsWord, Raises}
 use Rattle.binding.proofs.Views.{ValueOf, integer-in, object-in, value-word, CellOf, blank-in, value-in, cell-word, HeadOf, array-in, record-in, no-head-in, head-word}
+
+-- ---- a type by the word that it is read by
+
+module _ (t : List ℕ) (n q : ℕ) where
+  pub integer-there : shape-of (word-as t n q) ≡ 0 → typeIn t n q ≡ integer
+  unfolding of-shape
+  integer-there b = type-word-as t n q ∙ rw b
+
+  pub integer-elsewhere : (shape-of (word-as t n q) ≡ 0 → ⊥) → isInteger (typeIn t n q) ≡ false
+  integer-elsewhere b = ap isInteger (type-word-as t n q) ∙ integer-shape _ _ _ ∙ ne-eqb _ 0 b
+
+  -- the integer type has no ?R to read
+  pub integer-unread : shape-of (word-in t q) ≡ 0 → typeIn t n q ≡ integer
+  unfolding typeIn read
+  integer-unread b = rw (qual-integer t q b)
 
 -- ---- the object of a head against a type
 
-module _ (t : List ℕ) (q head : ℕ) where
-  pub fits-array : {u b k e : ℕ} {r : Bool} → tag head ≡ 3 → u ≡ word-in t q → b ≡ base-of u → k ≡ info-of head → e ≡ element-below u q
-      → r ≡ same (qualIn t k) (qualIn t e) → eqb b 1 && r ≡ fits (qualIn t q) (kind-in (qualIn t) head)
-  unfolding fits
-  fits-array {u} {b} {k} {e} {r} is-array is-u is-b is-k is-e is-r =
-      rw (slot-array watched (qualIn t) head is-array, array-base (proper t q), base-qual t q, sym word-base) (go (eqb b 1) refl)
-    where
-      word-base : b ≡ base-of (word-in t q)
-      word-base = rw is-u at is-b
+own-element : (t : List ℕ) (o k : ℕ) {ρ : Qual} → named-as o ≡ ρ → typeIn t o k ≡ read ρ (qualIn t k)
+unfolding typeIn
+own-element t o k is = rw is
 
-      go : (a : Bool) → eqb b 1 ≡ a → a && r ≡ a && same (qualIn t (info-of head)) (element (qualIn t q))
-      go true told = is-r ∙ rw (is-k, is-e, is-u, element-said t q (sym word-base ∙ eqb-true b 1 told) .means)
+module _ (t : List ℕ) (n q head : ℕ) where
+  pub fits-array : (o : ℕ) {u b k e : ℕ} {r : Bool} → tag head ≡ 3 → u ≡ word-as t n q → b ≡ shape-of u → k ≡ info-of head
+      → named-as o ≡ declared (settled-base head) (low head) → e ≡ element-below u q
+      → r ≡ same (typeIn t o k) (typeIn t n e) → eqb b 1 && r ≡ fits (typeIn t n q) (kind-in (qualIn t) head)
+  unfolding fits
+  fits-array o {u} {b} {k} {e} {r} is-array is-u is-b is-k is-o is-e is-r =
+      rw (slot-array watched (qualIn t) head is-array, array-there, sym word-shape) (go (eqb b 1) refl)
+    where
+      word-shape : b ≡ shape-of (word-as t n q)
+      word-shape = rw is-u at is-b
+
+      array-there : isArray (typeIn t n q) ≡ eqb (shape-of (word-as t n q)) 1
+      array-there = ap isArray (type-word-as t n q) ∙ array-shape _ _ _
+
+      element-there : eqb b 1 ≡ true → element (typeIn t n q) ≡ typeIn t n e
+      element-there told = ap element (type-word-as t n q) ∙ element-shape _ _ _ ∙ rw (sym word-shape, told, is-e, is-u)
+
+      own : typeIn t o k ≡ read (declared (settled-base head) (low head)) (qualIn t (info-of head))
+      own = own-element t o k (is-o) ∙ ap (λ (a : ℕ). read (declared (settled-base head) (low head)) (qualIn t a)) is-k
+
+      go : (a : Bool) → eqb b 1 ≡ a → a && r ≡ a && same (read (declared (settled-base head) (low head)) (qualIn t (info-of head))) (element (typeIn t n q))
+      go true told = is-r ∙ rw (own, element-there told)
       go false told = refl
 
-  pub fits-record : {u b k : ℕ} → tag head ≡ 4 → u ≡ word-in t q → b ≡ base-of u → k ≡ info-of head
-      → leb 2 k && eqb b k ≡ fits (qualIn t q) (kind-in (qualIn t) head)
+  pub fits-record : {u b k : ℕ} → tag head ≡ 4 → u ≡ word-as t n q → b ≡ shape-of u → k ≡ info-of head
+      → leb 2 k && eqb (b % 256) k ≡ fits (typeIn t n q) (kind-in (qualIn t) head)
   unfolding fits
-  fits-record is-record is-u is-b is-k = rw (slot-record watched (qualIn t) head is-record, base-qual t q, is-b, is-u, is-k)
+  fits-record is-record is-u is-b is-k =
+      rw (slot-record watched (qualIn t) head is-record, base-part t n q, is-b, is-u, is-k)
 
-  pub fits-nothing : (tag head ≡ 3 → ⊥) → (tag head ≡ 4 → ⊥) → false ≡ fits (qualIn t q) (kind-in (qualIn t) head)
+  pub fits-nothing : (tag head ≡ 3 → ⊥) → (tag head ≡ 4 → ⊥) → false ≡ fits (typeIn t n q) (kind-in (qualIn t) head)
   unfolding fits
   fits-nothing not3 not4 = by (head-word (qualIn t) head)
     where
-      by : {d : Head watched} → HeadOf (qualIn t) head d → false ≡ fits (qualIn t q) (kind-of-head d)
+      by : {d : Head watched} → HeadOf (qualIn t) head d → false ≡ fits (typeIn t n q) (kind-of-head d)
       by (array-in i) = absurd (not3 i)
       by (record-in i) = absurd (not4 i)
       by (no-head-in a b) = refl
@@ -92,71 +128,75 @@ module _ (g : Program) (v : View watched) (q : Qual) (x : Value) (m : Rights) wh
   bound e d = rw (e, d)
 
 -- of the word of a filled cell
-module _ (t h : List ℕ) (q w : ℕ) (g : Program) (v : View watched) (x : Value) (m : Rights)
-    (heads : Heads (qualIn t) v h) (e : slot-in watched (qualIn t) w ≡ cell (filled x m)) where
-  bind-misfit : fits (qualIn t q) (kind-at (v .head) x) ≡ false → moved-cell (qualIn t) (Halt 18) ≡ moved watched g v (qualIn t q) (filled x m)
+module _ (qual : ℕ → Qual) (h : List ℕ) (q : Qual) (w : ℕ) (g : Program) (v : View watched) (x : Value) (m : Rights)
+    (heads : Heads qual v h) (e : slot-in watched qual w ≡ cell (filled x m)) where
+  bind-misfit : fits q (kind-at (v .head) x) ≡ false → moved-cell qual (Halt 18) ≡ moved watched g v q (filled x m)
   unfolding moved-cell halted amiss
-  bind-misfit misfit = sym (bound-misfit g v (qualIn t q) x m misfit)
+  bind-misfit misfit = sym (bound-misfit g v q x m misfit)
 
-  pub bind-integer : tag w ≡ 1 → base-of (word-in t q) ≡ 0 → moved-cell (qualIn t) (To w) ≡ moved watched g v (qualIn t q) (filled x m)
+  pub bind-integer : tag w ≡ 1 → q ≡ integer → moved-cell qual (To w) ≡ moved watched g v q (filled x m)
   unfolding moved-cell fits isInteger rights
-  bind-integer i b = rw (e, qual-integer t q b) (by (value-word (qualIn t) w x m e))
+  bind-integer i b = rw (e, b) (by (value-word qual w x m e))
     where
       by : {y : Value} {n : Rights} → ValueOf w y n → ok (filled y n) ≡ moved watched g v integer (filled y n)
       by (integer-in j) = sym (bound g v integer (word (low w)) 0 refl (within-refl 0))
       by (object-in j) = absurd (omega arith)
 
-  pub bind-no-integer : tag w ≡ 1 → (base-of (word-in t q) ≡ 0 → ⊥) → moved-cell (qualIn t) (Halt 18) ≡ moved watched g v (qualIn t q) (filled x m)
+  pub bind-no-integer : tag w ≡ 1 → isInteger q ≡ false → moved-cell qual (Halt 18) ≡ moved watched g v q (filled x m)
   unfolding fits
-  bind-no-integer i b = bind-misfit (by (value-word (qualIn t) w x m e))
+  bind-no-integer i b = bind-misfit (by (value-word qual w x m e))
     where
-      by : {y : Value} {n : Rights} → ValueOf w y n → fits (qualIn t q) (kind-at (v .head) y) ≡ false
-      by (integer-in j) = integer-base (proper t q) ∙ rw (base-qual t q) (ne-eqb _ 0 b)
+      by : {y : Value} {n : Rights} → ValueOf w y n → fits q (kind-at (v .head) y) ≡ false
+      by (integer-in j) = b
       by (object-in j) = absurd (omega arith)
 
-  object-kind : (tag w ≡ 1 → ⊥) → kind-in (qualIn t) (getD h (payload w) 0) ≡ kind-at (v .head) x
-  object-kind not1 = by (value-word (qualIn t) w x m e)
+  object-kind : (tag w ≡ 1 → ⊥) → kind-in qual (getD h (payload w) 0) ≡ kind-at (v .head) x
+  object-kind not1 = by (value-word qual w x m e)
     where
-      by : {y : Value} {n : Rights} → ValueOf w y n → kind-in (qualIn t) (getD h (payload w) 0) ≡ kind-at (v .head) y
+      by : {y : Value} {n : Rights} → ValueOf w y n → kind-in qual (getD h (payload w) 0) ≡ kind-at (v .head) y
       by (integer-in i) = absurd (not1 i)
       by (object-in i) = ap kind-of-head (heads (payload w))
 
   -- an object's, whose head is tested
   module _ (not1 : tag w ≡ 1 → ⊥) {n head : ℕ} {b : Bool} (name : n ≡ payload w) (at : head ≡ getD h n 0)
-      (is : b ≡ fits (qualIn t q) (kind-in (qualIn t) head)) where
-    fits-seen : fits (qualIn t q) (kind-at (v .head) x) ≡ b
+      (is : b ≡ fits q (kind-in qual head)) where
+    fits-seen : fits q (kind-at (v .head) x) ≡ b
     fits-seen = sym (is ∙ rw (at, name, object-kind not1))
 
-    pub object-misfits : b ≡ false → moved-cell (qualIn t) (Halt 18) ≡ moved watched g v (qualIn t q) (filled x m)
+    pub object-misfits : b ≡ false → moved-cell qual (Halt 18) ≡ moved watched g v q (filled x m)
     object-misfits told = bind-misfit (fits-seen ∙ told)
 
-    -- a type that an object fits is not the integer type, and has the rights in its word
-    rights-there : b ≡ true → rights (qualIn t q) ≡ rights-of (word-in t q)
-    rights-there told =
-        rights-qual t q
-        (λ z. false≢true (sym (object-misfit (as-head (slot-in watched (qualIn t) head))) ∙ ap (λ (p : Qual). fits p (kind-in (qualIn t) head)) (sym (qual-integer t q z)) ∙ sym is ∙ told))
-
-    module _ {r l : ℕ} {d : Bool} (told : b ≡ true) (is-r : r ≡ rights-of (word-in t q)) (is-l : l ≡ low w) (is-d : d ≡ within r l) where
-      within-seen : {y : Value} {k : Rights} → ValueOf w y k → within (rights (qualIn t q)) k ≡ d
+    module _ {r l : ℕ} {d : Bool} (told : b ≡ true) (is-r : r ≡ rights q) (is-l : l ≡ low w) (is-d : d ≡ within r l) where
+      within-seen : {y : Value} {k : Rights} → ValueOf w y k → within (rights q) k ≡ d
       within-seen (integer-in i) = absurd (not1 i)
-      within-seen (object-in i) = rw (rights-there told, is-d, is-r, is-l)
+      within-seen (object-in i) = rw (is-d, is-r, is-l)
 
-      pub object-without : d ≡ false → moved-cell (qualIn t) (Halt 19) ≡ moved watched g v (qualIn t q) (filled x m)
+      pub object-without : d ≡ false → moved-cell qual (Halt 19) ≡ moved watched g v q (filled x m)
       unfolding moved-cell halted
       object-without short =
-          sym (bound-without g v (qualIn t q) x m (fits-seen ∙ told) (within-seen (value-word (qualIn t) w x m e) ∙ short))
+          sym (bound-without g v q x m (fits-seen ∙ told) (within-seen (value-word qual w x m e) ∙ short))
 
-      pub object-bound : (z : ℕ) {k : ℕ} → d ≡ true → k ≡ payload w → slot-in watched (qualIn t) z ≡ cell (filled (object k) r)
-          → moved-cell (qualIn t) (To z) ≡ moved watched g v (qualIn t q) (filled x m)
+      pub object-bound : (z : ℕ) {k : ℕ} → d ≡ true → k ≡ payload w → slot-in watched qual z ≡ cell (filled (object k) r)
+          → moved-cell qual (To z) ≡ moved watched g v q (filled x m)
       unfolding moved-cell
       object-bound z {k} enough name-is new =
-          rw (new, name-is, is-r, sym (rights-there told)) (by (value-word (qualIn t) w x m e))
-          ∙ sym (bound g v (qualIn t q) x m (fits-seen ∙ told) (within-seen (value-word (qualIn t) w x m e) ∙ enough))
+          rw (new, name-is, is-r) (by (value-word qual w x m e))
+          ∙ sym (bound g v q x m (fits-seen ∙ told) (within-seen (value-word qual w x m e) ∙ enough))
         where
           by : {y : Value} {n : Rights} → ValueOf w y n
-              → _≡_ {A = Res (Cell watched)} (ok (filled (object (payload w)) (rights (qualIn t q)))) (ok (filled y (rights (qualIn t q))))
+              → _≡_ {A = Res (Cell watched)} (ok (filled (object (payload w)) (rights q))) (ok (filled y (rights q)))
           by (integer-in i) = absurd (not1 i)
           by (object-in i) = refl
+
+-- a type that an object fits is not the integer type, and has the rights in its word
+pub rights-there : (t : List ℕ) (n q head : ℕ) {b : Bool} {r u : ℕ} → b ≡ fits (typeIn t n q) (kind-in (qualIn t) head) → b ≡ true
+    → r ≡ rights-of u → u ≡ word-as t n q → r ≡ rights (typeIn t n q)
+rights-there t n q head is told is-r is-u = is-r ∙ ap rights-of is-u ∙ sym (rights-as t n q ∙ rw (ne-eqb (shape-of (word-as t n q)) 0 some-shape))
+  where
+    some-shape : shape-of (word-as t n q) ≡ 0 → ⊥
+    some-shape z =
+        false≢true (sym (object-misfit (as-head (slot-in watched (qualIn t) head)))
+        ∙ ap (λ (p : Qual). fits p (kind-in (qualIn t) head)) (sym (integer-there t n q z)) ∙ sym is ∙ told)
 
 -- of any cell by its word
 module _ (qual : ℕ → Qual) (g : Program) (v : View watched) (q : Qual) {w : ℕ} {c : Cell watched} where
@@ -175,13 +215,13 @@ module _ (qual : ℕ → Qual) (g : Program) (v : View watched) (q : Qual) {w : 
 
 -- ---- raising
 
-module _ (o : ℕ) (inner : Qual) (x : Value) (m : Rights) where
-  raised-own : (k : Kind watched) → is-record-of o k && eqb (base inner) o ≡ true → raised o inner k x m ≡ ok (filled x (rights inner))
+module _ (o : ℕ) (inner q : Qual) (x : Value) (m : Rights) where
+  raised-own : (k : Kind watched) → is-record-of o k && amplifies o inner ≡ true → raised o inner q k x m ≡ ok (filled x (rights q))
   unfolding raised raise raise-if _>>=_
   raised-own k e = rw e
 
-  pub raised-bound : (g : Program) (v : View watched) → is-record-of o (kind-at (v .head) x) && eqb (base inner) o ≡ false
-      → raised o inner (kind-at (v .head) x) x m ≡ moved watched g v inner (filled x m)
+  pub raised-bound : (g : Program) (v : View watched) → is-record-of o (kind-at (v .head) x) && amplifies o inner ≡ false
+      → raised o inner q (kind-at (v .head) x) x m ≡ moved watched g v q (filled x m)
   unfolding raised raise raise-if moved held _>>=_
   raised-bound g v e = rw e
 
@@ -208,41 +248,41 @@ own-record qual h o w {x} {m} e name at is-w is-h is-k =
     by (integer-in i) = rw i
     by (object-in i) = of-object i (head-word qual head)
 
-module _ (qual : ℕ → Qual) (h : List ℕ) (v : View watched) (o w : ℕ) (inner : Qual) (x : Value) (m : Rights)
-    (heads : Heads qual v h) {b : Bool} {n : ℕ} (own : b ≡ is-record-of o (kind-at (heads-in watched qual h) x)) (is-n : n ≡ base inner) where
+module _ (qual : ℕ → Qual) (h : List ℕ) (v : View watched) (o w : ℕ) (inner q : Qual) (x : Value) (m : Rights)
+    (heads : Heads qual v h) {b n : Bool} (own : b ≡ is-record-of o (kind-at (heads-in watched qual h) x)) (is-n : n ≡ amplifies o inner) where
   kind-seen : (y : Value) → kind-at (heads-in watched qual h) y ≡ kind-at (v .head) y
   kind-seen (word k) = refl
   kind-seen (object a) = ap kind-of-head (heads a)
 
-  own-seen : is-record-of o (kind-at (v .head) x) && eqb (base inner) o ≡ b && eqb n o
+  own-seen : is-record-of o (kind-at (v .head) x) && amplifies o inner ≡ b && n
   own-seen = rw (own, is-n, kind-seen x)
 
-  pub raise-own : (z : ℕ) {k r : ℕ} → b && eqb n o ≡ true → slot-in watched qual w ≡ cell (filled x m) → k ≡ payload w → r ≡ rights inner
-      → slot-in watched qual z ≡ cell (filled (object k) r) → moved-cell qual (To z) ≡ raised o inner (kind-at (v .head) x) x m
+  pub raise-own : (z : ℕ) {k r : ℕ} → b && n ≡ true → slot-in watched qual w ≡ cell (filled x m) → k ≡ payload w → r ≡ rights q
+      → slot-in watched qual z ≡ cell (filled (object k) r) → moved-cell qual (To z) ≡ raised o inner q (kind-at (v .head) x) x m
   unfolding moved-cell is-record-of
   raise-own z told e name is-r new =
-      rw (new, name, is-r) (by (value-word qual w x m e) (own-seen ∙ told)) ∙ sym (raised-own o inner x m (kind-at (v .head) x) (own-seen ∙ told))
+      rw (new, name, is-r) (by (value-word qual w x m e) (own-seen ∙ told)) ∙ sym (raised-own o inner q x m (kind-at (v .head) x) (own-seen ∙ told))
     where
-      by : {y : Value} {l : Rights} → ValueOf w y l → is-record-of o (kind-at (v .head) y) && eqb (base inner) o ≡ true
-          → _≡_ {A = Res (Cell watched)} (ok (filled (object (payload w)) (rights inner))) (ok (filled y (rights inner)))
+      by : {y : Value} {l : Rights} → ValueOf w y l → is-record-of o (kind-at (v .head) y) && amplifies o inner ≡ true
+          → _≡_ {A = Res (Cell watched)} (ok (filled (object (payload w)) (rights q))) (ok (filled y (rights q)))
       by (integer-in i) f = absurd (false≢true f)
       by (object-in i) f = refl
 
-  pub raise-bound : (g : Program) (r : Moved) → b && eqb n o ≡ false → moved-cell qual r ≡ moved watched g v inner (filled x m)
-      → moved-cell qual r ≡ raised o inner (kind-at (v .head) x) x m
-  raise-bound g r told is = is ∙ sym (raised-bound o inner x m g v (own-seen ∙ told))
+  pub raise-bound : (g : Program) (r : Moved) → b && n ≡ false → moved-cell qual r ≡ moved watched g v q (filled x m)
+      → moved-cell qual r ≡ raised o inner q (kind-at (v .head) x) x m
+  raise-bound g r told is = is ∙ sym (raised-bound o inner q x m g v (own-seen ∙ told))
 
 -- ---- the same over the sheet, of which the index is ready
 
-module _ {s t h : List ℕ} {q w : ℕ} {r : Moved} (ready : Ready s t) where
+module _ {s t h : List ℕ} {q : Qual} {w : ℕ} {r : Moved} (ready : Ready s t) where
   pub filled-of-sheet : BindsFilled (qualIn t) h q w r → BindsFilled (qualOf s) h q w r
   filled-of-sheet = subst (λ (f : ℕ → Qual). BindsFilled f h q w r) (same-types ready)
 
   pub word-of-sheet : BindsWord (qualIn t) h q w r → BindsWord (qualOf s) h q w r
   word-of-sheet = subst (λ (f : ℕ → Qual). BindsWord f h q w r) (same-types ready)
 
-pub raises-of-sheet : {s t h : List ℕ} {o q w : ℕ} {r : Moved} → Ready s t → Raises (qualIn t) h o q w r → Raises (qualOf s) h o q w r
-raises-of-sheet {h = h} {o} {q} {w} {r} ready = subst (λ (f : ℕ → Qual). Raises f h o q w r) (same-types ready)
+  pub raises-of-sheet : {o : ℕ} {p : Qual} → Raises (qualIn t) h o p q w r → Raises (qualOf s) h o p q w r
+  raises-of-sheet {o} {p} = subst (λ (f : ℕ → Qual). Raises f h o p q w r) (same-types ready)
 
 -- ---- stops
 
@@ -295,47 +335,60 @@ moved-bound g v q (filled x m) d e = by (fits q (kind-at (v .head) x)) (within (
     by true true a b = let k = bound g v q x m a b in let is : d ≡ filled x (rights q) = cc in rw is (bound-to x a)
 
 -- what is done with an actual once it was bound
-abbrev then-raise : View watched → (o : ℕ) → Qual → Cell watched → Res (Cell watched)
-then-raise v o inner c = held c >>= λ h. raise watched o inner (kind-at (v .head) (h .0)) (h .1) >>= λ r. ok (filled (h .0) r)
+abbrev then-raise : View watched → (o : ℕ) → (inner as-read : Qual) → Cell watched → Res (Cell watched)
+then-raise v o inner q c = held c >>= λ h. raise watched o inner q (kind-at (v .head) (h .0)) (h .1) >>= λ r. ok (filled (h .0) r)
 
-raised-next : (qual : ℕ → Qual) (v : View watched) (o : ℕ) (inner q : Qual) (r : Moved) (w : ℕ) {d : Cell watched}
+raised-next : (qual : ℕ → Qual) (v : View watched) (o : ℕ) (inner p q : Qual) (r : Moved) (w : ℕ) {d : Cell watched}
     → BoundTo v q d → slot-in watched qual w ≡ cell d
-    → ((y : Value) (m : ℕ) → slot-in watched qual w ≡ cell (filled y m) → moved-cell qual r ≡ raised o inner (kind-at (v .head) y) y m)
-    → moved-cell qual r ≡ then-raise v o inner d
+    → ((y : Value) (m : ℕ) → slot-in watched qual w ≡ cell (filled y m) → moved-cell qual r ≡ raised o inner p (kind-at (v .head) y) y m)
+    → moved-cell qual r ≡ then-raise v o inner p d
 unfolding raised held _>>=_
-raised-next qual v o inner q r w (bound-to y f) e rest = rest y (rights q) e
+raised-next qual v o inner p q r w (bound-to y f) e rest = rest y (rights q) e
 
 -- raised to the type that it was bound to, by any owner, it is as it was
-raised-same : (v : View watched) (o : ℕ) (q : Qual) {d : Cell watched} → BoundTo v q d → ok d ≡ then-raise v o q d
+raised-same : (v : View watched) (o : ℕ) (inner q : Qual) {d : Cell watched} → BoundTo v q d → ok d ≡ then-raise v o inner q d
 unfolding raise raise-if bind ensure held _>>=_ _>>_
-raised-same v o q (bound-to x f) = by (is-record-of o (kind-at (v .head) x) && eqb (base q) o)
+raised-same v o inner q (bound-to x f) = by (is-record-of o (kind-at (v .head) x) && amplifies o inner)
   where
     by : (b : Bool) → _≡_ {A = Res (Cell watched)} (ok (filled x (rights q))) (raise-if b q (kind-at (v .head) x) (rights q) >>= λ r. ok (filled x r))
     by true = refl
     by false = rw (f, within-refl (rights q))
 
-module _ (s : List ℕ) (v : View watched) (k b j : ℕ) {pr need : ℕ} (at : procedureAt s k ≡ pr) (is-need : need ≡ needAt s pr j) where
-  module _ (w : ℕ) {inner : ℕ} (is-inner : inner ≡ innerAt s pr j) (is-cell : IsCell w)
-      (bound-word : moved-cell (qualOf s) (To w) ≡ moved watched (programOf s) v (qualOf s need) (v .variable (b + j))) where
-    pub actual-to : (r : Moved) {owner : ℕ} → owner ≡ byteAt s pr 2
+-- the types of a formal, by their numbers, as a frame of its procedure reads them
+module _ {s t : List ℕ} (k : ℕ) (z : Rights) {c : Scope} (ready : Ready s t) (in-scope : FrameScope s k z c) (j : ℕ) where
+  need-there : {need : ℕ} → need ≡ needAt s (c .start) j → read (instance (boundOf s k) z) (programOf s .need k j) ≡ typeIn t (c .name) need
+  need-there is = sym (ap (typeIn t (c .name)) is ∙ need-type ready c j ∙ need-read in-scope j)
+
+  inner-there : {inner : ℕ} → inner ≡ innerAt s (c .start) j → read (instance (boundOf s k) z) (programOf s .inner k j) ≡ typeIn t (c .name) inner
+  inner-there is = sym (ap (typeIn t (c .name)) is ∙ inner-type ready c j ∙ inner-read in-scope j)
+
+  inner-unread : {inner : ℕ} → inner ≡ innerAt s (c .start) j → programOf s .inner k j ≡ qualIn t inner
+  unfolding innerIn
+  inner-unread {inner} is = rw (sym (in-scope .start), sym is) (sym (ready .types inner))
+
+module _ {s t : List ℕ} (v : View watched) (k b : ℕ) (z : Rights) (j : ℕ) {c : Scope} {need : ℕ} (ready : Ready s t) (in-scope : FrameScope s k z c)
+    (is-need : need ≡ needAt s (c .start) j) where
+  module _ (w : ℕ) {inner : ℕ} (is-inner : inner ≡ innerAt s (c .start) j) (is-cell : IsCell w)
+      (bound-word : moved-cell (qualOf s) (To w) ≡ moved watched (programOf s) v (typeIn t (c .name) need) (v .variable (b + j))) where
+    pub actual-to : (r : Moved) {owner : ℕ} → owner ≡ byteAt s (c .head) 2
         → ((y : Value) (m : ℕ) → slot-in watched (qualOf s) w ≡ cell (filled y m)
-        → moved-cell (qualOf s) r ≡ raised owner (qualOf s inner) (kind-at (v .head) y) y m)
-        → moved-cell (qualOf s) r ≡ actual watched (programOf s) v k b j
-    unfolding actual moved-cell needIn innerIn ownerAt _>>=_
+        → moved-cell (qualOf s) r ≡ raised owner (qualIn t inner) (typeIn t (c .name) inner) (kind-at (v .head) y) y m)
+        → moved-cell (qualOf s) r ≡ actual watched (programOf s) v k b z j
+    unfolding actual moved-cell ownerAt _>>=_
     actual-to r is-owner rest =
-        raised-next (qualOf s) v _ _ (qualOf s need) r w (moved-bound (programOf s) v (qualOf s need) _ _ (sym bound-word)) (is-cell watched (qualOf s)) rest
-        ∙ rw (at, sym is-need, sym is-owner, sym is-inner, sym bound-word)
+        raised-next (qualOf s) v _ _ _ (typeIn t (c .name) need) r w (moved-bound (programOf s) v (typeIn t (c .name) need) _ _ (sym bound-word)) (is-cell watched (qualOf s)) rest
+        ∙ rw (need-there k z ready in-scope j is-need, inner-there k z ready in-scope j is-inner, inner-unread k z ready in-scope j is-inner, sym (in-scope .head), sym is-owner, sym bound-word)
 
-    pub actual-same : need ≡ inner → moved-cell (qualOf s) (To w) ≡ actual watched (programOf s) v k b j
-    unfolding actual moved-cell needIn innerIn _>>=_
+    pub actual-same : need ≡ inner → moved-cell (qualOf s) (To w) ≡ actual watched (programOf s) v k b z j
+    unfolding actual moved-cell _>>=_
     actual-same same-type =
-        raised-same v (programOf s .owner k) (qualOf s need) (moved-bound (programOf s) v (qualOf s need) _ _ (sym bound-word))
-        ∙ rw (at, sym is-need, sym is-inner, sym same-type, sym bound-word)
+        raised-same v (programOf s .owner k) (programOf s .inner k j) (typeIn t (c .name) need) (moved-bound (programOf s) v (typeIn t (c .name) need) _ _ (sym bound-word))
+        ∙ rw (need-there k z ready in-scope j is-need, inner-there k z ready in-scope j is-inner, sym same-type, sym bound-word)
 
-  pub actual-halt : (n : ℕ) → moved-cell (qualOf s) (Halt n) ≡ moved watched (programOf s) v (qualOf s need) (v .variable (b + j))
-      → moved-cell (qualOf s) (Halt n) ≡ actual watched (programOf s) v k b j
-  unfolding actual moved-cell needIn
-  actual-halt n e = rw (at, sym is-need, sym e) (sym (halted-then n _))
+  pub actual-halt : (n : ℕ) → moved-cell (qualOf s) (Halt n) ≡ moved watched (programOf s) v (typeIn t (c .name) need) (v .variable (b + j))
+      → moved-cell (qualOf s) (Halt n) ≡ actual watched (programOf s) v k b z j
+  unfolding actual moved-cell
+  actual-halt n e = rw (need-there k z ready in-scope j is-need, sym e) (sym (halted-then n _))
 
 -- a result: a moved cell, handed over
 pub handed-moved : (qual : ℕ → Qual) (r : Moved) → handed-cell qual r ≡ (moved-cell qual r >>= λ d. ok (some d))
@@ -344,7 +397,11 @@ handed-moved qual (To w) = refl
 handed-moved qual (Halt k) = sym (halted-then k (λ d. ok (some d)))
 
 module _ (s : List ℕ) (v : View watched) (a : ℕ) where
-  handed-bound : (q : Qual) → resultIn s (procedureAt s (v .procedure)) ≡ some q
+  -- what ?R stands for in the running frame
+  abbrev here : Qual
+  here = instance (boundOf s (v .procedure)) (v .set-held)
+
+  handed-bound : (q : Qual) → read-result here (resultIn s (procedureAt s (v .procedure))) ≡ some q
       → handed watched (programOf s) v (some a) ≡ (moved watched (programOf s) v q (v .variable a) >>= λ d. ok (some d))
   unfolding handed moved held bind-result _>>=_
   handed-bound q e = rw e (by-cell (v .variable a))
@@ -367,11 +424,11 @@ module _ (s : List ℕ) (v : View watched) (a : ℕ) where
   unfolding handed-cell halted handed held _>>=_
   result-blank {w} z e = rw (blank-word watched (qualOf s) w e z)
 
-  pub result-none : {w x pr n : ℕ} → procedureAt s (v .procedure) ≡ pr → n ≡ byteAt s pr 5 → n ≡ 255
+  pub result-none : {w x n : ℕ} {c : Scope} → InScope s v c → n ≡ byteAt s (c .head) 5 → n ≡ 255
       → (x ≡ w) × (w ≡ 0 → ⊥) → slot-in watched (qualOf s) w ≡ cell (v .variable a)
       → handed-cell (qualOf s) (Halt 18) ≡ handed watched (programOf s) v (some a)
-  unfolding handed-cell halted amiss handed held bind-result resultIn resultAt _>>=_
-  result-none {w} at is none-there told e = rw (at, sym is ∙ none-there) (by (v .variable a) (cell-word (qualOf s) w _ e))
+  unfolding handed-cell halted amiss handed held bind-result resultIn resultAt read-result _>>=_
+  result-none {w} in-scope is none-there told e = rw (sym (in-scope .head), sym is ∙ none-there) (by (v .variable a) (cell-word (qualOf s) w _ e))
     where
       by : (c : Cell watched) → CellOf w c
           → _≡_ {A = Res (Option (Cell watched))} (stop wrong-kind)
@@ -379,14 +436,15 @@ module _ (s : List ℕ) (v : View watched) (a : ℕ) where
       by empty (blank-in z) = absurd (told .1 z)
       by (filled y m) f = refl
 
-  pub result-value : (r : Moved) {w x pr n : ℕ} → procedureAt s (v .procedure) ≡ pr → n ≡ byteAt s pr 5 → (n ≡ 255 → ⊥)
+  pub result-value : (r : Moved) {w x n : ℕ} {c : Scope} {t : List ℕ} → Ready s t → InScope s v c → n ≡ byteAt s (c .head) 5 → (n ≡ 255 → ⊥)
       → (x ≡ w) × (w ≡ 0 → ⊥) → slot-in watched (qualOf s) w ≡ cell (v .variable a)
       → ((y : Value) (m : ℕ) → slot-in watched (qualOf s) x ≡ cell (filled y m)
-      → moved-cell (qualOf s) r ≡ moved watched (programOf s) v (qualOf s n) (filled y m))
+      → moved-cell (qualOf s) r ≡ moved watched (programOf s) v (typeIn t (c .name) n) (filled y m))
       → handed-cell (qualOf s) r ≡ handed watched (programOf s) v (some a)
-  unfolding resultIn resultAt
-  result-value r {n = n} at is not255 told e rest =
-      let there : resultIn s (procedureAt s (v .procedure)) ≡ some (qualOf s n) = rw (at, sym is, ne-eqb n 255 not255) in
+  unfolding resultIn resultAt read-result
+  result-value r {n = n} {c} {t} ready in-scope is not255 told e rest =
+      let there : read-result here (resultIn s (procedureAt s (v .procedure))) ≡ some (typeIn t (c .name) n)
+      = rw (sym (in-scope .name), sym (in-scope .head), sym is, ne-eqb n 255 not255) (ap some (sym (type-read ready (c .name) n))) in
       handed-moved (qualOf s) r
-      ∙ ap (λ (m : Res (Cell watched)). m >>= λ d. ok (some d)) (bind-value (qualOf s) (programOf s) v (qualOf s n) r told e rest)
-      ∙ sym (handed-bound (qualOf s n) there)
+      ∙ ap (λ (m : Res (Cell watched)). m >>= λ d. ok (some d)) (bind-value (qualOf s) (programOf s) v (typeIn t (c .name) n) r told e rest)
+      ∙ sym (handed-bound (typeIn t (c .name) n) there)

@@ -2,10 +2,11 @@
 use Prim.Native.Nat.{ℕ}
 use native.Mathlib.Omega.{arith}
 use mathlib.Core.Path.{_≡_, refl, sym, ap, _∙_}
-use Rattle.model.specs.Qualified.{Qual}
+use Rattle.model.specs.Qualified.{Qual, declared}
+use Rattle.model.specs.Generic.{read}
 use Rattle.model.specs.Modes.{watched}
 use Rattle.model.specs.Machine.{Value, word, object, Cell, empty, filled, Head, array-head, record-head, no-head}
-use Rattle.words.specs.Word.{tag, low, payload, size-of, info-of, cell, slot-in, as-cell, as-head}
+use Rattle.words.specs.Word.{tag, low, payload, size-of, info-of, settled-base, cell, slot-in, as-cell, as-head}
 use Rattle.words.proofs.Laws.{Reading, a-blank, an-integer, an-object, an-array, a-record, a-back, a-procedure, reading, tagged, slot-zero, slot-integer, slot-object, slot-array, slot-record, slot-back}
 
 -- a filled cell: an integer without rights, or an object with those in its word
@@ -18,7 +19,7 @@ pub data CellOf (w : ℕ) : Cell watched → Type 0 where
   value-in : (x : Value) (m : ℕ) → ValueOf w x m → CellOf w (filled x m)
 
 pub data HeadOf (qual : ℕ → Qual) (w : ℕ) : Head watched → Type 0 where
-  array-in : tag w ≡ 3 → HeadOf qual w (array-head (qual (info-of w)) (size-of w))
+  array-in : tag w ≡ 3 → HeadOf qual w (array-head (read (declared (settled-base w) (low w)) (qual (info-of w))) (size-of w))
   record-in : tag w ≡ 4 → HeadOf qual w (record-head (info-of w) (size-of w))
   no-head-in : (tag w ≡ 3 → ⊥) → (tag w ≡ 4 → ⊥) → HeadOf qual w no-head
 

@@ -1,6 +1,6 @@
 -- By computation alone.
 use mathlib.Core.Path.{refl}
-use Rattle.cases.specs.Accepted.{counter, CounterRuns, amplified, CounterRaised, sorter, SorterRuns, edges, EdgesRun}
+use Rattle.cases.specs.Accepted.{counter, CounterRuns, amplified, CounterRaised, sorter, SorterRuns, edges, EdgesRun, any-rights, AnyRightsRun, both-sets, AnyRightsSettled}
 use Rattle.cases.proofs.Computing.{computing}
 
 pub counter-runs : CounterRuns
@@ -18,3 +18,11 @@ sorter-runs = record { accepted = refl; by-plain = refl; by-watched = refl }
 pub edges-run : EdgesRun
 unfolding computing edges
 edges-run = record { accepted = refl; by-plain = refl; by-watched = refl }
+
+pub any-rights-run : AnyRightsRun
+unfolding computing any-rights
+any-rights-run = record { accepted = refl; by-plain = refl; by-watched = refl }
+
+pub any-rights-settled : AnyRightsSettled
+unfolding computing any-rights both-sets
+any-rights-settled = refl

@@ -1,6 +1,6 @@
 -- By computation alone.
 use mathlib.Core.Path.{refl}
-use Rattle.cases.specs.Refused.{array-put, ArrayPut, integer-sized, IntegerSized, record-sized, RecordSized, array-opened, ArrayOpened, stranger-opened, StrangerOpened, nothing-kept, NothingKept, stored-unlicensed, StoredUnlicensed}
+use Rattle.cases.specs.Refused.{array-put, ArrayPut, integer-sized, IntegerSized, record-sized, RecordSized, array-opened, ArrayOpened, stranger-opened, StrangerOpened, nothing-kept, NothingKept, stored-unlicensed, StoredUnlicensed, two-settlings, TwoSettlings, short-settling, ShortSettling}
 use Rattle.cases.proofs.Computing.{computing}
 
 pub array-put-sticks : ArrayPut
@@ -30,3 +30,11 @@ nothing-kept-sticks = record { well-formed = refl; refused = refl; on-plain = re
 pub stored-unlicensed-stops : StoredUnlicensed
 unfolding computing stored-unlicensed
 stored-unlicensed-stops = record { well-formed = refl; refused = refl; on-plain = refl; on-watched = refl }
+
+pub two-settlings-stop : TwoSettlings
+unfolding computing two-settlings
+two-settlings-stop = record { well-formed = refl; refused = refl; on-plain = refl; on-watched = refl }
+
+pub short-settling-stops : ShortSettling
+unfolding computing short-settling
+short-settling-stops = record { well-formed = refl; refused = refl; on-plain = refl; on-watched = refl }

@@ -3,9 +3,10 @@
 use Prim.Native.Nat.{ℕ}
 use mathlib.Core.Path.{_≡_}
 use mathlib.Core.List.{List, [], _∷_}
+use Rattle.model.specs.Qualified.{declared}
 use Rattle.model.specs.Outcome.{done, past-end}
 use Rattle.model.specs.Modes.{plain, watched}
-use Rattle.model.specs.Machine.{word, object, empty, filled, record-of, frame}
+use Rattle.model.specs.Machine.{word, object, empty, filled, array-of, record-of, frame}
 use Rattle.model.specs.Run.{End, stopped, Snapshot, snapshot, run, state-after}
 use Rattle.model.specs.declared.Verdict.the-variants.{Accepted}
 use Rattle.sheet.specs.Meaning.{programOf}
@@ -74,8 +75,8 @@ CounterRuns = Runs counter 40 4 (3 ∷ []) 1000 (stopped done 42 (3 ∷ 2 ∷ 1 
 unfoldable pub amplified : Snapshot watched
 amplified =
     snapshot (
-    frame 2 0 (filled (object 0) 7 ∷ filled (word 3) 0 ∷ []) ∷
-    frame 0 6 (filled (word 3) 0 ∷ filled (object 0) 2 ∷ filled (word 1) 0 ∷ filled (object 0) 2 ∷ filled (word 3) 0 ∷ empty ∷ empty ∷ []) ∷
+    frame 2 0 0 (filled (object 0) 7 ∷ filled (word 3) 0 ∷ []) ∷
+    frame 0 6 0 (filled (word 3) 0 ∷ filled (object 0) 2 ∷ filled (word 1) 0 ∷ filled (object 0) 2 ∷ filled (word 3) 0 ∷ empty ∷ empty ∷ []) ∷
     [])
     (record-of 2 (empty ∷ []) ∷ [])
 
@@ -200,3 +201,69 @@ edges =
 
 abbrev pub EdgesRun : Type 0
 EdgesRun = Runs edges 10 1 [] 100 (stopped past-end 5 (4294967295 ∷ []) 0 5)
+
+-- ---- document 02, S-1: one procedure for arrays of calls under any rights, called with two of them
+unfoldable pub any-rights : List ℕ
+any-rights =
+    72 ∷ 68 ∷ 1 ∷ 1 ∷ 7 ∷ 3 ∷  -- HD one type, seven qualified types, three procedures
+    84 ∷ 89 ∷ 2 ∷ 0 ∷ 255 ∷ 255 ∷ 255 ∷ 255 ∷ 255 ∷ 255 ∷ 255 ∷ 255 ∷  -- TY type 2, call: right 1 read, right 2 amend
+    81 ∷ 84 ∷ 0 ∷ 0 ∷ 0 ∷ 255 ∷  -- QT 0: integer
+    81 ∷ 84 ∷ 2 ∷ 2 ∷ 0 ∷ 255 ∷  -- QT 1: call{read}
+    81 ∷ 84 ∷ 2 ∷ 6 ∷ 0 ∷ 255 ∷  -- QT 2: call{read,amend}
+    81 ∷ 84 ∷ 255 ∷ 0 ∷ 0 ∷ 255 ∷  -- QT 3: ?R
+    81 ∷ 84 ∷ 1 ∷ 6 ∷ 0 ∷ 3 ∷  -- QT 4: array[?R]{fetch,store}
+    81 ∷ 84 ∷ 1 ∷ 6 ∷ 0 ∷ 1 ∷  -- QT 5: array[call{read}]{fetch,store}
+    81 ∷ 84 ∷ 1 ∷ 6 ∷ 0 ∷ 2 ∷  -- QT 6: array[call{read,amend}]{fetch,store}
+    -- procedure 0, main
+    80 ∷ 82 ∷ 0 ∷ 0 ∷ 5 ∷ 255 ∷ 12 ∷ 0 ∷  -- PR five variables, twelve instructions
+    86 ∷ 82 ∷ 0 ∷ 255 ∷  -- VR 0: one
+    86 ∷ 82 ∷ 0 ∷ 255 ∷  -- VR 1: zero
+    86 ∷ 82 ∷ 5 ∷ 255 ∷  -- VR 2: calls
+    86 ∷ 82 ∷ 6 ∷ 255 ∷  -- VR 3: drafts
+    86 ∷ 82 ∷ 2 ∷ 255 ∷  -- VR 4: draft
+    73 ∷ 78 ∷ 1 ∷ 0 ∷ 255 ∷ 255 ∷ 1 ∷ 0 ∷  -- IN 0: one := 1
+    73 ∷ 78 ∷ 1 ∷ 1 ∷ 255 ∷ 255 ∷ 0 ∷ 0 ∷  -- IN 1: zero := 0
+    73 ∷ 78 ∷ 9 ∷ 2 ∷ 0 ∷ 255 ∷ 0 ∷ 0 ∷  -- IN 2: calls ← new array of size one
+    73 ∷ 78 ∷ 9 ∷ 3 ∷ 0 ∷ 255 ∷ 0 ∷ 0 ∷  -- IN 3: drafts ← new array of size one
+    73 ∷ 78 ∷ 16 ∷ 4 ∷ 255 ∷ 255 ∷ 1 ∷ 0 ∷  -- IN 4: draft ← procedure 1 ()
+    73 ∷ 78 ∷ 11 ∷ 2 ∷ 1 ∷ 4 ∷ 0 ∷ 0 ∷  -- IN 5: calls[zero] ← draft
+    73 ∷ 78 ∷ 11 ∷ 3 ∷ 1 ∷ 4 ∷ 0 ∷ 0 ∷  -- IN 6: drafts[zero] ← draft
+    73 ∷ 78 ∷ 16 ∷ 255 ∷ 2 ∷ 255 ∷ 2 ∷ 0 ∷  -- IN 7: procedure 2 (calls)
+    73 ∷ 78 ∷ 16 ∷ 255 ∷ 3 ∷ 255 ∷ 2 ∷ 0 ∷  -- IN 8: procedure 2 (drafts)
+    73 ∷ 78 ∷ 10 ∷ 4 ∷ 3 ∷ 1 ∷ 0 ∷ 0 ∷  -- IN 9: draft ← drafts[zero], amendable still
+    73 ∷ 78 ∷ 8 ∷ 0 ∷ 255 ∷ 255 ∷ 0 ∷ 0 ∷  -- IN 10: put one
+    73 ∷ 78 ∷ 17 ∷ 255 ∷ 255 ∷ 255 ∷ 0 ∷ 0 ∷  -- IN 11: return
+    -- procedure 1, of the type call: a new call
+    80 ∷ 82 ∷ 2 ∷ 0 ∷ 1 ∷ 2 ∷ 2 ∷ 0 ∷  -- PR owner call, no formals, one variable, result call{read,amend}, two instructions
+    86 ∷ 82 ∷ 2 ∷ 255 ∷  -- VR 0: made
+    73 ∷ 78 ∷ 13 ∷ 0 ∷ 255 ∷ 255 ∷ 0 ∷ 0 ∷  -- IN 0: made ← new call
+    73 ∷ 78 ∷ 17 ∷ 0 ∷ 255 ∷ 255 ∷ 0 ∷ 0 ∷  -- IN 1: return made
+    -- procedure 2, for ?R ≥ call{read}: fetches a call and stores it back, whatever the rights of the array's calls
+    80 ∷ 82 ∷ 0 ∷ 1 ∷ 4 ∷ 255 ∷ 5 ∷ 0 ∷  -- PR no owner, one formal, four variables, no result, five instructions
+    71 ∷ 78 ∷ 2 ∷ 2 ∷ 0 ∷  -- GN base call, least set read
+    86 ∷ 82 ∷ 4 ∷ 4 ∷  -- VR 0: calls
+    86 ∷ 82 ∷ 0 ∷ 255 ∷  -- VR 1: zero
+    86 ∷ 82 ∷ 3 ∷ 255 ∷  -- VR 2: any
+    86 ∷ 82 ∷ 1 ∷ 255 ∷  -- VR 3: read, a call{read}
+    73 ∷ 78 ∷ 1 ∷ 1 ∷ 255 ∷ 255 ∷ 0 ∷ 0 ∷  -- IN 0: zero := 0
+    73 ∷ 78 ∷ 10 ∷ 2 ∷ 0 ∷ 1 ∷ 0 ∷ 0 ∷  -- IN 1: any ← calls[zero]
+    73 ∷ 78 ∷ 6 ∷ 3 ∷ 2 ∷ 255 ∷ 0 ∷ 0 ∷  -- IN 2: read ← any, whose least right it is
+    73 ∷ 78 ∷ 11 ∷ 0 ∷ 1 ∷ 2 ∷ 0 ∷ 0 ∷  -- IN 3: calls[zero] ← any
+    73 ∷ 78 ∷ 17 ∷ 255 ∷ 255 ∷ 255 ∷ 0 ∷ 0 ∷  -- IN 4: return
+    []
+
+abbrev pub AnyRightsRun : Type 0
+AnyRightsRun = Runs any-rights 40 1 [] 100 (stopped done 24 (1 ∷ []) 0 11)
+
+-- after 18 steps the second call has fetched: its frame holds the set {read,amend} (6), with which its variable `any` carries the call; the array under
+-- {read} (object 0) and the one under {read,amend} (object 2) are of the same element, ?R, to the procedure, and keep their own
+unfoldable pub both-sets : Snapshot watched
+both-sets =
+    snapshot (
+    frame 2 2 6 (filled (object 2) 6 ∷ filled (word 0) 0 ∷ filled (object 4) 6 ∷ empty ∷ []) ∷
+    frame 0 9 0 (filled (word 1) 0 ∷ filled (word 0) 0 ∷ filled (object 0) 6 ∷ filled (object 2) 6 ∷ filled (object 4) 6 ∷ []) ∷
+    [])
+    (array-of (declared 2 2) (filled (object 4) 2 ∷ []) ∷ array-of (declared 2 6) (filled (object 4) 6 ∷ []) ∷ record-of 2 [] ∷ [])
+
+abbrev pub AnyRightsSettled : Type 0
+AnyRightsSettled = state-after watched (programOf any-rights) 40 1 [] 100 18 ≡ both-sets

@@ -159,3 +159,62 @@ stored-unlicensed =
 
 abbrev pub StoredUnlicensed : Type 0
 StoredUnlicensed = Parts stored-unlicensed 9 58 (stopped done 5 [] 0 4) (stopped missing-right 3 [] 0 3)
+
+-- ---- document 02, S-1: two actuals settle ?R differently; "watch stops there with 18", while the plain machine reads no type and is done
+unfoldable pub two-settlings : List ℕ
+two-settlings =
+    72 ∷ 68 ∷ 1 ∷ 1 ∷ 7 ∷ 2 ∷  -- HD
+    84 ∷ 89 ∷ 2 ∷ 0 ∷ 255 ∷ 255 ∷ 255 ∷ 255 ∷ 255 ∷ 255 ∷ 255 ∷ 255 ∷  -- TY type 2, call: right 1 read, right 2 amend
+    81 ∷ 84 ∷ 0 ∷ 0 ∷ 0 ∷ 255 ∷  -- QT 0: integer
+    81 ∷ 84 ∷ 2 ∷ 2 ∷ 0 ∷ 255 ∷  -- QT 1: call{read}
+    81 ∷ 84 ∷ 2 ∷ 6 ∷ 0 ∷ 255 ∷  -- QT 2: call{read,amend}
+    81 ∷ 84 ∷ 255 ∷ 0 ∷ 0 ∷ 255 ∷  -- QT 3: ?R
+    81 ∷ 84 ∷ 1 ∷ 0 ∷ 0 ∷ 3 ∷  -- QT 4: array[?R]{}
+    81 ∷ 84 ∷ 1 ∷ 0 ∷ 0 ∷ 1 ∷  -- QT 5: array[call{read}]{}
+    81 ∷ 84 ∷ 1 ∷ 0 ∷ 0 ∷ 2 ∷  -- QT 6: array[call{read,amend}]{}
+    80 ∷ 82 ∷ 0 ∷ 0 ∷ 3 ∷ 255 ∷ 5 ∷ 0 ∷  -- procedure 0, main
+    86 ∷ 82 ∷ 0 ∷ 255 ∷  -- VR 0: count
+    86 ∷ 82 ∷ 5 ∷ 255 ∷  -- VR 1: calls
+    86 ∷ 82 ∷ 6 ∷ 255 ∷  -- VR 2: drafts
+    73 ∷ 78 ∷ 1 ∷ 0 ∷ 255 ∷ 255 ∷ 0 ∷ 0 ∷  -- IN 0: count := 0
+    73 ∷ 78 ∷ 9 ∷ 1 ∷ 0 ∷ 255 ∷ 0 ∷ 0 ∷  -- IN 1: calls ← new array of size count
+    73 ∷ 78 ∷ 9 ∷ 2 ∷ 0 ∷ 255 ∷ 0 ∷ 0 ∷  -- IN 2: drafts ← new array of size count
+    73 ∷ 78 ∷ 16 ∷ 255 ∷ 1 ∷ 255 ∷ 1 ∷ 0 ∷  -- IN 3: procedure 1 (calls, drafts)
+    73 ∷ 78 ∷ 17 ∷ 255 ∷ 255 ∷ 255 ∷ 0 ∷ 0 ∷  -- IN 4: return
+    80 ∷ 82 ∷ 0 ∷ 2 ∷ 2 ∷ 255 ∷ 1 ∷ 0 ∷  -- procedure 1, for ?R ≥ call{}
+    71 ∷ 78 ∷ 2 ∷ 0 ∷ 0 ∷  -- GN base call, no least right
+    86 ∷ 82 ∷ 4 ∷ 4 ∷  -- VR 0
+    86 ∷ 82 ∷ 4 ∷ 4 ∷  -- VR 1
+    73 ∷ 78 ∷ 17 ∷ 255 ∷ 255 ∷ 255 ∷ 0 ∷ 0 ∷  -- IN 0: return
+    []
+
+abbrev pub TwoSettlings : Type 0
+TwoSettlings = Parts two-settlings 20 104 (stopped done 6 [] 0 4) (stopped wrong-kind 3 [] 0 3)
+
+-- ---- S-1: the settled set lacks a least right; "with 19"
+unfoldable pub short-settling : List ℕ
+short-settling =
+    72 ∷ 68 ∷ 1 ∷ 1 ∷ 7 ∷ 2 ∷  -- HD
+    84 ∷ 89 ∷ 2 ∷ 0 ∷ 255 ∷ 255 ∷ 255 ∷ 255 ∷ 255 ∷ 255 ∷ 255 ∷ 255 ∷  -- TY type 2, call: right 1 read, right 2 amend
+    81 ∷ 84 ∷ 0 ∷ 0 ∷ 0 ∷ 255 ∷  -- QT 0: integer
+    81 ∷ 84 ∷ 2 ∷ 2 ∷ 0 ∷ 255 ∷  -- QT 1: call{read}
+    81 ∷ 84 ∷ 2 ∷ 6 ∷ 0 ∷ 255 ∷  -- QT 2: call{read,amend}
+    81 ∷ 84 ∷ 255 ∷ 0 ∷ 0 ∷ 255 ∷  -- QT 3: ?R
+    81 ∷ 84 ∷ 1 ∷ 0 ∷ 0 ∷ 3 ∷  -- QT 4: array[?R]{}
+    81 ∷ 84 ∷ 1 ∷ 0 ∷ 0 ∷ 1 ∷  -- QT 5: array[call{read}]{}
+    81 ∷ 84 ∷ 1 ∷ 0 ∷ 0 ∷ 2 ∷  -- QT 6: array[call{read,amend}]{}
+    80 ∷ 82 ∷ 0 ∷ 0 ∷ 2 ∷ 255 ∷ 4 ∷ 0 ∷  -- procedure 0, main
+    86 ∷ 82 ∷ 0 ∷ 255 ∷  -- VR 0: count
+    86 ∷ 82 ∷ 5 ∷ 255 ∷  -- VR 1: calls
+    73 ∷ 78 ∷ 1 ∷ 0 ∷ 255 ∷ 255 ∷ 0 ∷ 0 ∷  -- IN 0: count := 0
+    73 ∷ 78 ∷ 9 ∷ 1 ∷ 0 ∷ 255 ∷ 0 ∷ 0 ∷  -- IN 1: calls ← new array of size count
+    73 ∷ 78 ∷ 16 ∷ 255 ∷ 1 ∷ 255 ∷ 1 ∷ 0 ∷  -- IN 2: procedure 1 (calls)
+    73 ∷ 78 ∷ 17 ∷ 255 ∷ 255 ∷ 255 ∷ 0 ∷ 0 ∷  -- IN 3: return
+    80 ∷ 82 ∷ 0 ∷ 1 ∷ 1 ∷ 255 ∷ 1 ∷ 0 ∷  -- procedure 1, for ?R ≥ call{read,amend}
+    71 ∷ 78 ∷ 2 ∷ 6 ∷ 0 ∷  -- GN base call, least set read and amend
+    86 ∷ 82 ∷ 4 ∷ 4 ∷  -- VR 0
+    73 ∷ 78 ∷ 17 ∷ 255 ∷ 255 ∷ 255 ∷ 0 ∷ 0 ∷  -- IN 0: return
+    []
+
+abbrev pub ShortSettling : Type 0
+ShortSettling = Parts short-settling 21 92 (stopped done 5 [] 0 3) (stopped missing-right 2 [] 0 2)

@@ -3,7 +3,7 @@ use index::Index;
 use index::types::element_of;
 use index::types::rights_of;
 use order::equal;
-use order::is_owned;
+use order::is_amplified;
 use order::require;
 use rights::has_right;
 use sheet::bytes::byte;
@@ -11,7 +11,8 @@ use sheet::fields::field;
 use sheet::fields::inner_of;
 use sheet::fields::need_of;
 ghost use mathlib.Core.Path.{_≡_};
-ghost use Prim.Native.Nat.{_+_};
+ghost use mathlib.Core.List.{List};
+ghost use Prim.Native.Nat.{ℕ, _+_};
 ghost use Rattle.model.specs.Qualified.{element};
 ghost use Rattle.model.specs.Refusal.{failure, each};
 ghost use Rattle.model.specs.Rules.{closed, closed-rule, closed-result, agrees, formal-rule, local-rule, declaration-rule};
@@ -71,20 +72,22 @@ pub fn has_closed_result(s: &[u8], index: &Index, pr: u32) -> bool
     is_closed(index, result)
 }
 
-// Need and inner of a formal agree.
+// Need and inner of a formal agree, ?R unread: where both sides read it alike, as ?R, they are equal exactly if they are so unread.
 fn agree(index: &Index, owner: u8, need: u8, inner: u8) -> bool
-    ensures { λ r. ⌜ r ≡ agrees owner (qualIn (now (index .entry)) need) (qualIn (now (index .entry)) inner) ⌝ }
+    ensures { λ r. ⌜ ((s : List ℕ) → Ready s (now (index .entry)) → r ≡ agrees owner (qualOf s need) (qualOf s inner)) ⌝ }
 {
-    if is_owned(index, owner, inner) {
-        return is_owned(index, owner, need);
+    if is_amplified(index, owner, inner) {
+        return is_amplified(index, owner, need);
     }
-    equal(index, need, inner)
+    let name: u64 = 137438953472;
+    equal(index, name, need, name, inner)
 }
 
 fn formal_number(index: &Index, owner: u8, need: u8, inner: u8) -> u8
-    ensures { λ r. ⌜ r ≡ failure (formal-rule owner (qualIn (now (index .entry)) need) (qualIn (now (index .entry)) inner)) ⌝ }
+    ensures { λ r. ⌜ ((s : List ℕ) → Ready s (now (index .entry)) → r ≡ failure (formal-rule owner (qualOf s need) (qualOf s inner))) ⌝ }
 {
-    let stands = is_closed(index, need) & (is_owned(index, owner, inner) | is_closed(index, inner));
+    let stands = is_closed(index, need)
+        & (is_amplified(index, owner, inner) | is_closed(index, inner));
     require(stands, 6, require(agree(index, owner, need, inner), 7, 0))
 }
 
@@ -92,21 +95,21 @@ fn local_number(index: &Index, owner: u8, inner: u8) -> u8
     ensures { λ r. ⌜ r ≡ failure (local-rule owner (qualIn (now (index .entry)) inner)) ⌝ }
 {
     require(
-        is_owned(index, owner, inner) | is_closed(index, inner),
+        is_amplified(index, owner, inner) | is_closed(index, inner),
         6,
         0,
     )
 }
 
-// Variable x of the procedure at a place.
-pub fn variable_number(s: &[u8], index: &Index, pr: u32, x: u8) -> u8
+// Variable x of the procedure at a place, whose VRs start at another.
+pub fn variable_number(s: &[u8], index: &Index, pr: u32, start: u32, x: u8) -> u8
     requires { ⌜ Ready (now s) (now index) ⌝ }
-    ensures { λ r. ⌜ r ≡ failure (declaration-rule (ownerAt (now (s .entry)) pr) (formalsAt (now (s .entry)) pr) x (needIn (now (s .entry)) pr x) (innerIn (now (s .entry)) pr x)) ⌝ }
+    ensures { λ r. ⌜ r ≡ failure (declaration-rule (ownerAt (now (s .entry)) pr) (formalsAt (now (s .entry)) pr) x (needIn (now (s .entry)) start x) (innerIn (now (s .entry)) start x)) ⌝ }
 {
     let owner = field(s, pr, 2);
-    let inner = inner_of(s, pr, x);
+    let inner = inner_of(s, start, x);
     if x < field(s, pr, 3) {
-        return formal_number(index, owner, need_of(s, pr, x), inner);
+        return formal_number(index, owner, need_of(s, start, x), inner);
     }
     local_number(index, owner, inner)
 }

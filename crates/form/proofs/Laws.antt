@@ -1,6 +1,6 @@
 -- Laws of the tests of well-formedness, which the proofs of the passes and the layers above cite.
 use Prim.Native.Nat.{ℕ, zero, suc, _+_, _*_, _-_, _<_, _≤_}
-use mathlib.Core.Path.{_≡_, _∙_}
+use mathlib.Core.Path.{_≡_, sym, ap, _∙_}
 use mathlib.Core.List.{List, [], _∷_, _++_}
 use mathlib.Core.Bool.{Bool, true, _&&_, cond}
 use native.Mathlib.Omega.{arith}
@@ -9,16 +9,18 @@ use lib.ListN.{length, getD}
 use lib.Dec.{eqb}
 use borrow.Author.Count.{below-more}
 use borrow.Author.Tests.{leb-true, ltb-true, eq-eqb, ne-eqb, le-leb, lt-ltb, le-ltb}
-use Rattle.model.specs.Refusal.{torn, stray-mark, bad-edition, off-scale, Tests, tests, failure, verdict}
+use Rattle.model.specs.Refusal.{torn, stray-mark, bad-edition, off-scale, Tests, tests, failure, verdict, each}
 use Rattle.model.specs.declared.Verdict.the-variants.{Accepted}
 use Rattle.model.proofs.Verdicts.{left-accepted, right-accepted, accepted-tests, passed-test, both-true, all-held}
 use Rattle.sheet.specs.Bytes.{byteAt, wordAt, wholeAt, Mark, mark, markedAt}
-use Rattle.sheet.specs.Layout.{hd-mark, editionOf, typesOf, qualsOf, proceduresOf, formalsAt, variablesAt, instructionAt, codeAt, kAt, procedureAt}
+use Rattle.sheet.specs.Layout.{hd-mark, editionOf, typesOf, qualsOf, proceduresOf, formalsAt, variablesAt, instructionsAt, isBounded, startFrom, instructionFrom, codeAt, kAt, procedureAt, startAt}
 use Rattle.sheet.specs.Reader.{recordAt, pastAt, leftAt}
 use Rattle.sheet.proofs.Laws.{whole-true, record-inside, record-byte, hd-sized}
+use Rattle.index.specs.Procedures.{procedure-in, start-of, place-of}
+use Rattle.index.specs.Indexed.{ProcedureWord}
 use Rattle.limits.specs.declared.Limits.{Limits}
 use Rattle.limits.specs.Scale.{all-below, below-or-none, header-scale, actuals-scale}
-use Rattle.form.specs.WellFormed.{length-tests, record-tests, header-tests, layout-tests, limitsAt, instruction-tests-at, instruction-tests, call-tests-at, call-tests}
+use Rattle.form.specs.WellFormed.{length-tests, record-tests, header-tests, layout-tests, limitsAt, instruction-tests-at, instruction-tests, call-tests-at, call-tests, variable-uses}
 
 -- ---- single tests
 -- f holds of each number below n
@@ -59,20 +61,39 @@ module _ (s : List ℕ) (end n : ℕ) (b : 8 ≤ end) (e : pastAt s (end - 8) �
 
 -- ---- places
 -- counted from the first instruction's place
-pub instruction-from : (s : List ℕ) (pr first i : ℕ) → first ≡ instructionAt s pr 0 → first + 8 * i ≡ instructionAt s pr i
-unfolding instructionAt
-instruction-from s pr first i e = omega arith
+pub instruction-counted : (start v first i : ℕ) → first ≡ instructionFrom start v 0 → first + 8 * i ≡ instructionFrom start v i
+unfolding instructionFrom
+instruction-counted start v first i e = omega arith
 
 -- the tests of an instruction, from what was read of its procedure
-pub instruction-here : (s : List ℕ) (pr i at : ℕ) (l : Limits) → l ≡ limitsAt s pr → at ≡ instructionAt s pr i
-    → instruction-tests-at s l i at ≡ instruction-tests s pr i
+pub instruction-here : (s : List ℕ) (pr start i at : ℕ) (l : Limits) → l ≡ limitsAt s pr → at ≡ instructionFrom start (variablesAt s pr) i
+    → instruction-tests-at s l i at ≡ instruction-tests s pr start i
 unfolding instruction-tests
-instruction-here s pr i at l p e = rw (p, e)
+instruction-here s pr start i at l p e = rw (p, e)
 
-pub call-here : (s : List ℕ) (pr v i at : ℕ) → v ≡ variablesAt s pr → at ≡ instructionAt s pr i
-    → _≡_ {A = List Tests} (tests at (call-tests-at s v at) ∷ []) (call-tests s pr i)
+pub call-here : (s : List ℕ) (v start i at : ℕ) → at ≡ instructionFrom start v i
+    → _≡_ {A = List Tests} (tests at (call-tests-at s v at) ∷ []) (call-tests s v start i)
 unfolding call-tests
-call-here s pr v i at p e = rw (p, e)
+call-here s v start i at e = rw e
+
+-- those of the pass for calls, from where the records of a procedure stand
+module _ (s : List ℕ) (p pr start : ℕ) (e : start ≡ startFrom s p pr) where
+  pub variables-here : (bounded : Bool) → bounded ≡ isBounded s p pr
+      → _≡_ {A = List Tests} (each (variablesAt s pr) (variable-uses s bounded start)) (each (variablesAt s pr) (variable-uses s (isBounded s p pr) (startFrom s p pr)))
+  variables-here bounded f = rw (e, f)
+
+  pub calls-here :
+      _≡_ {A = List Tests} (each (instructionsAt s pr) (call-tests s (variablesAt s pr) start)) (each (instructionsAt s pr) (call-tests s (variablesAt s pr) (startFrom s p pr)))
+  calls-here = rw e
+
+-- where the records of a procedure stand, from its word in the index
+module _ (s t : List ℕ) (p w : ℕ) (h : ProcedureWord s p (procedure-in t p)) (e : w ≡ procedure-in t p) (pr : ℕ) (f : pr ≡ place-of w) where
+  pub placed : pr ≡ procedureAt s p
+  placed = f ∙ ap place-of e ∙ h .place
+
+  pub started : (start : ℕ) → start ≡ start-of w → start ≡ startFrom s p pr
+  unfolding startAt
+  started start g = g ∙ ap start-of e ∙ h .start ∙ ap (startFrom s p) (sym placed)
 
 -- ---- what an accepted record says: it stands whole, within its limits
 pub record-formed : (s : List ℕ) (at size : ℕ) (m : Mark) (scale : Bool) → verdict (record-tests s at size m scale) ≡ Accepted

@@ -1,4 +1,5 @@
 pub mod Laws
+pub mod Table
 pub mod Procedures
 pub mod WellFormed
 pub mod Numbers

@@ -1,16 +1,20 @@
 -- Refusals 1 to 5 in their order (document 01): "1; then record by record 2, 3, 4, 5 in field order; leftover bytes 2;
--- then, call by call, the 5s that wait for the procedure called".
+-- then, call by call, the 5s that wait for the procedure called"; document 02, S-1: "in the pass for calls, which goes record by record".
 use Prim.Native.Nat.{ℕ, _+_}
 use mathlib.Core.List.{List, [], _∷_, _++_}
-use mathlib.Core.Bool.{Bool, cond}
+use mathlib.Core.Bool.{Bool, false, not, _||_, cond}
+use mathlib.Core.Option.{Option, none, some}
 use lib.ListN.{length}
 use lib.Dec.{leb, ltb, eqb}
 use Rattle.model.specs.Refusal.{overlong, torn, stray-mark, bad-edition, off-scale, Test, test, Tests, tests, each}
+use Rattle.model.specs.Qualified.{Qual}
+use Rattle.model.specs.Generic.{uses}
 use Rattle.sheet.specs.Bytes.{byteAt, wholeAt, Mark, markedAt}
-use Rattle.sheet.specs.Layout.{hd-mark, ty-mark, qt-mark, pr-mark, vr-mark, in-mark, hd-size, ty-size, qt-size, pr-size, vr-size, in-size, editionOf, typesOf, qualsOf, proceduresOf, typeAt, namedOf, slotsOf, slotOf, qualAt, baseOf, rightsOf, elementOf, ownerAt, formalsAt, variablesAt, resultAt, instructionsAt, variableAt, innerAt, needAt, instructionAt, codeAt, kAt, procedureAt}
+use Rattle.sheet.specs.Layout.{hd-mark, ty-mark, qt-mark, pr-mark, gn-mark, vr-mark, in-mark, hd-size, ty-size, qt-size, pr-size, gn-size, vr-size, in-size, editionOf, typesOf, qualsOf, proceduresOf, typeAt, namedOf, slotsOf, slotOf, qualAt, baseOf, rightsOf, elementOf, ownerAt, formalsAt, variablesAt, resultAt, instructionsAt, boundAt, boundBaseAt, leastAt, isBounded, startFrom, variableAt, innerAt, needAt, instructionFrom, codeAt, kAt, procedureAt}
 use Rattle.sheet.specs.Decode.{fieldsAt}
+use Rattle.sheet.specs.Meaning.{slotIn, innerIn, needIn, resultIn}
 use Rattle.limits.specs.declared.Limits.{Limits}
-use Rattle.limits.specs.Scale.{header-scale, type-scale, qual-scale, procedure-scale, variable-scale, instruction-scale, actuals-scale}
+use Rattle.limits.specs.Scale.{header-scale, type-scale, qual-scale, bound-scale, procedure-scale, variable-scale, instruction-scale, actuals-scale}
 
 -- 1: "more than 32,768 bytes"
 unfoldable pub length-tests : List ℕ → List Tests
@@ -50,11 +54,19 @@ head-tests s p pr =
     record-tests s pr pr-size pr-mark
     (procedure-scale (typesOf s) (qualsOf s) p (ownerAt s pr) (formalsAt s pr) (variablesAt s pr) (resultAt s pr) (instructionsAt s pr))
 
--- VR number x of the procedure at `pr`
-unfoldable pub variable-tests : List ℕ → (pr x : ℕ) → List Tests
-variable-tests s pr x =
-    record-tests s (variableAt pr x) vr-size vr-mark
-    (variable-scale (qualsOf s) (formalsAt s pr) x (innerAt s pr x) (needAt s pr x))
+-- GN of procedure p, at `pr`, where one is due
+unfoldable pub bound-tests : List ℕ → (p pr : ℕ) → List Tests
+bound-tests s p pr =
+    cond (isBounded s p pr)
+    (record-tests s (boundAt pr) gn-size gn-mark
+    (bound-scale (typesOf s) (namedOf s (boundBaseAt s pr)) (boundBaseAt s pr) (leastAt s pr)))
+    []
+
+-- VR number x of the procedure at `pr`, whose VRs start at `start`
+unfoldable pub variable-tests : List ℕ → (pr start x : ℕ) → List Tests
+variable-tests s pr start x =
+    record-tests s (variableAt start x) vr-size vr-mark
+    (variable-scale (qualsOf s) (formalsAt s pr) x (innerAt s start x) (needAt s start x))
 
 -- what the limits of the INs of the procedure at `pr` depend on
 abbrev pub limitsAt : List ℕ → ℕ → Limits
@@ -65,13 +77,16 @@ limitsAt s pr =
 unfoldable pub instruction-tests-at : List ℕ → Limits → (i at : ℕ) → List Tests
 instruction-tests-at s l i at = record-tests s at in-size in-mark (instruction-scale l (fieldsAt s at) i)
 
-unfoldable pub instruction-tests : List ℕ → (pr i : ℕ) → List Tests
-instruction-tests s pr i = instruction-tests-at s (limitsAt s pr) i (instructionAt s pr i)
+unfoldable pub instruction-tests : List ℕ → (pr start i : ℕ) → List Tests
+instruction-tests s pr start i = instruction-tests-at s (limitsAt s pr) i (instructionFrom start (variablesAt s pr) i)
 
--- procedure p, at `pr`: its PR, VRs, INs
+-- procedure p, at `pr`: its PR, GN, VRs, INs
 unfoldable pub procedure-tests-at : List ℕ → (p pr : ℕ) → List Tests
 procedure-tests-at s p pr =
-    head-tests s p pr ++ (each (variablesAt s pr) (variable-tests s pr) ++ each (instructionsAt s pr) (instruction-tests s pr))
+    head-tests s p pr
+    ++ (bound-tests s p pr
+    ++ (each (variablesAt s pr) (variable-tests s pr (startFrom s p pr))
+    ++ each (instructionsAt s pr) (instruction-tests s pr (startFrom s p pr))))
 
 unfoldable pub procedure-tests : List ℕ → ℕ → List Tests
 procedure-tests s p = procedure-tests-at s p (procedureAt s p)
@@ -97,14 +112,36 @@ call-tests-at s v at =
     ∷ [])
     []
 
-unfoldable pub call-tests : List ℕ → (pr i : ℕ) → List Tests
-call-tests s pr i = tests (instructionAt s pr i) (call-tests-at s (variablesAt s pr) (instructionAt s pr i)) ∷ []
+unfoldable pub call-tests : List ℕ → (v start i : ℕ) → List Tests
+call-tests s v start i = tests (instructionFrom start v i) (call-tests-at s v (instructionFrom start v i)) ∷ []
+
+-- S-1: ?R "Used (itself or as an element) in a slot or without a GN .. is 5 at the TY, PR or VR, in the pass for calls"; a QT that no record names is no fault
+unfoldable pub slot-uses : List ℕ → ℕ → List Tests
+slot-uses s i = tests (typeAt (2 + i)) (each (slotsOf s (2 + i)) (λ k. test off-scale (not (uses (slotIn s (2 + i) k))) ∷ [])) ∷ []
+
+unfoldable pub result-uses : Option Qual → Bool
+result-uses none = false
+result-uses (some q) = uses q
+
+unfoldable pub head-uses : List ℕ → (p pr : ℕ) → List Tests
+head-uses s p pr = tests pr (test off-scale (isBounded s p pr || not (result-uses (resultIn s pr))) ∷ []) ∷ []
+
+unfoldable pub variable-uses : List ℕ → (bounded : Bool) → (start x : ℕ) → List Tests
+variable-uses s bounded start x =
+    tests (variableAt start x) (test off-scale (bounded || not (uses (innerIn s start x) || uses (needIn s start x))) ∷ []) ∷ []
+
+-- procedure p, at `pr`, in the pass for calls: its PR, its VRs, its calls
+unfoldable pub procedure-calls-at : List ℕ → (p pr : ℕ) → List Tests
+procedure-calls-at s p pr =
+    head-uses s p pr
+    ++ (each (variablesAt s pr) (variable-uses s (isBounded s p pr) (startFrom s p pr))
+    ++ each (instructionsAt s pr) (call-tests s (variablesAt s pr) (startFrom s p pr)))
 
 unfoldable pub procedure-calls : List ℕ → ℕ → List Tests
-procedure-calls s p = each (instructionsAt s (procedureAt s p)) (call-tests s (procedureAt s p))
+procedure-calls s p = procedure-calls-at s p (procedureAt s p)
 
 unfoldable pub calls-tests : List ℕ → List Tests
-calls-tests s = each (proceduresOf s) (procedure-calls s)
+calls-tests s = each (typesOf s) (slot-uses s) ++ each (proceduresOf s) (procedure-calls s)
 
 -- a sheet is well-formed when none of 1 to 5 is given
 unfoldable pub form-tests : List ℕ → List Tests

@@ -1,4 +1,5 @@
 // The pass over all records in their order, one loop a kind, and the bytes left over.
+use crate::records::bound_record;
 use crate::records::head_record;
 use crate::records::header;
 use crate::records::instruction_record;
@@ -6,19 +7,22 @@ use crate::records::qual_record;
 use crate::records::type_record;
 use crate::records::variable_record;
 use index::Index;
+use index::procedures::place_in;
 use index::procedures::place_of;
+use index::procedures::procedure_in;
+use index::procedures::start_in;
 use limits::Limits;
 use model::Verdict;
 use reader::left_after;
 use sheet::bytes::byte;
 use sheet::bytes::word;
-use sheet::places::instruction_at;
+use sheet::places::instruction_from;
 use sheet::places::type_at;
 ghost use mathlib.Core.Path.{_≡_};
 ghost use mathlib.Core.List.{_++_};
 ghost use Prim.Native.Nat.{_-_, _≤_, _<_};
 ghost use Rattle.model.specs.Refusal.{verdict, each};
-ghost use Rattle.sheet.specs.Layout.{proceduresOf, variablesAt, instructionsAt};
+ghost use Rattle.sheet.specs.Layout.{proceduresOf, variablesAt, instructionsAt, startFrom};
 ghost use Rattle.index.specs.Indexed.{Indexed};
 ghost use Rattle.sheet.specs.Reader.{pastAt};
 ghost use Rattle.form.specs.WellFormed.{length-tests, type-tests, qual-tests, variable-tests, limitsAt, instruction-tests, procedure-tests-at, procedure-tests, leftover-tests, layout-tests};
@@ -51,13 +55,13 @@ fn quals_pass(s: &[u8], q: u8) -> Verdict
     Verdict::Accepted
 }
 
-fn variables_pass(s: &[u8], pr: u32) -> Verdict
-    ensures { λ r. ⌜ r ≡ verdict (each (variablesAt (now (s .entry)) pr) (variable-tests (now (s .entry)) pr)) ⌝ }
+fn variables_pass(s: &[u8], pr: u32, start: u32) -> Verdict
+    ensures { λ r. ⌜ r ≡ verdict (each (variablesAt (now (s .entry)) pr) (variable-tests (now (s .entry)) pr start)) ⌝ }
 {
     let n = byte(s, pr as usize, 4);
     let mut x = 0;
     while x < n {
-        let v = variable_record(s, pr, x);
+        let v = variable_record(s, pr, start, x);
         let Verdict::Accepted = v else {
             return v;
         };
@@ -83,12 +87,12 @@ fn limits_at(s: &[u8], pr: u32) -> Limits
     }
 }
 
-fn instructions_pass(s: &[u8], pr: u32) -> Verdict
-    ensures { λ r. ⌜ r ≡ verdict (each (instructionsAt (now (s .entry)) pr) (instruction-tests (now (s .entry)) pr)) ⌝ }
+fn instructions_pass(s: &[u8], pr: u32, start: u32) -> Verdict
+    ensures { λ r. ⌜ r ≡ verdict (each (instructionsAt (now (s .entry)) pr) (instruction-tests (now (s .entry)) pr start)) ⌝ }
 {
     let l = limits_at(s, pr);
     let n = l.instructions;
-    let first = instruction_at(s, pr, 0);
+    let first = instruction_from(start, l.variables, 0);
     let mut i: u16 = 0;
     while i < n {
         let v = instruction_record(s, l, i, first + 8 * (i as usize));
@@ -100,19 +104,24 @@ fn instructions_pass(s: &[u8], pr: u32) -> Verdict
     Verdict::Accepted
 }
 
-// Procedure p, at a place: its PR, VRs, INs.
-fn procedure_pass(s: &[u8], p: usize, pr: u32) -> Verdict
+// Procedure p, at a place: its PR, GN, VRs, which start at another, INs.
+fn procedure_pass(s: &[u8], p: usize, pr: u32, start: u32) -> Verdict
+    requires { ⌜ start ≡ startFrom (now s) p pr ⌝ }
     ensures { λ r. ⌜ r ≡ verdict (procedure-tests-at (now (s .entry)) p pr) ⌝ }
 {
     let head = head_record(s, p, pr);
     let Verdict::Accepted = head else {
         return head;
     };
-    let variables = variables_pass(s, pr);
+    let bound = bound_record(s, p, pr);
+    let Verdict::Accepted = bound else {
+        return bound;
+    };
+    let variables = variables_pass(s, pr, start);
     let Verdict::Accepted = variables else {
         return variables;
     };
-    instructions_pass(s, pr)
+    instructions_pass(s, pr, start)
 }
 
 fn procedures_pass(s: &[u8], index: &Index, n: usize) -> Verdict
@@ -123,7 +132,8 @@ fn procedures_pass(s: &[u8], index: &Index, n: usize) -> Verdict
 {
     let mut p = 0;
     while p < n {
-        let v = procedure_pass(s, p, place_of(index, p));
+        let w = procedure_in(index, p);
+        let v = procedure_pass(s, p, place_in(w), start_in(w));
         let Verdict::Accepted = v else {
             return v;
         };

@@ -1,6 +1,7 @@
 // One record of each kind: whole, under its mark, within its limits.
 use limits::Limits;
 use limits::below_or_none;
+use limits::bound_scale;
 use limits::header_scale;
 use limits::instruction_scale;
 use limits::procedure_scale;
@@ -13,6 +14,7 @@ use sheet::bytes::marked;
 use sheet::bytes::whole;
 use sheet::bytes::word;
 use sheet::fetch::fields_whole;
+use sheet::places::is_bounded;
 use sheet::places::qual_at;
 use sheet::places::type_at;
 use sheet::places::variable_at;
@@ -23,7 +25,7 @@ ghost use lib.ListN.{length};
 ghost use Rattle.model.specs.Refusal.{verdict};
 ghost use Rattle.sheet.specs.Bytes.{byteAt, mark};
 ghost use Rattle.limits.specs.Scale.{below-or-none, type-scale};
-ghost use Rattle.form.specs.WellFormed.{record-tests, header-tests, type-tests, qual-tests, head-tests, variable-tests, instruction-tests-at};
+ghost use Rattle.form.specs.WellFormed.{record-tests, header-tests, type-tests, qual-tests, head-tests, bound-tests, variable-tests, instruction-tests-at};
 
 // A record of a size under its mark: 2, 3 or 5, in this order.
 fn record(s: &[u8], at: usize, size: usize, m: u8, n: u8, scale: bool) -> Verdict
@@ -124,11 +126,25 @@ pub fn head_record(s: &[u8], p: usize, pr: u32) -> Verdict
     record(s, at, 8, b'P', b'R', scale)
 }
 
-// VR number x of the procedure at a place.
-pub fn variable_record(s: &[u8], pr: u32, x: u8) -> Verdict
-    ensures { λ r. ⌜ r ≡ verdict (variable-tests (now (s .entry)) pr x) ⌝ }
+// The GN of procedure p, at a place, where one is due.
+pub fn bound_record(s: &[u8], p: usize, pr: u32) -> Verdict
+    ensures { λ r. ⌜ r ≡ verdict (bound-tests (now (s .entry)) p pr) ⌝ }
 {
-    let at = variable_at(pr, x);
+    if is_bounded(s, p, pr) {
+        let at = (pr as usize) + 8;
+        let base = byte(s, at, 2);
+        let named = byte(s, type_at(base), 2);
+        let scale = bound_scale(byte(s, 0, 3), named, base, word(s, at, 3) as u32);
+        return record(s, at, 5, b'G', b'N', scale);
+    }
+    Verdict::Accepted
+}
+
+// VR number x of the procedure at a place, whose VRs start at another.
+pub fn variable_record(s: &[u8], pr: u32, start: u32, x: u8) -> Verdict
+    ensures { λ r. ⌜ r ≡ verdict (variable-tests (now (s .entry)) pr start x) ⌝ }
+{
+    let at = variable_at(start, x);
     let f = byte(s, pr as usize, 3);
     let scale = variable_scale(byte(s, 0, 4), f, x, byte(s, at, 2), byte(s, at, 3));
     record(s, at, 4, b'V', b'R', scale)

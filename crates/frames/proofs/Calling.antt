@@ -11,9 +11,9 @@ use lib.ListN.{length, getD, take, drop}
 use lib.Seq.{drop-cons, getD-take, getD-drop}
 use Rattle.model.specs.Outcome.{Stop, stop-number, blank, memory-full, Res, ok, stop, ensure, _>>=_, _>>_}
 use Rattle.model.specs.Program.{Program}
-use Rattle.model.specs.Modes.{plain, bind, raise, demand}
+use Rattle.model.specs.Modes.{plain, SettledSet, settle-set, bind, raise, demand}
 use Rattle.model.specs.Machine as M
-use Rattle.model.specs.Machine.{Value, Cell, empty, filled, Object, Frame, frame, State, state, Effect, View, view, apply, held, moved, actual, actuals, plan, plan-call}
+use Rattle.model.specs.Machine.{Value, Cell, empty, filled, Object, Frame, frame, State, state, Effect, View, view, apply, held, moved, settle-call, actual, actuals, plan, plan-call}
 use Rattle.model.specs.declared.Operation.the-variants.{Call}
 use Rattle.sheet.specs.Layout.{proceduresOf, formalsAt, variablesAt, procedureAt}
 use Rattle.sheet.specs.Decode.{operationAt}
@@ -53,29 +53,29 @@ abbrev Holds : Cell plain → Type 0
 Holds c = (x : Value) × (c ≡ filled x tt)
 
 module _ (g : Program) (v : View plain) (k b : ℕ) where
-  actual-is : (j : ℕ) (x : Value) → v .variable (b + j) ≡ filled x tt → actual plain g v k b j ≡ ok (v .variable (b + j))
+  actual-is : (j : ℕ) (x : Value) → v .variable (b + j) ≡ filled x tt → actual plain g v k b tt j ≡ ok (v .variable (b + j))
   unfolding actual moved held bind raise _>>=_
   actual-is j x e = rw e
 
-  actual-blank : (j : ℕ) → v .variable (b + j) ≡ empty → actual plain g v k b j ≡ stop blank
+  actual-blank : (j : ℕ) → v .variable (b + j) ≡ empty → actual plain g v k b tt j ≡ stop blank
   unfolding actual moved held bind raise _>>=_
   actual-blank j e = rw e
 
-  actuals-filled : (j n : ℕ) → ((i : ℕ) → j ≤ i → i < j + n → Holds (v .variable (b + i))) → actuals plain g v k b j n ≡ ok (cells-from (v .variable) b j n)
+  actuals-filled : (j n : ℕ) → ((i : ℕ) → j ≤ i → i < j + n → Holds (v .variable (b + i))) → actuals plain g v k b tt j n ≡ ok (cells-from (v .variable) b j n)
   unfolding actuals cells-from _>>=_
   actuals-filled j zero h = refl
   actuals-filled j (suc n) h =
       let x = h j (omega arith) (omega arith) in
       rw (actual-is j (x .0) (x .1), actuals-filled (suc j) n (λ i l m. h i (omega arith) (omega arith)))
 
-  actuals-blank : (j n i : ℕ) → j ≤ i → i < j + n → v .variable (b + i) ≡ empty → actuals plain g v k b j n ≡ stop blank
+  actuals-blank : (j n i : ℕ) → j ≤ i → i < j + n → v .variable (b + i) ≡ empty → actuals plain g v k b tt j n ≡ stop blank
   unfolding actuals _>>=_
   actuals-blank j zero i l m e = absurd (omega arith)
   actuals-blank j (suc n) i l m e = go (v .variable (b + j)) refl (eqb i j) refl (λ d. actuals-blank (suc j) n i (omega arith) (omega arith) e)
     where
       go : (c : Cell plain) → v .variable (b + j) ≡ c → (t : Bool) → eqb i j ≡ t
-          → ((i ≡ j → ⊥) → actuals plain g v k b (suc j) n ≡ stop blank)
-          → actuals plain g v k b j (suc n) ≡ stop blank
+          → ((i ≡ j → ⊥) → actuals plain g v k b tt (suc j) n ≡ stop blank)
+          → actuals plain g v k b tt j (suc n) ≡ stop blank
       go empty q t h ih = rw (actual-blank j q)
       go (filled x r) q true h ih =
           let z : empty ≡ filled x r = sym (rw (eqb-true i j h) at e) ∙ q in
@@ -84,17 +84,17 @@ module _ (g : Program) (v : View plain) (k b : ℕ) where
 
   module _ (a : ℕ) where
     call-full : v .room < g .variables k + 2 → plan plain g v (Call a b k) ≡ stop memory-full
-    unfolding plan plan-call demand ensure _>>=_ _>>_
+    unfolding plan plan-call demand settle-call settle-set ensure _>>=_ _>>_
     call-full h = rw (lt-leb (g .variables k + 2) (v .room) h)
 
     module _ (room : g .variables k + 2 ≤ v .room) where
       call-blank : (i : ℕ) → i < g .formals k → v .variable (b + i) ≡ empty → plan plain g v (Call a b k) ≡ stop blank
-      unfolding plan plan-call demand ensure _>>=_ _>>_
+      unfolding plan plan-call demand settle-call settle-set ensure _>>=_ _>>_
       call-blank i h e = rw (le-leb (g .variables k + 2) (v .room) room, actuals-blank 0 (g .formals k) i (omega arith) (omega arith) e)
 
       call-opens : ((i : ℕ) → i < g .formals k → Holds (v .variable (b + i)))
-          → plan plain g v (Call a b k) ≡ ok (M.call k (cells-from (v .variable) b 0 (g .formals k)))
-      unfolding plan plan-call demand ensure _>>=_ _>>_
+          → plan plain g v (Call a b k) ≡ ok (M.call k tt (cells-from (v .variable) b 0 (g .formals k)))
+      unfolding plan plan-call demand settle-call settle-set ensure _>>=_ _>>_
       call-opens h =
           rw (le-leb (g .variables k + 2) (v .room) room, actuals-filled 0 (g .formals k) (λ i l m. h i (omega arith)))
 
@@ -124,8 +124,8 @@ module _ (s words : List ℕ) (r : Registers) (a b k v f : ℕ) (many : v ≡ va
         cells-there vs b 0 f (omega arith) ∙ rw n
 
     -- the variables that are looked at, in the words that are copied
-    looked-at : {c : Given} {out : List ℕ} {p i : ℕ} {vs : List (Cell plain)} {fs : List (Frame plain)} {os : List (Object plain)} {input put : List ℕ}
-        → Stands plain c words out r p i vs fs os input put
+    looked-at : {c : Given} {out : List ℕ} {p i : ℕ} {z : SettledSet plain} {vs : List (Cell plain)} {fs : List (Frame plain)} {os : List (Object plain)} {input put : List ℕ}
+        → Stands plain c words out r p i z vs fs os input put
         → (j : ℕ) → j < f → slot-in plain (qualOf (c .sheet)) (getD words (r .base + b + j) 0) ≡ cell (getD vs (b + j) empty)
     looked-at {c} S j h =
         let n : r .base + b + j ≡ r .base + (b + j) = omega arith in
@@ -135,8 +135,8 @@ module _ (s words : List ℕ) (r : Registers) (a b k v f : ℕ) (many : v ≡ va
         ap (slot-in plain (qualOf (c .sheet))) word ∙ variable-is S (b + j)
 
     -- n of them copied below the running frame, among words of which nothing is said
-    copied-gap : {c : Given} {out : List ℕ} {p i : ℕ} {vs : List (Cell plain)} {fs : List (Frame plain)} {os : List (Object plain)} {input put : List ℕ}
-        → Stands plain c words out r p i vs fs os input put
+    copied-gap : {c : Given} {out : List ℕ} {p i : ℕ} {z : SettledSet plain} {vs : List (Cell plain)} {fs : List (Frame plain)} {os : List (Object plain)} {input put : List ℕ}
+        → Stands plain c words out r p i z vs fs os input put
         → (words′ : List ℕ) (n : ℕ) → n ≤ f → words′ ≡ copied words (r .base + b) (r .base - (v + 2)) n → GapOnly words words′ r
     copied-gap S words′ n h copy =
         let at = r .base - (v + 2) in
@@ -153,26 +153,26 @@ module _ (s words : List ℕ) (r : Registers) (a b k v f : ℕ) (many : v ≡ va
 
     pub call-of-blank : (words′ : List ℕ) → Copies words words′ (r .base + b) (r .base - (v + 2)) f false
         → (input out : List ℕ) → Performs plain s input words words′ out out r (Halt 13) (Call a b k)
-    call-of-blank words′ C input out c (state (frame p i vs) fs os left put) same from′ S =
-        let t = state (frame p i vs) fs os left put in
+    call-of-blank words′ C input out c (state (frame p i z vs) fs os left put) same from′ S =
+        let t = state (frame p i z vs) fs os left put in
         let j = C .0 in
         stopped c words′ out s r t (gap-kept S words′ (copied-gap S words′ j (omega (arith, C .1)) (C .2))) blank _
         (call-blank (programOf s) (view (length words) (length out) t) k b a (omega (arith, room-is plain c words out r t S)) j (rw formals at (C .1))
         (blank-word plain (qualOf (c .sheet)) (getD words (r .base + b + j) 0) (looked-at S j (C .1)) (C .3)))
 
     module _ (words′ : List ℕ) (C : Copies words words′ (r .base + b) (r .base - (v + 2)) f true) where
-      holds : {c : Given} {out : List ℕ} {p i : ℕ} {vs : List (Cell plain)} {fs : List (Frame plain)} {os : List (Object plain)} {input put : List ℕ}
-          → Stands plain c words out r p i vs fs os input put → (j : ℕ) → j < f → Holds (getD vs (b + j) empty)
+      holds : {c : Given} {out : List ℕ} {p i : ℕ} {z : SettledSet plain} {vs : List (Cell plain)} {fs : List (Frame plain)} {os : List (Object plain)} {input put : List ℕ}
+          → Stands plain c words out r p i z vs fs os input put → (j : ℕ) → j < f → Holds (getD vs (b + j) empty)
       holds {c} S j h =
           let w = getD words (r .base + b + j) 0 in
           ⊎-elim (λ e. (M.word (low w), e)) (λ e. (M.object (payload w), e)) (filled-word plain (qualOf (c .sheet)) w (looked-at S j h) (C .1 j h))
 
-      pub call-goes : (words″ : List ℕ) (q : Registers) (w : ℕ) → Opened plain words′ words″ r q a w v f → operationAt s (place-in r) ≡ Call a b k
+      pub call-goes : (words″ : List ℕ) (q : Registers) (w : ℕ) → Opened plain words′ words″ r q a w 0 v f → operationAt s (place-in r) ≡ Call a b k
           → k < proceduresOf s → ProcedureWord s k w → v ≡ variables-of w
           → (input out : List ℕ) → Performs plain s input words words″ out out r (Enter q) (Call a b k)
       unfolding _>>=_ apply
-      call-goes words″ q w P here known of has input out c (state (frame p i vs) fs os left put) same from′ S =
-          let t = state (frame p i vs) fs os left put in
+      call-goes words″ q w P here known of has input out c (state (frame p i z vs) fs os left put) same from′ S =
+          let t = state (frame p i z vs) fs os left put in
           let at = r .base - (v + 2) in
           let src = r .base + b in
           let copy = C .0 in
@@ -191,4 +191,4 @@ module _ (s words : List ℕ) (r : Registers) (a b k v f : ℕ) (many : v ≡ va
             ← many,
             passed vs (S .variables),
           )
-          (P c k p i vs (take f (drop b vs)) fs os left put out (gap-kept S words′ (copied-gap S words′ f (omega arith) copy)) (kept-here S a b k (rw same here)) (rw same known) (rw same of) has there)
+          (P c k p i z vs (take f (drop b vs)) fs os left put out (gap-kept S words′ (copied-gap S words′ f (omega arith) copy)) (kept-here S a b k (rw same here)) (rw same known) (rw same of) has there)

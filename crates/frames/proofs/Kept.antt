@@ -7,13 +7,13 @@ use mathlib.Core.Option.{none, some}
 use borrow.Author.Tests.{eqb-true, eq-eqb, ne-eqb}
 use lib.Dec.{eqb}
 use Rattle.model.specs.Rules.{optional}
-use Rattle.model.specs.Modes.{Mode}
+use Rattle.model.specs.Modes.{Mode, SettledSet}
 use Rattle.model.specs.Machine.{Cell, Object, Frame, kept}
 use Rattle.model.specs.declared.Operation.{Operation}
 use Rattle.model.specs.declared.Operation.the-variants.{Set, Add, Subtract, Less, JumpZero, Bind, Take, Put, NewArray, Fetch, Store, Size, NewRecord, GetSlot, SetSlot, Call, Return}
-use Rattle.sheet.specs.Layout.{instructionAt, procedureAt}
+use Rattle.sheet.specs.Layout.{variablesAt, startAt, instructionAt, procedureAt}
 use Rattle.sheet.specs.Decode.{operationAt}
-use Rattle.form.proofs.Laws.{instruction-from}
+use Rattle.form.proofs.Laws.{instruction-counted}
 use Rattle.writers.specs.declared.Registers.{Registers}
 use Rattle.writers.specs.Memory.{Given, byte-of, kept-byte, first-in, Stands}
 use Rattle.frames.specs.Fetch.{place-in}
@@ -55,13 +55,14 @@ optional-kept (SetSlot a b k) = refl
 optional-kept (Call a b k) = ap optional (byte-optional a)
 optional-kept (Return a) = refl
 
-module _ {m : Mode} {c : Given} {words out : List ℕ} {r : Registers} {p i : ℕ} {vs : List (Cell m)} {fs : List (Frame m)} {os : List (Object m)}
-    {input put : List ℕ} (S : Stands m c words out r p i vs fs os input put) where
+module _ {m : Mode} {c : Given} {words out : List ℕ} {r : Registers} {p i : ℕ} {z : SettledSet m} {vs : List (Cell m)} {fs : List (Frame m)} {os : List (Object m)}
+    {input put : List ℕ} (S : Stands m c words out r p i z vs fs os input put) where
   -- the registers name the state's next instruction
-  pub place-is : place-in r ≡ instructionAt (c .sheet) (procedureAt (c .sheet) p) i
-  place-is = rw (S .next) (instruction-from (c .sheet) (procedureAt (c .sheet) p) (first-in r) i (S .first))
+  pub place-is : place-in r ≡ instructionAt (c .sheet) p i
+  unfolding instructionAt
+  place-is = rw (S .next) (instruction-counted (startAt (c .sheet) p) (variablesAt (c .sheet) (procedureAt (c .sheet) p)) (first-in r) i (S .first))
 
   -- the variable that it keeps, where it is a call
   pub kept-here : (a b k : ℕ) → operationAt (c .sheet) (place-in r) ≡ Call a b k
-      → a ≡ kept-byte (operationAt (c .sheet) (instructionAt (c .sheet) (procedureAt (c .sheet) p) i))
+      → a ≡ kept-byte (operationAt (c .sheet) (instructionAt (c .sheet) p i))
   kept-here a b k e = sym (byte-optional a) ∙ ap kept-byte (sym e ∙ ap (operationAt (c .sheet)) place-is)

@@ -7,22 +7,22 @@ use mathlib.Core.List.{List, [], _∷_, _++_, map, append-assoc, map-append}
 use lib.ListN.{length, getD, set, take, drop, replicate, length-append, length-map, length-drop, length-replicate, length-set}
 use borrow.Rule.Slice.PartMut.{midOf, putMid, postOf, mid-len, same-len-mid, post-is}
 use lib.Seq.{drop-cons, drop-set-add, set-at, take-set-le, take-append-le, take-take, take-add, drop-append-le, drop-at, drop-drop, length-take-le}
-use Rattle.model.specs.Modes.{Mode}
+use Rattle.model.specs.Modes.{Mode, SettledSet, settled-set}
 use Rattle.model.specs.Qualified.{Qual}
 use Rattle.model.specs.Machine.{Cell, empty, Object, Frame, frame}
-use Rattle.sheet.specs.Layout.{proceduresOf, instructionAt, procedureAt}
+use Rattle.sheet.specs.Layout.{proceduresOf, instructionAt}
 use Rattle.sheet.specs.Decode.{operationAt}
 use Rattle.sheet.specs.Meaning.{qualOf}
-use Rattle.words.specs.Word.{cell, back, procedure, slot-in, variables-of}
+use Rattle.words.specs.Word.{cell, back, slot-in, variables-of}
 use Rattle.index.specs.Indexed.{ProcedureWord}
 use Rattle.words.proofs.Laws.{slot-zero}
 use Rattle.writers.specs.declared.Registers.{Registers}
-use Rattle.writers.specs.Memory.{Given, slots, variables-in, Sane, object-part, Stands, AllSound, kept-byte, back-to, flat-frames}
+use Rattle.writers.specs.Memory.{Given, slots, variables-in, Sane, object-part, Stands, AllSound, kept-byte, back-to, procedure-slot, flat-frames}
 use Rattle.writers.proofs.Change.{map-take, map-drop, map-replicate}
 use Rattle.frames.specs.Frames.{Opened}
 
-module _ {m : Mode} {c : Given} {words out : List ℕ} {r : Registers} {p i : ℕ} {vs : List (Cell m)} {fs : List (Frame m)} {os : List (Object m)}
-    {input put : List ℕ} (S : Stands m c words out r p i vs fs os input put) where
+module _ {m : Mode} {c : Given} {words out : List ℕ} {r : Registers} {p i : ℕ} {z : SettledSet m} {vs : List (Cell m)} {fs : List (Frame m)} {os : List (Object m)}
+    {input put : List ℕ} (S : Stands m c words out r p i z vs fs os input put) where
   -- n of the running frame's variables from b on, in its words
   pub actual-slots : (b n : ℕ) → n ≤ variables-in r - b → slots m c (take n (drop (r .base + b) words)) ≡ map cell (take n (drop b vs))
   actual-slots b zero h = refl
@@ -36,9 +36,9 @@ module _ {m : Mode} {c : Given} {words out : List ℕ} {r : Registers} {p i : �
       map-drop slot (r .base + b) words
       ∙ sym (drop-drop b (r .base) (map slot words))
       ∙ ap (drop b) (S .frames)
-      ∙ drop-append-le b (map cell vs) (flat-frames (c .sheet) fs) (omega arith)
+      ∙ drop-append-le b (map cell vs) (flat-frames (c .sheet) z fs) (omega arith)
       )
-      ∙ take-append-le n (drop b (map cell vs)) (flat-frames (c .sheet) fs) (omega arith)
+      ∙ take-append-le n (drop b (map cell vs)) (flat-frames (c .sheet) z fs) (omega arith)
       ∙ ap (take n) (sym (map-drop cell b vs))
       ∙ sym (map-take cell n (drop b vs))
 
@@ -111,16 +111,16 @@ module _ (words zeros : List ℕ) (at base v f w x : ℕ) (size : at + (v + 2) �
 
 -- ---- and what they stand for
 
-module _ {m : Mode} {c : Given} {words out : List ℕ} {r : Registers} {p i : ℕ} {vs : List (Cell m)} {fs : List (Frame m)} {os : List (Object m)}
-    {input put : List ℕ} (S : Stands m c words out r p i vs fs os input put) (words′ : List ℕ) (a k y at v f w : ℕ) (cs : List (Cell m))
+module _ {m : Mode} {c : Given} {words out : List ℕ} {r : Registers} {p i : ℕ} {z : SettledSet m} {vs : List (Cell m)} {fs : List (Frame m)} {os : List (Object m)}
+    {input put : List ℕ} (S : Stands m c words out r p i z vs fs os input put) (words′ : List ℕ) (a k y : ℕ) (held : SettledSet m) (at v f w : ℕ) (cs : List (Cell m))
     (size : at + (v + 2) ≡ r .base) (room : r .used ≤ at) (few : f ≤ v)
-    (place-is : slot-in m (qualOf (c .sheet)) w ≡ back (r .next + 1) a)
+    (place-is : slot-in m (qualOf (c .sheet)) w ≡ back (r .next + 1) a held)
     (long : length words′ ≡ length words) (before : object-part r words′ ≡ object-part r words)
     (after : drop at words′ ≡ take f (drop at words) ++ (replicate (v - f) 0 ++ (w ∷ (r .procedure ∷ drop (r .base) words))))
     (there : slots m c (take f (drop at words)) ≡ map cell cs)
-    (keeps : a ≡ kept-byte (operationAt (c .sheet) (instructionAt (c .sheet) (procedureAt (c .sheet) p) i)))
+    (keeps : a ≡ kept-byte (operationAt (c .sheet) (instructionAt (c .sheet) p i)))
     (known : k < proceduresOf (c .sheet)) (of : ProcedureWord (c .sheet) k y) (many : v ≡ variables-of y) where
-  waiting-slots : slots m c (drop (r .base) words) ≡ map cell vs ++ flat-frames (c .sheet) fs
+  waiting-slots : slots m c (drop (r .base) words) ≡ map cell vs ++ flat-frames (c .sheet) z fs
   waiting-slots = map-drop (slot-in m (qualOf (c .sheet))) (r .base) words ∙ S .frames
 
   new-long : length (cs ++ replicate (v - f) empty) ≡ v
@@ -130,12 +130,12 @@ module _ {m : Mode} {c : Given} {words out : List ℕ} {r : Registers} {p i : �
       let n : length cs ≡ f = sym (length-map cs cell) ∙ ap length (sym there) ∙ length-map (take f (drop at words)) (slot-in m (qualOf (c .sheet))) ∙ l in
       length-append cs (replicate (v - f) empty) ∙ omega (arith, length-replicate {A = Cell m} (v - f) empty)
 
-  new-slots : drop at (slots m c words′) ≡ map cell (cs ++ replicate (v - f) empty) ++ flat-frames (c .sheet) (frame p (suc i) vs ∷ fs)
+  new-slots : drop at (slots m c words′) ≡ map cell (cs ++ replicate (v - f) empty) ++ flat-frames (c .sheet) held (frame p (suc i) z vs ∷ fs)
   unfolding flat-frames
   new-slots =
-      let here : slot-in m (qualOf (c .sheet)) w ≡ back-to (c .sheet) p (suc i) = place-is ∙ rw (keeps, add-one, S .next) in
-      let more : slot-in m (qualOf (c .sheet)) (r .procedure) ≡ procedure p (length vs) (instructionAt (c .sheet) (procedureAt (c .sheet) p) 0) =
-      S .is-procedure m (qualOf (c .sheet)) ∙ rw (S .procedure, S .variables, S .first) in
+      let here : slot-in m (qualOf (c .sheet)) w ≡ back-to (c .sheet) p (suc i) held = place-is ∙ rw (keeps, add-one, S .next) in
+      let more : slot-in m (qualOf (c .sheet)) (r .procedure) ≡ procedure-slot (c .sheet) p (length vs) =
+      S .is-procedure m (qualOf (c .sheet)) ∙ rw (S .procedure, S .variables, S .first, S .bounded) in
       sym (map-drop (slot-in m (qualOf (c .sheet))) at words′)
       ∙ ap (slots m c) after
       ∙ rw (map-append, map-append, map-append, map-replicate, map-replicate, slot-zero, there, waiting-slots, here, more, append-assoc)
@@ -143,7 +143,7 @@ module _ {m : Mode} {c : Given} {words out : List ℕ} {r : Registers} {p i : �
   stands-opened :
       Stands m c words′ out
       (record { procedure = y; next = 0; base = at; used = r .used; taken = r .taken; put = r .put; steps = r .steps })
-      k 0 (cs ++ replicate (v - f) empty) (frame p (suc i) vs ∷ fs) os input put
+      k 0 held (cs ++ replicate (v - f) empty) (frame p (suc i) z vs ∷ fs) os input put
   unfolding AllSound
   stands-opened =
       let frame-fits = S .sane .frame in
@@ -153,6 +153,7 @@ module _ {m : Mode} {c : Given} {words out : List ℕ} {r : Registers} {p i : �
         procedure = of .number;
         next = refl;
         first = of .first;
+        bounded = of .bounded;
         variables = sym many ∙ sym new-long;
         sane = record { room = room; frame = rw long (omega arith); small = rw long (S .sane .small) };
         running = record { procedure = known; variables = new-long ∙ many ∙ of .variables };
@@ -165,19 +166,19 @@ module _ {m : Mode} {c : Given} {words out : List ℕ} {r : Registers} {p i : �
         put-fits = S .put-fits;
       }
 
-pub opens : (m : Mode) (words zeros : List ℕ) (r : Registers) (a y v f w : ℕ) → Sane (length words) r → v + 2 ≤ r .base - r .used → f ≤ v
+pub opens : (m : Mode) (words zeros : List ℕ) (r : Registers) (a y held v f w : ℕ) → Sane (length words) r → v + 2 ≤ r .base - r .used → f ≤ v
     → zeros ≡ replicate (length (midOf (r .base - (v + 2) + f) (r .base - (v + 2) + v - (r .base - (v + 2) + f)) words)) 0
-    → ((q : ℕ → Qual) → slot-in m q w ≡ back (r .next + 1) a)
+    → ((q : ℕ → Qual) → slot-in m q w ≡ back (r .next + 1) a (settled-set m held))
     → Opened m words (opened words zeros (r .base - (v + 2)) v f w (r .procedure)) r
     (record { procedure = y; next = 0; base = r .base - (v + 2); used = r .used; taken = r .taken; put = r .put; steps = r .steps })
-    a y v f
-opens m words zeros r a y v f w sane room few cleared place-is c k p i vs cs fs os input put out S keeps known of many there =
+    a y held v f
+opens m words zeros r a y held v f w sane room few cleared place-is c k p i z vs cs fs os input put out S keeps known of many there =
     let at = r .base - (v + 2) in
     let x = r .procedure in
     let frame-fits = sane .frame in
     let size : at + (v + 2) ≡ r .base = omega arith in
     let inside : r .base ≤ length words = omega arith in
-    stands-opened S (opened words zeros at v f w x) a k y at v f w cs size (omega arith) few (place-is (qualOf (c .sheet)))
+    stands-opened S (opened words zeros at v f w x) a k y (settled-set m held) at v f w cs size (omega arith) few (place-is (qualOf (c .sheet)))
     (length-opened words zeros at (r .base) v f w x size few inside cleared)
     (opened-before words zeros at (r .base) v f w x size few inside cleared (r .used) (omega arith))
     (opened-at words zeros at (r .base) v f w x size few inside cleared) there keeps known of many

@@ -3,31 +3,34 @@
 use Prim.Native.Nat.{ℕ, zero, suc, _+_, _-_, _<_}
 use native.Mathlib.Omega.{arith}
 use mathlib.Core.Path.{_≡_, refl, sym, ap, subst, _∙_}
+use mathlib.Core.Bool.{Bool, true, false, cond}
 use mathlib.Core.List.{List}
 use lib.Dec.{ltb}
 use lib.ListN.{length, take, drop, length-drop}
 use lib.Seq.{length-take-le}
 use Rattle.model.specs.Outcome.{output-full, Res, ok, stop, stuck, ensure, _>>=_, _>>_}
-use Rattle.model.specs.Modes.{Mode}
+use Rattle.model.specs.Modes.{Mode, SettledSet}
 use Rattle.model.specs.Qualified.{Qual}
 use Rattle.model.specs.Program.{Program}
 use Rattle.model.specs.Machine as M
-use Rattle.model.specs.Machine.{frame, State, state, Next, View, Effect, view, plan, apply, one-integer, branch, first-of}
+use Rattle.model.specs.Machine.{Cell, Object, Frame, frame, State, state, Next, View, Effect, view, plan, apply, one-integer, branch, first-of}
 use Rattle.model.specs.declared.Operation.{Operation}
 use Rattle.model.specs.declared.Operation.the-variants as Op
-use Rattle.sheet.specs.Layout.{proceduresOf, variableAt, instructionAt, procedureAt}
+use Rattle.sheet.specs.Layout.{proceduresOf, isBounded, startFrom, variableAt, instructionFrom, procedureAt, startAt, instructionAt}
 use Rattle.sheet.specs.Meaning.{programOf, qualOf}
-use Rattle.index.specs.Procedures.{place-of}
+use Rattle.index.specs.Procedures.{start-of, place-of}
+use Rattle.index.specs.Indexed.{PlacedWord}
 use Rattle.words.specs.Sees.{Sees}
 use Rattle.words.specs.Answers.{Unless-stuck, number-as}
 use Rattle.words.specs.declared.Number.{Number}
 use Rattle.writers.specs.declared.Registers.{Registers}
 use Rattle.writers.specs.declared.Stepped.{Stepped}
 use Rattle.writers.specs.declared.Stepped.the-variants.{Go, Enter, Halt, Done}
-use Rattle.writers.specs.Memory.{Given, variables-in, Sane, object-part, SeesIn, StandsFor}
+use Rattle.writers.specs.Memory.{Given, variables-in, Sane, object-part, SeesIn, Stands, StandsFor}
 use Rattle.writers.specs.Steps.{After, Does, branched, jumped, put-effect, take-effect}
 use Rattle.writers.proofs.View.{view-sees, free-is, next-input-is}
 use Rattle.frames.specs.Performs.{Performs}
+use Rattle.frames.specs.Frames.{SetIn}
 
 -- ---- what is known unless the definition is stuck
 
@@ -82,17 +85,29 @@ cut-length words r end sane is =
     let n : end - r .base ≡ variables-in r = omega arith in
     rw n (length-take-le (variables-in r) (drop (r .base) words) (rw length-drop (omega arith)))
 
--- the running procedure is one of the sheet's, and the registers have its word
-pub record Running {m : Mode} (s : List ℕ) (r : Registers) (v : View m) : Type 0 where
+-- the word of the running procedure tells where its records stand
+pub placed : {m : Mode} {c : Given} {words out : List ℕ} {r : Registers} {p i : ℕ} {z : SettledSet m} {vs : List (Cell m)} {fs : List (Frame m)} {os : List (Object m)}
+    {input put : List ℕ} → Stands m c words out r p i z vs fs os input put → PlacedWord (c .sheet) p (r .procedure)
+unfolding start-of place-of startAt startFrom instructionAt instructionFrom variableAt
+placed {c = c} {r = r} {p} S =
+    let s = c .sheet in
+    let starts : start-of (r .procedure) ≡ startAt s p = rw (S .first, S .variables, S .running .variables) (omega arith) in
+    record { bounded = S .bounded; start = starts; place = rw (starts, S .bounded) (before (isBounded s p (procedureAt s p))) }
+  where
+    before : {pr : ℕ} (g : Bool) → pr + 8 + cond g 5 0 - cond g 13 8 ≡ pr
+    before true = omega arith
+    before false = omega arith
+
+-- the running procedure is one of the sheet's, the registers have its word, and its frame's set is what is read of the words
+pub record Running {m : Mode} (s words : List ℕ) (r : Registers) (v : View m) : Type 0 where
   pub known : v .procedure < proceduresOf s
-  pub place : place-of (r .procedure) ≡ procedureAt s (v .procedure)
+  pub placed-at : PlacedWord s (v .procedure) (r .procedure)
+  pub set-is : (z : SettledSet m) → SetIn m words r z → z ≡ v .set-held
 
 pub runs : (m : Mode) (c : Given) (s words before : List ℕ) (r : Registers) (t : State m) → c .sheet ≡ s → StandsFor m c words before r t
-    → Running s r (view (length words) (length before) t)
-unfolding place-of instructionAt variableAt
-runs m c s words before r (state (frame p i vs) fs os input put) q S =
-    let at : place-of (r .procedure) ≡ procedureAt (c .sheet) p = rw (S .first, S .variables, S .running .variables) (omega arith) in
-    record { known = rw q at (S .running .procedure); place = rw q at at }
+    → Running s words r (view (length words) (length before) t)
+runs m c s words before r (state (frame p i z vs) fs os input put) q S =
+    record { known = rw q at (S .running .procedure); placed-at = rw q at (placed S); set-is = λ y Z. Z c p i z vs fs os input put before S }
 
 -- what is seen, by the sheet's map of element numbers
 pub sees : (m : Mode) (c : Given) (s words before : List ℕ) (r : Registers) (t : State m) → c .sheet ≡ s → StandsFor m c words before r t
@@ -117,7 +132,7 @@ module _ (m : Mode) (s input words words′ before out : List ℕ) (r : Register
 
     -- a plan that leans on the running procedure, the variables and the objects alone
     pub performs-if-seeing :
-        ((v : View m) → Running s r v → SeesIn m (qualOf s) v words r
+        ((v : View m) → Running s words r v → SeesIn m (qualOf s) v words r
         → Unless-stuck (plan m (programOf s) v op) (Fine × (e (qualOf s) ≡ plan m (programOf s) v op)))
         → Performs m s input words words′ before out r o op
     performs-if-seeing planned =
@@ -125,7 +140,7 @@ module _ (m : Mode) (s input words words′ before out : List ℕ) (r : Register
 
     -- the same, with the variables' part as the code cuts it
     pub performs-if-frame : (end : ℕ) → end ≡ r .base + variables-in r →
-        ((v : View m) → Running s r v → SeesCut m (qualOf s) v words r end
+        ((v : View m) → Running s words r v → SeesCut m (qualOf s) v words r end
         → Unless-stuck (plan m (programOf s) v op) (Fine × (e (qualOf s) ≡ plan m (programOf s) v op)))
         → Performs m s input words words′ before out r o op
     performs-if-frame end is planned = performs-if-seeing (λ v R S. planned v R (sees-cut m (qualOf s) v words r end is S))
@@ -144,14 +159,14 @@ module _ (m : Mode) (s input words words′ before out : List ℕ) (r : Register
         unless-map p (e (qualOf s) ≡ p) (Unit {0} × (e (qualOf s) ≡ p)) (planned c t q i S) (λ w. (tt, w)))
 
     pub performs-seeing :
-        ((v : View m) → Running s r v → SeesIn m (qualOf s) v words r
+        ((v : View m) → Running s words r v → SeesIn m (qualOf s) v words r
         → Unless-stuck (plan m (programOf s) v op) (e (qualOf s) ≡ plan m (programOf s) v op))
         → Performs m s input words words′ before out r o op
     performs-seeing planned =
         performs (λ c t q i S. planned (view (length words) (length before) t) (runs m c s words before r t q S) (sees m c s words before r t q S))
 
     pub performs-frame : (end : ℕ) → end ≡ r .base + variables-in r →
-        ((v : View m) → Running s r v → SeesCut m (qualOf s) v words r end
+        ((v : View m) → Running s words r v → SeesCut m (qualOf s) v words r end
         → Unless-stuck (plan m (programOf s) v op) (e (qualOf s) ≡ plan m (programOf s) v op))
         → Performs m s input words words′ before out r o op
     performs-frame end is planned = performs-seeing (λ v R S. planned v R (sees-cut m (qualOf s) v words r end is S))
@@ -201,7 +216,7 @@ module _ (m : Mode) (s input words words′ before out : List ℕ) (r : Register
       (free-is m c words before r t S))
 
   pub performs-take : ((c : Given) → Does m c words words′ before out r o (take-effect m a (first-of (drop (r .taken) input))))
-      → ((v : View m) → Running s r v → first-of (drop (r .taken) input) ≡ v .next-input
+      → ((v : View m) → Running s words r v → first-of (drop (r .taken) input) ≡ v .next-input
       → Unless-stuck (plan m (programOf s) v (Op.Take a)) (take-effect m a (first-of (drop (r .taken) input)) ≡ plan m (programOf s) v (Op.Take a)))
       → Performs m s input words words′ before out r o (Op.Take a)
   performs-take does planned =

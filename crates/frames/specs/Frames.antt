@@ -4,8 +4,8 @@ use Prim.Native.Nat.{ℕ, suc, pred, _+_, _-_, _<_}
 use mathlib.Core.Path.{_≡_}
 use mathlib.Core.Bool.{Bool, true, false}
 use mathlib.Core.List.{List, _∷_, _++_, map}
-use lib.ListN.{length, getD, take, drop, set, replicate}
-use Rattle.model.specs.Modes.{Mode}
+use lib.ListN.{getD, take, drop, set, replicate}
+use Rattle.model.specs.Modes.{Mode, SettledSet, settled-set}
 use Rattle.model.specs.Machine.{Cell, empty, Object, Frame, frame}
 use Rattle.model.specs.declared.Operation.the-variants.{Call}
 use Rattle.sheet.specs.Layout.{proceduresOf, formalsAt, instructionAt, procedureAt}
@@ -34,33 +34,39 @@ pub record Callable (s : List ℕ) (r : Registers) (a b k : ℕ) : Type 0 where
   pub procedure : k < proceduresOf s
   pub actuals : (j : ℕ) → j < formalsAt s (procedureAt s k) → b + j < variables-in r
 
--- a frame of the procedure of a word was opened below the running one, whose call keeps variable a: it has the f cells whose words stood at its place,
--- and then blank ones
-abbrev pub Opened : (m : Mode) → (words words′ : List ℕ) → (r q : Registers) → (a w v f : ℕ) → Type 0
-Opened m words words′ r q a w v f =
-    (c : Given) (k p i : ℕ) (vs cs : List (Cell m)) (fs : List (Frame m)) (os : List (Object m)) (input put out : List ℕ) →
-    Stands m c words out r p i vs fs os input put →
-    a ≡ kept-byte (operationAt (c .sheet) (instructionAt (c .sheet) (procedureAt (c .sheet) p) i)) →
+-- a frame of the procedure of a word was opened below the running one, whose call keeps variable a: it has a set, the f cells whose words stood at its
+-- place, and then blank ones
+abbrev pub Opened : (m : Mode) → (words words′ : List ℕ) → (r q : Registers) → (a w held v f : ℕ) → Type 0
+Opened m words words′ r q a w held v f =
+    (c : Given) (k p i : ℕ) (z : SettledSet m) (vs cs : List (Cell m)) (fs : List (Frame m)) (os : List (Object m)) (input put out : List ℕ) →
+    Stands m c words out r p i z vs fs os input put →
+    a ≡ kept-byte (operationAt (c .sheet) (instructionAt (c .sheet) p i)) →
     k < proceduresOf (c .sheet) → ProcedureWord (c .sheet) k w → v ≡ variables-of w →
     slots m c (take f (drop (r .base - (v + 2)) words)) ≡ map cell cs →
-    Stands m c words′ out q k 0 (cs ++ replicate (v - f) empty) (frame p (suc i) vs ∷ fs) os input put
+    Stands m c words′ out q k 0 (settled-set m held) (cs ++ replicate (v - f) empty) (frame p (suc i) z vs ∷ fs) os input put
 
 -- b is what the registers r become when the frame that waits runs on
 abbrev pub Waits : (m : Mode) → (words : List ℕ) → (r b : Registers) → Type 0
 Waits m words r b =
-    (c : Given) (p i q k : ℕ) (vs us : List (Cell m)) (fs : List (Frame m)) (os : List (Object m)) (input put out : List ℕ) →
-    Stands m c words out r p i vs (frame q k us ∷ fs) os input put → Stands m c words out b q k us fs os input put
+    (c : Given) (p i q k : ℕ) (z y : SettledSet m) (vs us : List (Cell m)) (fs : List (Frame m)) (os : List (Object m)) (input put out : List ℕ) →
+    Stands m c words out r p i z vs (frame q k y us ∷ fs) os input put → Stands m c words out b q k y us fs os input put
 
 -- a is the variable that its call keeps; 255 is none
 abbrev pub KeptIn : (m : Mode) → (words : List ℕ) → Registers → ℕ → Type 0
 KeptIn m words r a =
-    (c : Given) (p i q k : ℕ) (vs us : List (Cell m)) (fs : List (Frame m)) (os : List (Object m)) (input put out : List ℕ) →
-    Stands m c words out r p i vs (frame q k us ∷ fs) os input put →
-    a ≡ kept-byte (operationAt (c .sheet) (instructionAt (c .sheet) (procedureAt (c .sheet) q) (pred k)))
+    (c : Given) (p i q k : ℕ) (z y : SettledSet m) (vs us : List (Cell m)) (fs : List (Frame m)) (os : List (Object m)) (input put out : List ℕ) →
+    Stands m c words out r p i z vs (frame q k y us ∷ fs) os input put →
+    a ≡ kept-byte (operationAt (c .sheet) (instructionAt (c .sheet) q (pred k)))
+
+-- z is the set of the running frame
+abbrev pub SetIn : (m : Mode) → (words : List ℕ) → Registers → SettledSet m → Type 0
+SetIn m words r z =
+    (c : Given) (p i : ℕ) (y : SettledSet m) (vs : List (Cell m)) (fs : List (Frame m)) (os : List (Object m)) (input put out : List ℕ) →
+    Stands m c words out r p i y vs fs os input put → z ≡ y
 
 -- variable a of the running frame became the cell of a word; its next instruction is the same
 abbrev pub Keeps : (m : Mode) → (words words′ : List ℕ) → Registers → (a w : ℕ) → Type 0
 Keeps m words words′ b a w =
-    (c : Given) (p i : ℕ) (vs : List (Cell m)) (fs : List (Frame m)) (os : List (Object m)) (input put out : List ℕ) (d : Cell m) →
+    (c : Given) (p i : ℕ) (z : SettledSet m) (vs : List (Cell m)) (fs : List (Frame m)) (os : List (Object m)) (input put out : List ℕ) (d : Cell m) →
     slot-in m (qualOf (c .sheet)) w ≡ cell d →
-    Stands m c words out b p i vs fs os input put → Stands m c words′ out b p i (set vs a d) fs os input put
+    Stands m c words out b p i z vs fs os input put → Stands m c words′ out b p i z (set vs a d) fs os input put

@@ -6,6 +6,7 @@ use words::back_next;
 use words::back_word;
 use words::clear;
 use words::formals_in;
+use words::low_of;
 use words::read;
 use words::variables_in;
 use words::write;
@@ -17,12 +18,12 @@ ghost use mathlib.Core.List.{List};
 ghost use Prim.Native.Nat.{ℕ, _+_, _-_, _≤_, _<_};
 ghost use lib.ListN.{length, drop};
 ghost use Rattle.model.specs.Qualified.{Qual};
-ghost use Rattle.model.specs.Modes.{Mode, plain};
+ghost use Rattle.model.specs.Modes.{Mode, plain, watched, settled-set};
 ghost use Rattle.model.specs.declared.Operation.the-variants.{Call, Return};
 ghost use Rattle.words.specs.Word.{back, slot-in};
 ghost use Rattle.writers.specs.Memory.{Sane, variables-in};
 ghost use Rattle.frames.specs.Performs.{Loaded, PerformsInside};
-ghost use Rattle.frames.specs.Frames.{Copies, Callable, Opened, Waits, KeptIn, Keeps};
+ghost use Rattle.frames.specs.Frames.{Copies, Callable, Opened, Waits, KeptIn, SetIn, Keeps};
 
 // The sheet from a procedure's first instruction on; nothing past its end.
 pub fn instructions_of(s: &[u8], first: usize) -> &[u8]
@@ -53,28 +54,28 @@ fn copy_filled(memory: &mut [u64], from: usize, to: usize, n: usize) -> bool
     true
 }
 
-// Where the running frame goes back, which waits behind a call that keeps variable a.
-fn back_of(r: Registers, a: u8) -> u64
+// Where the running frame goes back, which waits behind a call that keeps variable a, for a frame with a set.
+fn back_of(r: Registers, a: u8, set: u32) -> u64
     requires { ⌜ r .next < 1000 ⌝ }
-    ensures { λ w. ⌜ ((m : Mode) (q : ℕ → Qual) → slot-in m q w ≡ back (r .next + 1) a) ⌝ }
+    ensures { λ w. ⌜ ((m : Mode) (q : ℕ → Qual) → slot-in m q w ≡ back (r .next + 1) a (settled-set m set)) ⌝ }
 {
-    back_word((r.next + 1) as u32, a)
+    back_word((r.next + 1) as u32, a, set)
 }
 
-// The frame of the procedure of a word, with v variables: the first f of them stand at its place already, the others are blank. The running frame waits
-// behind a call that keeps variable a; 255 is none.
-pub fn open(memory: &mut [u64], r: Registers, a: u8, w: u64, v: usize, f: u8) -> Registers
+// The frame of the procedure of a word, with a set and v variables: the first f of them stand at its place already, the others are blank. The running frame
+// waits behind a call that keeps variable a; 255 is none. The plain machine's frames have no set: it writes 0.
+pub fn open(memory: &mut [u64], r: Registers, a: u8, w: u64, set: u32, v: usize, f: u8) -> Registers
     requires { ⌜ Sane (length (now memory)) r ⌝ }
     requires { ⌜ r .next < 1000 ⌝ }
     requires { ⌜ (v < 256) × (v + 2 ≤ r .base - r .used) ⌝ }
     requires { ⌜ f ≤ v ⌝ }
-    ensures { λ q. ⌜ ((m : Mode) → Opened m (now (memory .entry)) (now (memory .exit)) r q a w v f) ⌝ }
+    ensures { λ q. ⌜ ((m : Mode) → Opened m (now (memory .entry)) (now (memory .exit)) r q a w set v f) ⌝ }
 {
     let at = r.base - (v + 2);
     let rest = at + (f as usize);
     let end = at + v;
     clear(&mut memory[rest..end]);
-    memory[end] = back_of(r, a);
+    memory[end] = back_of(r, a, set);
     memory[end + 1] = r.procedure;
     Registers {
         procedure: w,
@@ -111,7 +112,7 @@ pub fn call(
         return Stepped::Halt(17);
     }
     if copy_filled(memory, base + (b as usize), base - (v + 2), f as usize) {
-        return Stepped::Enter(open(memory, r, a, w, v, f));
+        return Stepped::Enter(open(memory, r, a, w, 0, v, f));
     }
     Stepped::Halt(13)
 }
@@ -134,6 +135,15 @@ pub fn waiting(memory: &[u64], r: Registers) -> Registers
         put: r.put,
         steps: r.steps,
     }
+}
+
+// The set of the running frame of the watched machine.
+pub fn set_in(memory: &[u64], r: Registers) -> u32
+    requires { ⌜ r .base ≤ 65536 ⌝ }
+    ensures { λ z. ⌜ SetIn watched (now (memory .entry)) r z ⌝ }
+{
+    let end = frame_end(r);
+    low_of(read(memory, end))
 }
 
 // The variable that the call of the frame that waits keeps, where there is one; 255 is none.

@@ -1,15 +1,18 @@
 -- One word of an index filled in: the others stay.
-use Prim.Native.Nat.{ℕ, zero, suc, _+_, _*_, _/_, _%_, _^_, _<_}
+use Prim.Native.Nat.{ℕ, zero, suc, _+_, _-_, _*_, _/_, _%_, _^_, _<_}
 use mathlib.Core.Path.{_≡_, refl, ap, _∙_}
 use mathlib.Core.List.{List}
+use mathlib.Core.Bool.{Bool, true, false, cond}
 use native.Mathlib.Omega.{arith}
+use lib.Dec.{eqb}
 use lib.ListN.{length, getD, set, replicate}
 use lib.Seq.{getD-set-same, getD-set-other}
-use Rattle.sheet.specs.Layout.{formalsAt, variablesAt, variableAt, instructionAt, procedureAt}
-use Rattle.words.specs.Word.{number-of, variables-of, formals-of, first-of, procedure-word}
-use Rattle.words.proofs.Laws.{procedure-is, number-is, variables-is, formals-is, first-is}
-use Rattle.index.specs.Indexed.{ProcedureWord}
-use Rattle.index.specs.Procedures.{place-of}
+use Rattle.sheet.specs.Layout.{baseOf, rightsOf, elementOf, formalsAt, variablesAt, isBounded, startFrom, variableAt, instructionFrom, procedureAt, startAt, instructionAt}
+use Rattle.words.specs.Word.{number-of, variables-of, formals-of, bounded-of, first-of, procedure-word}
+use Rattle.words.proofs.Laws.{procedure-is, number-is, variables-is, formals-is, bounded-is, first-is}
+use Rattle.index.specs.Types.{rights-of, shape-of, element-of}
+use Rattle.index.specs.Indexed.{TypeWord, ProcedureWord}
+use Rattle.index.specs.Procedures.{start-of, place-of}
 use borrow.Author.Count.{below-more}
 
 -- the words at the places of the numbers below i have a property, and one more has it
@@ -24,32 +27,73 @@ filled-more P place i w l h apart p before =
 pub other-kept : (l old : List ℕ) (i w k : ℕ) → (k ≡ i → ⊥) → getD l k 0 ≡ getD old k 0 → getD (set l i w) k 0 ≡ getD old k 0
 other-kept l old i w k n e = getD-set-other l i k w 0 n ∙ e
 
--- the byte above the low 40 bits
-pub high-byte : (x e : ℕ) → x < 2 ^ 40 → e < 2 ^ 8 → (x + 1099511627776 * e) / 2 ^ 40 % 2 ^ 8 ≡ e
-high-byte x e h k = omega arith
+-- the three parts of a type's word do not overlap
+pub below-element : (b r : ℕ) → b < 2 ^ 8 → r < 2 ^ 16 → cond (eqb b 255) (511 * 2 ^ 32) (b * 2 ^ 32 + r) < 2 ^ 41
+below-element b r h k = go (eqb b 255)
+  where
+    go : (u : Bool) → cond u (511 * 2 ^ 32) (b * 2 ^ 32 + r) < 2 ^ 41
+    go true = omega arith
+    go false = omega arith
+
+module _ (b r e : ℕ) (h : b < 2 ^ 8) (k : r < 2 ^ 16) (l : e < 2 ^ 8) where
+  part-shape : (u : Bool) → (cond u (511 * 2 ^ 32) (b * 2 ^ 32 + r) + 2199023255552 * e) / 2 ^ 32 % 2 ^ 9 ≡ cond u 511 b
+  part-shape true = omega arith
+  part-shape false = omega arith
+
+  part-rights : (u : Bool) → (cond u (511 * 2 ^ 32) (b * 2 ^ 32 + r) + 2199023255552 * e) % 2 ^ 32 ≡ cond u 0 r
+  part-rights true = omega arith
+  part-rights false = omega arith
+
+  part-element : (u : Bool) → (cond u (511 * 2 ^ 32) (b * 2 ^ 32 + r) + 2199023255552 * e) / 2 ^ 41 % 2 ^ 8 ≡ e
+  part-element true = omega arith
+  part-element false = omega arith
+
+  -- a word packed from what QT j says
+  pub type-entry : (s : List ℕ) (j x : ℕ) → b ≡ baseOf s j → r ≡ rightsOf s j → e ≡ elementOf s j
+      → x ≡ cond (eqb b 255) (511 * 2 ^ 32) (b * 2 ^ 32 + r) → TypeWord s j (x + 2199023255552 * e)
+  unfolding shape-of rights-of element-of
+  type-entry s j x base rights element is =
+      record {
+        small = rw (← base) (omega arith);
+        shape = rw (is, ← base) (part-shape (eqb b 255));
+        rights = rw (is, ← base, ← rights) (part-rights (eqb b 255));
+        element = rw (is, ← element) (part-element (eqb b 255));
+      }
 
 -- the word of no variables for a place
-pub end-place : (at : ℕ) → at < 2 ^ 31 → place-of (procedure-word 0 0 0 (at + 8)) ≡ at
-unfolding place-of
+pub end-place : (at : ℕ) → at < 2 ^ 31 → place-of (procedure-word 0 0 0 false (at + 8)) ≡ at
+unfolding place-of start-of
 end-place at h =
-    rw (variables-is 0 0 0 (at + 8) (omega arith) (omega arith) (omega arith) (omega arith), first-is 0 0 0 (at + 8) (omega arith) (omega arith) (omega arith) (omega arith))
+    let few : 0 < 2 ^ 6 = omega arith in
+    let none : 0 < 2 ^ 8 = omega arith in
+    let near : at + 8 < 2 ^ 32 = omega arith in
+    rw (variables-is 0 0 0 false (at + 8) few none none near, bounded-is 0 0 0 false (at + 8) few none none near, first-is 0 0 0 false (at + 8) few none none near)
     (omega arith)
 
+-- a place before what stands between it and the VRs
+before-start : (at : ℕ) (g : Bool) → at + 8 + cond g 5 0 - cond g 13 8 ≡ at
+before-start at true = omega arith
+before-start at false = omega arith
+
 -- a word packed from what the PR of procedure k says
-pub entry : (s : List ℕ) (k v f i w : ℕ) → k < 2 ^ 6 → v < 2 ^ 8 → f < 2 ^ 8 → i < 2 ^ 32
-    → v ≡ variablesAt s (procedureAt s k) → f ≡ formalsAt s (procedureAt s k) → i ≡ instructionAt s (procedureAt s k) 0
-    → w ≡ procedure-word k v f i → ProcedureWord s k w
-unfolding place-of instructionAt variableAt
-entry s k v f i w small few fewer near variables formals first is =
-    let has : variables-of w ≡ v = ap variables-of is ∙ variables-is k v f i small few fewer near in
-    let starts : first-of w ≡ i = ap first-of is ∙ first-is k v f i small few fewer near in
+pub entry : (s : List ℕ) (k v f : ℕ) (g : Bool) (i w : ℕ) → k < 2 ^ 6 → v < 2 ^ 8 → f < 2 ^ 8 → i < 2 ^ 32
+    → v ≡ variablesAt s (procedureAt s k) → f ≡ formalsAt s (procedureAt s k) → g ≡ isBounded s k (procedureAt s k) → i ≡ instructionAt s k 0
+    → w ≡ procedure-word k v f g i → ProcedureWord s k w
+unfolding place-of start-of instructionAt instructionFrom variableAt startAt startFrom
+entry s k v f g i w small few fewer near variables formals bounded first is =
+    let has : variables-of w ≡ v = ap variables-of is ∙ variables-is k v f g i small few fewer near in
+    let starts : first-of w ≡ i = ap first-of is ∙ first-is k v f g i small few fewer near in
+    let bounds : bounded-of w ≡ g = ap bounded-of is ∙ bounded-is k v f g i small few fewer near in
+    let begins : start-of w ≡ startAt s k = rw (starts, has) (omega arith) in
     record {
-      is-procedure = rw is (procedure-is k v f i small few fewer near);
-      number = ap number-of is ∙ number-is k v f i small few fewer near;
-      formals = ap formals-of is ∙ formals-is k v f i small few fewer near ∙ formals;
+      is-procedure = rw is (procedure-is k v f g i small few fewer near);
+      number = ap number-of is ∙ number-is k v f g i small few fewer near;
+      formals = ap formals-of is ∙ formals-is k v f g i small few fewer near ∙ formals;
       variables = has ∙ variables;
+      bounded = bounds ∙ bounded;
       first = starts ∙ first;
-      place = rw (starts, has) (omega arith);
+      start = begins;
+      place = rw (begins, bounds, bounded) (before-start (procedureAt s k) (isBounded s k (procedureAt s k)));
     }
 
 -- an index before it is filled

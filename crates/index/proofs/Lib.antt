@@ -1,3 +1,5 @@
 pub mod Trees
+pub mod Reading
+pub mod Bounds
 pub mod Filling
 pub mod Ready

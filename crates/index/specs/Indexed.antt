@@ -2,18 +2,27 @@
 use Prim.Native.Nat.{ℕ, _≤_, _<_}
 use mathlib.Core.Path.{_≡_}
 use mathlib.Core.List.{List}
+use mathlib.Core.Bool.{cond}
+use lib.Dec.{eqb}
 use lib.ListN.{length, getD}
-use Rattle.sheet.specs.Layout.{qualsOf, baseOf, rightsOf, elementOf, proceduresOf, formalsAt, variablesAt, instructionAt, procedureAt}
+use Rattle.sheet.specs.Layout.{qualsOf, baseOf, rightsOf, elementOf, proceduresOf, formalsAt, variablesAt, isBounded, procedureAt, startAt, instructionAt}
 use Rattle.sheet.specs.Meaning.{qualOf}
-use Rattle.index.specs.Types.{rights-of, base-of, element-of, qualIn}
-use Rattle.index.specs.Procedures.{procedure-in, place-of}
-use Rattle.words.specs.Word.{number-of, variables-of, formals-of, first-of, IsProcedure}
+use Rattle.index.specs.Types.{rights-of, shape-of, element-of, qualIn}
+use Rattle.index.specs.Procedures.{procedure-in, start-of, place-of}
+use Rattle.words.specs.Word.{number-of, variables-of, formals-of, bounded-of, first-of, IsProcedure}
 
--- the word of QT j
+-- the word of QT j, whose base is a byte; 255 is ?R, which has no rights of its own
 pub record TypeWord (s : List ℕ) (j w : ℕ) : Type 0 where
-  pub base : base-of w ≡ baseOf s j
-  pub rights : rights-of w ≡ rightsOf s j
+  pub small : baseOf s j < 256
+  pub shape : shape-of w ≡ cond (eqb (baseOf s j) 255) 511 (baseOf s j)
+  pub rights : rights-of w ≡ cond (eqb (baseOf s j) 255) 0 (rightsOf s j)
   pub element : element-of w ≡ elementOf s j
+
+-- a word that tells where the records of procedure k stand
+pub record PlacedWord (s : List ℕ) (k w : ℕ) : Type 0 where
+  pub bounded : bounded-of w ≡ isBounded s k (procedureAt s k)
+  pub start : start-of w ≡ startAt s k
+  pub place : place-of w ≡ procedureAt s k
 
 -- the word of procedure k
 pub record ProcedureWord (s : List ℕ) (k w : ℕ) : Type 0 where
@@ -21,7 +30,9 @@ pub record ProcedureWord (s : List ℕ) (k w : ℕ) : Type 0 where
   pub number : number-of w ≡ k
   pub formals : formals-of w ≡ formalsAt s (procedureAt s k)
   pub variables : variables-of w ≡ variablesAt s (procedureAt s k)
-  pub first : first-of w ≡ instructionAt s (procedureAt s k) 0
+  pub bounded : bounded-of w ≡ isBounded s k (procedureAt s k)
+  pub first : first-of w ≡ instructionAt s k 0
+  pub start : start-of w ≡ startAt s k
   pub place : place-of w ≡ procedureAt s k
 
 -- the words of the types that a sheet has were filled in, and no other changed

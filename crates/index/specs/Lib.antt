@@ -1,3 +1,4 @@
 pub mod Types
 pub mod Procedures
 pub mod Indexed
+pub mod Scope

@@ -2,11 +2,15 @@
 use crate::Index;
 use sheet::bytes::byte;
 use sheet::bytes::word;
-use sheet::places::instruction_at;
+use sheet::places::instruction_from;
+use sheet::places::is_bounded;
 use sheet::places::qual_at;
+use sheet::places::start_from;
 use words::procedure_word;
 ghost use mathlib.Core.Path.{_≡_};
-ghost use Prim.Native.Nat.{_<_, _^_};
+ghost use Prim.Native.Nat.{suc, _+_, _*_, _<_, _^_};
+ghost use mathlib.Core.Bool.{cond};
+ghost use lib.Dec.{eqb};
 ghost use lib.ListN.{length};
 ghost use Rattle.sheet.specs.Layout.{procedureAt};
 ghost use Rattle.index.specs.Indexed.{TypeWord, ProcedureWord, TypesFilled, ProceduresFilled, Indexed};
@@ -16,10 +20,19 @@ fn type_entry(s: &[u8], j: u8) -> u64
     ensures { λ w. ⌜ TypeWord (now (s .entry)) j w ⌝ }
 {
     let at = qual_at(s, j);
-    let rights = word(s, at, 3) as u64;
-    let base = byte(s, at, 2) as u64;
+    let base = byte(s, at, 2);
     let element = byte(s, at, 5) as u64;
-    rights + 4294967296 * base + 1099511627776 * element
+    shape_and_rights(base, word(s, at, 3)) + 2199023255552 * element
+}
+
+// A base as a shape, with rights: 255 is ?R, which has none.
+fn shape_and_rights(base: u8, rights: u16) -> u64
+    ensures { λ w. ⌜ w ≡ cond (eqb base 255) (511 * 2 ^ 32) (base * 2 ^ 32 + rights) ⌝ }
+{
+    if base == 255 {
+        return 2194728288256;
+    }
+    (base as u64) * 4294967296 + (rights as u64)
 }
 
 fn fill_types(s: &[u8], index: &mut Index)
@@ -41,8 +54,23 @@ fn procedure_entry(s: &[u8], k: usize, pr: u32) -> u64
 {
     let variables = byte(s, pr as usize, 4);
     let formals = byte(s, pr as usize, 3);
-    let first = instruction_at(s, pr, 0) as u32;
-    procedure_word(k as u8, variables, formals, first)
+    let bounded = is_bounded(s, k, pr);
+    let first = instruction_from(start_from(s, k, pr) as u32, variables, 0) as u32;
+    procedure_word(k as u8, variables, formals, bounded, first)
+}
+
+// Where the next procedure starts.
+fn next_from(s: &[u8], k: usize, pr: u32) -> u32
+    requires { ⌜ pr < 2 ^ 31 ⌝ }
+    ensures { λ r. ⌜ (pr ≡ procedureAt (now (s .entry)) k → r ≡ procedureAt (now (s .entry)) (suc k)) ⌝ }
+    ensures { λ r. ⌜ r < pr + 700000 ⌝ }
+{
+    let variables = byte(s, pr as usize, 4);
+    instruction_from(
+        start_from(s, k, pr) as u32,
+        variables,
+        word(s, pr as usize, 6),
+    ) as u32
 }
 
 // After the last procedure there is, for its end, a word of no variables.
@@ -55,10 +83,10 @@ fn fill_procedures(s: &[u8], index: &mut Index)
     let mut i = 0;
     while (i < p) & (i < 64) {
         index[64 + i] = procedure_entry(s, i, at);
-        at = instruction_at(s, at, word(s, at as usize, 6)) as u32;
+        at = next_from(s, i, at);
         i += 1;
     }
-    index[64 + i] = procedure_word(0, 0, 0, at + 8);
+    index[64 + i] = procedure_word(0, 0, 0, false, at + 8);
 }
 
 pub fn indexed(s: &[u8]) -> Index

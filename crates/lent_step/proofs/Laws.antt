@@ -27,19 +27,20 @@ module _ (m : Mode) (c : Given) (words out : List ℕ) (r : Registers) where
       → performed (c .sheet) t (plan m (programOf (c .sheet)) (view (length words) (length out) t) (operationAt (c .sheet) (place-in r)))
       ≡ step (programOf (c .sheet)) (length words) (length out) t
   unfolding step
-  same-step (state (frame p i vs) fs os input put) S =
+  same-step (state (frame p i z vs) fs os input put) S =
       rw (place-is S)
 
 -- ---- what is counted
 
 -- the count is no part of the state
 pub counted-stands : (m : Mode) (c : Given) (words out : List ℕ) (r q : Registers) (t : State m) → StandsFor m c words out q t → StandsFor m c words out (counted r q) t
-counted-stands m c words out r q (state (frame p i vs) fs os input put) S =
+counted-stands m c words out r q (state (frame p i z vs) fs os input put) S =
     record {
       is-procedure = S .is-procedure;
       procedure = S .procedure;
       next = S .next;
       first = S .first;
+      bounded = S .bounded;
       variables = S .variables;
       sane = record { room = S .sane .room; frame = S .sane .frame; small = S .sane .small };
       running = S .running;

@@ -1,11 +1,12 @@
--- Document 01, "Bytes of a worksheet" and "Instructions": the limits of each record's fields, as rules on plain numbers. 5 where one is exceeded.
+-- Document 01, "Bytes of a worksheet" and "Instructions", and document 02, S-1: the limits of each record's fields, as rules on plain numbers. 5 where one is
+-- exceeded.
 -- t, q and p are the header's counts of types, qualified types and procedures.
 use Prim.Native.Nat.{ℕ, zero, suc, _+_}
 use mathlib.Core.List.{List, [], _∷_, _++_}
 use mathlib.Core.Bool.{Bool, true, false, not, _&&_, _||_, cond}
 use mathlib.Core.Option.{Option, none, some}
 use lib.Dec.{ltb, leb, eqb}
-use Rattle.model.specs.Rights.{within, none-above, array-rights}
+use Rattle.model.specs.Rights.{within, has, none-above, open-right, array-rights}
 use Rattle.model.specs.Refusal.{all}
 use Rattle.sheet.specs.Instructions.{Operand, variable, variable-or-none, first-actual, unused, Constant, any-number, instruction-number, slot-number, procedure-number, no-number, Home, anywhere, owned, Line, line, line-of}
 use Rattle.sheet.specs.declared.decode.Fields.{Fields}
@@ -33,10 +34,12 @@ unfoldable pub rights-scale : (named base rights : ℕ) → Bool
 rights-scale named base rights =
     cond (eqb base 0) (eqb rights 0) (cond (eqb base 1) (within rights array-rights) (none-above named rights))
 
--- QT number j: "base below t+2, rights, element byte. Element: for a tray, a QT number below its own; else 255."
+-- QT number j: "base below t+2, rights, element byte. Element: for a tray, a QT number below its own; else 255."; S-1: "A QT of base 255, rights 0,
+-- element 255 stands for ?R"
 unfoldable pub qual-scale : (t named j base rights element : ℕ) → Bool
 qual-scale t named j base rights element =
-    all (ltb base (t + 2) ∷ rights-scale named base rights ∷ below-or-none j (eqb base 1) element ∷ [])
+    cond (eqb base 255) (eqb rights 0 && eqb element 255)
+    (all (ltb base (t + 2) ∷ rights-scale named base rights ∷ below-or-none j (eqb base 1) element ∷ []))
 
 -- PR number i: "owner (0 none, or 2..t+1), formals f 0..8, variables v f..32, result (QT number or 255 none), instructions n 1..1000.
 -- Procedure 0 is main: owner 0, f 0, result 255."
@@ -52,6 +55,10 @@ procedure-scale t q i owner f v result n =
     leb n 1000 ∷
     (not (eqb i 0) || (eqb owner 0 && eqb f 0 && eqb result 255)) ∷
     [])
+
+-- GN: "base (a declared type), least set (2 bytes, named rights)"; `named` is that type's n, and open is no named right
+unfoldable pub bound-scale : (t named base least : ℕ) → Bool
+bound-scale t named base least = all (leb 2 base ∷ ltb base (t + 2) ∷ none-above named least ∷ not (has open-right least) ∷ [])
 
 -- VR number x of a procedure with f formals: "inner QT, need QT (255 unless a formal). Formals come first."
 unfoldable pub variable-scale : (q f x inner need : ℕ) → Bool

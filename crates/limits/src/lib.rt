@@ -1,11 +1,12 @@
 // The limits of each record's fields, as tests on plain numbers. They are branch-free, so that each is its definition read aloud.
 use rights::has_none_above;
+use rights::has_right;
 use rights::is_within;
 use sheet::decode::Fields;
 ghost use mathlib.Core.Path.{_≡_};
 ghost use mathlib.Core.Bool.{cond};
 ghost use Rattle.sheet.specs.Instructions.{line-of};
-ghost use Rattle.limits.specs.Scale.{below-or-none, header-scale, rights-scale, qual-scale, procedure-scale, variable-scale, line-scale, instruction-scale, actuals-scale};
+ghost use Rattle.limits.specs.Scale.{below-or-none, header-scale, rights-scale, qual-scale, bound-scale, procedure-scale, variable-scale, line-scale, instruction-scale, actuals-scale};
 
 pub fn pick(t: bool, a: bool, b: bool) -> bool
     ensures { λ r. ⌜ r ≡ cond t a b ⌝ }
@@ -40,9 +41,19 @@ fn rights_scale(named: u8, base: u8, rights: u32) -> bool
 pub fn qual_scale(t: u8, named: u8, j: u8, base: u8, rights: u32, element: u8) -> bool
     ensures { λ r. ⌜ r ≡ qual-scale t named j base rights element ⌝ }
 {
-    ((base as u16) < (t as u16) + 2)
+    let known = ((base as u16) < (t as u16) + 2)
         & rights_scale(named, base, rights)
-        & below_or_none(j, base == 1, element)
+        & below_or_none(j, base == 1, element);
+    pick(base == 255, (rights == 0) & (element == 255), known)
+}
+
+pub fn bound_scale(t: u8, named: u8, base: u8, least: u32) -> bool
+    ensures { λ r. ⌜ r ≡ bound-scale t named base least ⌝ }
+{
+    (2 <= base)
+        & ((base as u16) < (t as u16) + 2)
+        & has_none_above(named, least)
+        & !has_right(0, least)
 }
 
 pub fn procedure_scale(t: u8, q: u8, i: usize, owner: u8, f: u8, v: u8, result: u8, n: u16) -> bool

@@ -3,20 +3,23 @@
 use Prim.Native.Nat.{ℕ}
 use mathlib.Core.Path.{_≡_, refl, ap, subst, _∙_}
 use mathlib.Core.Bool.{Bool, true, false, false≢true, _&&_}
+use mathlib.Core.List.{List}
 use mathlib.Core.Option.{Option, none, some}
-use lib.Dec.{eqb}
 use borrow.Author.Tests.{eq-eqb}
 use Rattle.model.specs.Rights.{Rights, within, has}
-use Rattle.model.specs.Qualified.{Qual, base, rights, element, isInteger, isArray}
+use Rattle.model.specs.Qualified.{Qual, rights, element, isInteger, isArray}
+use Rattle.model.specs.Generic.{Bound, read, settled, is-settled, is-enough}
+use Rattle.model.specs.Rules.{amplifies}
 use Rattle.model.specs.Program.{Program}
 use Rattle.model.proofs.Rights.{within-refl}
 use Rattle.model.proofs.Order.{same-sound}
 use Rattle.model.specs.Outcome.{Stop, Res, ok, stop, _>>=_, _>>_, ensure, found}
-use Rattle.model.specs.Modes.{plain, watched, Kind, demand, licence, is-of, fits, bind, bind-element, bind-result, is-record-of, raise-if, raise}
+use Rattle.model.specs.Modes.{plain, watched, Kind, demand, licence, is-of, fits, bind, bind-element, bind-result, settle-set, is-record-of, raise-if, raise}
 use Rattle.model.specs.Machine.{Value, word, object, Cell, Head, array-head, record-head, kind-of-head, kind-at, View, held, as-integer, array-head-of, record-head-of, array-at, record-at, slot-there}
 use Rattle.model.specs.Claim.{Regular-stop}
-use Rattle.model.proofs.Allowed.{Moves, Owned, Raised, amplified, unchanged}
-use Rattle.model.proofs.Fits.{fits-move, owned-alike, not-object, array-element, array-not-integer, array-not-record, owned-type, owned-not-integer, owned-not-array, owned-record}
+use Rattle.model.proofs.Read.{Moves}
+use Rattle.model.proofs.Allowed.{Owned, Raised, amplified, unchanged}
+use Rattle.model.proofs.Fits.{fits-move, amplified-owned, amplified-alike, not-object, array-element, array-not-integer, array-not-record, owned-type, owned-not-integer, owned-not-array, owned-record}
 use Rattle.model.proofs.Relate.{Fit, fit, Granted, granted, CellRel, blanks, values}
 use Rattle.model.proofs.Table.{Seen, array-seen, record-seen, none-seen}
 
@@ -30,56 +33,55 @@ fit-move {h} {s} {q} {v} (fit f) m = fit (fits-move s q (kind-at h v) f (m .kind
 
 -- ---- Binding
 
--- the watched machine's two tests pass
+-- the watched machine's two tests pass; the plain machine asks no type
 pub bind-ok :
-    (q : Qual) (k : Kind watched) (r : Rights) (k′ : Kind plain) → fits q k ≡ true → within (rights q) r ≡ true →
-    Agree (Granted q) (bind watched q k r) (bind plain q k′ tt)
+    (q q′ : Qual) (k : Kind watched) (r : Rights) (k′ : Kind plain) → fits q k ≡ true → within (rights q) r ≡ true →
+    Agree (Granted q) (bind watched q k r) (bind plain q′ k′ tt)
 unfolding bind ensure _>>_
-bind-ok q k r k′ f w = rw (f, w) (both granted)
+bind-ok q q′ k r k′ f w = rw (f, w) (both granted)
 
 -- into a cell of an array: the object's own element declares it
 pub element-ok :
     (e : Qual) (k : Kind watched) (r : Rights) (k′ : Kind plain) → fits e k ≡ true → within (rights e) r ≡ true →
     Agree (Granted e) (bind-element watched e k r) (bind-element plain tt k′ tt)
 unfolding bind-element bind
-element-ok e k r k′ f w = bind-ok e k r k′ f w
+element-ok e k r k′ f w = bind-ok e e k r k′ f w
 
 pub result-ok :
-    (q : Qual) (k : Kind watched) (r : Rights) (k′ : Kind plain) → fits q k ≡ true → within (rights q) r ≡ true →
-    Agree (Granted q) (bind-result watched (some q) k r) (bind-result plain (some q) k′ tt)
+    (q : Qual) (q′ : Option Qual) (k : Kind watched) (r : Rights) (k′ : Kind plain) → fits q k ≡ true → within (rights q) r ≡ true →
+    Agree (Granted q) (bind-result watched (some q) k r) (bind-result plain q′ k′ tt)
 unfolding bind-result bind
-result-ok q k r k′ f w = bind-ok q k r k′ f w
+result-ok q q′ k r k′ f w = bind-ok q q k r k′ f w
 
--- a value of need's type goes on to inner: raised where the owner is the value's and inner's type, else need and inner are equal
+-- a value of need's type goes on to inner: raised where the owner is the value's and inner's type, else need and inner are equal; q is what inner is read as
 raise-to :
-    (o : ℕ) (inner : Qual) (k : Kind watched) (r : Rights) (k′ : Kind plain) → is-record-of o k && eqb (base inner) o ≡ true →
-    Agree (Granted inner) (raise watched o inner k r) (raise plain o inner k′ tt)
+    (o : ℕ) (inner q q′ : Qual) (k : Kind watched) (r : Rights) (k′ : Kind plain) → is-record-of o k && amplifies o inner ≡ true →
+    Agree (Granted q) (raise watched o inner q k r) (raise plain o inner q′ k′ tt)
 unfolding raise raise-if
-raise-to o inner k r k′ e = rw e (both granted)
+raise-to o inner q q′ k r k′ e = rw e (both granted)
 
 raise-same :
-    (o : ℕ) (inner : Qual) (k : Kind watched) (k′ : Kind plain) → fits inner k ≡ true →
-    Agree (Granted inner) (raise watched o inner k (rights inner)) (raise plain o inner k′ tt)
+    (o : ℕ) (inner q q′ : Qual) (k : Kind watched) (k′ : Kind plain) → fits q k ≡ true →
+    Agree (Granted q) (raise watched o inner q k (rights q)) (raise plain o inner q′ k′ tt)
 unfolding raise raise-if
-raise-same o inner k k′ f = go (is-record-of o k && eqb (base inner) o)
+raise-same o inner q q′ k k′ f = go (is-record-of o k && amplifies o inner)
   where
-    go : (b : Bool) → Agree (Granted inner) (raise-if b inner k (rights inner)) (ok tt)
+    go : (b : Bool) → Agree (Granted q) (raise-if b q k (rights q)) (ok tt)
     go true = both granted
-    go false = unfold bind in (bind-ok inner k (rights inner) k′ f (within-refl (rights inner)))
-
-raise-owned : (o : ℕ) (need inner : Qual) (k : Kind watched) → Owned o need → Owned o inner → fits need k ≡ true → is-record-of o k && eqb (base inner) o ≡ true
-raise-owned o need inner k n i f = rw (owned-record o need k n f, eq-eqb (base inner) o (i .base-is))
+    go false = unfold bind in (bind-ok q q k (rights q) k′ f (within-refl (rights q)))
 
 pub raise-ok :
-    {o : ℕ} {need inner : Qual} (k : Kind watched) (k′ : Kind plain) → Raised o need inner → fits need k ≡ true →
-    Agree (Granted inner) (raise watched o inner k (rights need)) (raise plain o inner k′ tt)
-raise-ok {o} {need} {inner} k k′ (amplified n i) f = raise-to o inner k (rights need) k′ (raise-owned o need inner k n i f)
-raise-ok {o} {need} {inner} k k′ (unchanged e) f = rw e (raise-same o inner k k′ (rw e at f))
+    {o : ℕ} {need inner : Qual} (ρ q′ : Qual) (k : Kind watched) (k′ : Kind plain) → Raised o need inner → fits (read ρ need) k ≡ true →
+    Agree (Granted (read ρ inner)) (raise watched o inner (read ρ inner) k (rights (read ρ need))) (raise plain o inner q′ k′ tt)
+raise-ok {o} {need} {inner} ρ q′ k k′ (amplified n i) f =
+    raise-to o inner (read ρ inner) q′ k (rights (read ρ need)) k′ (rw (owned-record o (read ρ need) k (amplified-owned ρ o need n) f) i)
+raise-ok {o} {need} {inner} ρ q′ k k′ (unchanged e) f = rw e (raise-same o inner (read ρ inner) q′ k k′ (rw e at f))
 
 -- the value fits inner too
-pub raise-fit : {h : ℕ → Head watched} {o : ℕ} {need inner : Qual} {v : Value} → Raised o need inner → Fit h need v → Fit h inner v
-raise-fit {h} {o} {need} {inner} {v} (amplified n i) (fit f) = fit (fits-move need inner (kind-at h v) f (owned-alike o need inner n i))
-raise-fit (unchanged e) w = rw e at w
+pub raise-fit : {h : ℕ → Head watched} {o : ℕ} {need inner : Qual} {v : Value} (ρ : Qual) → Raised o need inner → Fit h (read ρ need) v → Fit h (read ρ inner) v
+raise-fit {h} {o} {need} {inner} {v} ρ (amplified n i) (fit f) =
+    fit (fits-move (read ρ need) (read ρ inner) (kind-at h v) f (amplified-alike ρ o need inner n i))
+raise-fit ρ (unchanged e) w = rw e at w
 
 -- ---- Continuations
 
@@ -121,13 +123,20 @@ module _ {A B : Type 0} {Q : A → B → Type 0} where
   with-found s c (some y) k = k y
 
   -- a test that only the watched machine makes, and passes
-  pub with-demand : {b : Bool} {r : Res A} {r′ : Res B} → b ≡ true → Agree Q r r′ → Agree Q (demand watched b >> r) (demand plain b >> r′)
+  pub with-demand : (b b′ : Bool) {r : Res A} {r′ : Res B} → b ≡ true → Agree Q r r′ → Agree Q (demand watched b >> r) (demand plain b′ >> r′)
   unfolding ensure demand _>>_
-  with-demand e k = rw e k
+  with-demand b b′ e k = rw e k
 
   pub with-licence : (i : ℕ) (r : Rights) {f : Res A} {f′ : Res B} → has i r ≡ true → Agree Q f f′ → Agree Q (licence watched i r >> f) (licence plain i tt >> f′)
   unfolding ensure licence _>>_
   with-licence i r e k = rw e k
+
+  -- what a call settles; the plain machine settles nothing
+  pub with-settled :
+      (c : Bound) (used used′ : Bool) (found found′ : List Qual) (f : Rights → Res A) (f′ : Unit {0} → Res B) → is-settled c used found ≡ true → is-enough c found ≡ true →
+      Agree Q (f (rights (settled c found))) (f′ tt) → Agree Q (settle-set watched c used found >>= f) (settle-set plain c used′ found′ >>= f′)
+  unfolding settle-set ensure _>>_ _>>=_
+  with-settled c used used′ found found′ f f′ s e k = rw (s, e) k
 
   module _ (g : Program) (v : View watched) (v′ : View plain) where
     pub with-slot : {b : Bool} {r : Res A} {r′ : Res B} → b ≡ true → Agree Q r r′ → Agree Q (slot-there watched g v b >> r) (slot-there plain g v′ b >> r′)

@@ -96,7 +96,7 @@ module _ (m : Mode) (g : Program) (memory output : ℕ) (input : List ℕ) where
       rw e (stays (trace m g memory output input fuel) refl h)
     where
       stays : (a : Moment m) → trace m g memory output input fuel ≡ a → Unspent (end-of a) → end-of (trace m g memory output input ((larger - fuel) + fuel)) ≡ end-of a
-      stays (running n (state (frame p i vs) fs os rest put)) e u = absurd (u n put p i refl)
+      stays (running n (state (frame p i z vs) fs os rest put)) e u = absurd (u n put p i refl)
       stays (over x y) e u = rw (over-stays x y fuel e (larger - fuel))
 
   -- ---- The output

@@ -32,23 +32,23 @@ put-keeps output n out l = omega (arith, length-append out (n ∷ []))
 
 apply-keeps : {m : Mode} (g : Program) (output : ℕ) (s : State m) (e : Effect m) → Room (output - length (words s)) e → Keeps output s (apply g s e)
 unfolding apply
-apply-keeps g output (state (frame p i vs) fs os input out) (write a c) r = λ l. l
-apply-keeps g output (state (frame p i vs) fs os input out) (take a c) r = λ l. l
-apply-keeps g output (state (frame p i vs) fs os input out) (put n) r = λ l. put-keeps output n out r
-apply-keeps g output (state (frame p i vs) fs os input out) (jump k) r = λ l. l
-apply-keeps g output (state (frame p i vs) fs os input out) skip r = λ l. l
-apply-keeps g output (state (frame p i vs) fs os input out) (new-array a e n q) r = λ l. l
-apply-keeps g output (state (frame p i vs) fs os input out) (new-record a t n q) r = λ l. l
-apply-keeps g output (state (frame p i vs) fs os input out) (store a j c) r = λ l. l
-apply-keeps g output (state (frame p i vs) fs os input out) (call k cs) r = λ l. l
-apply-keeps g output (state (frame p i vs) [] os input out) (resume w) r = tt
-apply-keeps g output (state (frame p i vs) (frame q j us ∷ fs) os input out) (resume w) r = λ l. l
-apply-keeps g output (state (frame p i vs) fs os input out) finish r = tt
+apply-keeps g output (state (frame p i z vs) fs os input out) (write a c) r = λ l. l
+apply-keeps g output (state (frame p i z vs) fs os input out) (take a c) r = λ l. l
+apply-keeps g output (state (frame p i z vs) fs os input out) (put n) r = λ l. put-keeps output n out r
+apply-keeps g output (state (frame p i z vs) fs os input out) (jump k) r = λ l. l
+apply-keeps g output (state (frame p i z vs) fs os input out) skip r = λ l. l
+apply-keeps g output (state (frame p i z vs) fs os input out) (new-array a e n q) r = λ l. l
+apply-keeps g output (state (frame p i z vs) fs os input out) (new-record a t n q) r = λ l. l
+apply-keeps g output (state (frame p i z vs) fs os input out) (store a j c) r = λ l. l
+apply-keeps g output (state (frame p i z vs) fs os input out) (call k y cs) r = λ l. l
+apply-keeps g output (state (frame p i z vs) [] os input out) (resume w) r = tt
+apply-keeps g output (state (frame p i z vs) (frame q j y us ∷ fs) os input out) (resume w) r = λ l. l
+apply-keeps g output (state (frame p i z vs) fs os input out) finish r = tt
 
 step-comes : (m : Mode) (g : Program) (memory output : ℕ) (s : State m) → Comes m (Keeps output s) (step g memory output s)
 unfolding step
-step-comes m g memory output (state (frame p i vs) fs os input out) =
-    let s : State m = state (frame p i vs) fs os input out in
+step-comes m g memory output (state (frame p i z vs) fs os input out) =
+    let s : State m = state (frame p i z vs) fs os input out in
     and-with (plan-comes m g (view memory output s) (g .operation p i)) λ e r. goes (apply-keeps g output s e r)
 
 -- ---- The run
@@ -90,9 +90,9 @@ module _ (m : Mode) (g : Program) (memory output : ℕ) where
       (n : ℕ) (s : State m) {r : Res (Next m)} → length (words s) ≤ output → Comes m (Keeps output s) r → Stands m output (suc n) (settle n s r)
   unfolding settle
   settle-stands n s w (goes {a = go t} e) = on-its-way (e w)
-  settle-stands n (state (frame p i vs) fs os input out) w (goes {a = finished} e) = is-over {e = stopped done (suc n) out p i} (record { within = omega arith; fit = w; way = tt })
-  settle-stands n (state (frame p i vs) fs os input out) w (stops {x} c) = is-over {e = stopped x n out p i} (record { within = omega arith; fit = w; way = c })
-  settle-stands n (state (frame p i vs) fs os input out) w (sticks u) = is-over {e = stuck-at n out p i} (record { within = omega arith; fit = w; way = u })
+  settle-stands n (state (frame p i z vs) fs os input out) w (goes {a = finished} e) = is-over {e = stopped done (suc n) out p i} (record { within = omega arith; fit = w; way = tt })
+  settle-stands n (state (frame p i z vs) fs os input out) w (stops {x} c) = is-over {e = stopped x n out p i} (record { within = omega arith; fit = w; way = c })
+  settle-stands n (state (frame p i z vs) fs os input out) w (sticks u) = is-over {e = stuck-at n out p i} (record { within = omega arith; fit = w; way = u })
 
   later : {n : ℕ} {e : End} → Ended m ⊥ n output e → Ended m ⊥ (suc n) output e
   later d = let l = d .within in record { within = omega arith; fit = d .fit; way = d .way }
@@ -112,7 +112,7 @@ module _ (m : Mode) (g : Program) (memory output : ℕ) where
   trace-stands input (suc n) = advance-stands n (trace-stands input n)
 
   end-stands : (n : ℕ) {a : Moment m} → Stands m output n a → Ended m (steps-of (end-of a) ≡ n) n output (end-of a)
-  end-stands n (on-its-way {s = state (frame p i vs) fs os input out} w) = record { within = omega arith; fit = w; way = refl }
+  end-stands n (on-its-way {s = state (frame p i z vs) fs os input out} w) = record { within = omega arith; fit = w; way = refl }
   end-stands n (is-over {e} d) = record { within = d .within; fit = d .fit; way = also-way m (steps-of e ≡ n) e (d .way) }
 
   pub run-ended : (input : List ℕ) (fuel : ℕ) → Ended m (steps-of (run m g memory output input fuel) ≡ fuel) fuel output (run m g memory output input fuel)

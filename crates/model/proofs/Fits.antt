@@ -5,7 +5,9 @@ use mathlib.Core.Bool.{Bool, true, false≢true, _&&_}
 use native.Mathlib.Omega.{arith}
 use lib.Dec.{eqb, leb}
 use borrow.Author.Tests.{eqb-true, eq-eqb, leb-true, le-leb}
-use Rattle.model.specs.Qualified.{Qual, integer, array, declared, base, element, isInteger, isArray, same, alike}
+use Rattle.model.specs.Qualified.{Qual, integer, array, declared, generic, base, element, isInteger, isArray, same, alike}
+use Rattle.model.specs.Generic.{read}
+use Rattle.model.specs.Rules.{amplifies}
 use Rattle.model.proofs.Verdicts.{both-true}
 use Rattle.model.proofs.Order.{same-trans, same-refl}
 use Rattle.model.proofs.Allowed.{Owned}
@@ -22,24 +24,33 @@ unfolding alike base
 alike-base integer integer h = refl
 alike-base (array r e) (array s f) h = refl
 alike-base (declared t r) (declared u s) h = eqb-true t u h
+alike-base (declared t r) (generic u m) h = eqb-true t u h
+alike-base (generic t l) (declared u s) h = eqb-true t u h
+alike-base (generic t l) (generic u m) h = eqb-true t u (both-true (eqb t u) (eqb l m) h .0)
 alike-base integer (array s f) h = absurd (false≢true h)
 alike-base integer (declared u s) h = absurd (false≢true h)
+alike-base integer (generic u m) h = absurd (false≢true h)
 alike-base (array r e) integer h = absurd (false≢true h)
 alike-base (array r e) (declared u s) h = absurd (false≢true h)
+alike-base (array r e) (generic u m) h = absurd (false≢true h)
 alike-base (declared t r) integer h = absurd (false≢true h)
 alike-base (declared t r) (array s f) h = absurd (false≢true h)
+alike-base (generic t l) integer h = absurd (false≢true h)
+alike-base (generic t l) (array s f) h = absurd (false≢true h)
 
 integer-base : (q : Qual) → isInteger q ≡ true → base q ≡ 0
 unfolding isInteger base
 integer-base integer h = refl
 integer-base (array r e) h = absurd (false≢true h)
 integer-base (declared t r) h = absurd (false≢true h)
+integer-base (generic t l) h = absurd (false≢true h)
 
 array-base : (q : Qual) → isArray q ≡ true → base q ≡ 1
 unfolding isArray base
 array-base integer h = absurd (false≢true h)
 array-base (array r e) h = refl
 array-base (declared t r) h = absurd (false≢true h)
+array-base (generic t l) h = absurd (false≢true h)
 
 -- a declared type's number is 2 or more
 record-base : (t b : ℕ) → leb 2 t && eqb b t ≡ true → (2 ≤ t) × (b ≡ t)
@@ -52,8 +63,10 @@ unfolding alike isInteger
 integer-move integer integer h k = refl
 integer-move integer (array r e) h k = k
 integer-move integer (declared t r) h k = k
+integer-move integer (generic t l) h k = k
 integer-move (array r e) q h k = absurd (false≢true h)
 integer-move (declared t r) q h k = absurd (false≢true h)
+integer-move (generic t l) q h k = absurd (false≢true h)
 
 array-move : (s q d : Qual) → isArray s ≡ true → same d (element s) ≡ true → alike s q ≡ true → isArray q && same d (element q) ≡ true
 unfolding alike isArray element
@@ -61,7 +74,9 @@ array-move integer q d h m k = absurd (false≢true h)
 array-move (array r e) integer d h m k = k
 array-move (array r e) (array s f) d h m k = same-trans d e f m k
 array-move (array r e) (declared t s) d h m k = k
+array-move (array r e) (generic t l) d h m k = k
 array-move (declared t r) q d h m k = absurd (false≢true h)
+array-move (generic t l) q d h m k = absurd (false≢true h)
 
 pub fits-move : (s q : Qual) (k : Kind watched) → fits s k ≡ true → alike s q ≡ true → fits q k ≡ true
 unfolding fits
@@ -70,14 +85,23 @@ fits-move s q (array-kind e) h k = let z = both-true (isArray s) (same e (elemen
 fits-move s q (record-kind t) h k = rw (alike-base s q k) at h
 fits-move s q no-kind h k = h
 
--- two types of one owner
-pub owned-alike : (o : ℕ) (a b : Qual) → Owned o a → Owned o b → alike a b ≡ true
-unfolding alike base
-owned-alike o integer b x y = absurd (omega arith)
-owned-alike o (array r e) b x y = absurd (omega arith)
-owned-alike o (declared t r) integer x y = absurd (omega arith)
-owned-alike o (declared t r) (array s f) x y = absurd (omega arith)
-owned-alike o (declared t r) (declared u s) x y = eq-eqb t u (x .base-is ∙ sym (y .base-is))
+-- an amplified type has no ?R: it is read as the owner's type, and two of one owner are alike
+pub amplified-owned : (ρ : Qual) (o : ℕ) (q : Qual) → amplifies o q ≡ true → Owned o (read ρ q)
+unfolding amplifies read base
+amplified-owned ρ o integer h = absurd (false≢true h)
+amplified-owned ρ o (array r e) h = absurd (false≢true h)
+amplified-owned ρ o (declared t r) h = let z = record-base o t h in record { there = z .0; base-is = z .1 }
+amplified-owned ρ o (generic t l) h = absurd (false≢true h)
+
+pub amplified-alike : (ρ : Qual) (o : ℕ) (a b : Qual) → amplifies o a ≡ true → amplifies o b ≡ true → alike (read ρ a) (read ρ b) ≡ true
+unfolding amplifies read alike
+amplified-alike ρ o integer b x y = absurd (false≢true x)
+amplified-alike ρ o (array r e) b x y = absurd (false≢true x)
+amplified-alike ρ o (generic t l) b x y = absurd (false≢true x)
+amplified-alike ρ o (declared t r) integer x y = absurd (false≢true y)
+amplified-alike ρ o (declared t r) (array s f) x y = absurd (false≢true y)
+amplified-alike ρ o (declared t r) (generic u m) x y = absurd (false≢true y)
+amplified-alike ρ o (declared t r) (declared u s) x y = eq-eqb t u (record-base o t x .1 ∙ sym (record-base o u y .1))
 
 -- ---- which kind a value of a declared type has
 

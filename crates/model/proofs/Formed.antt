@@ -1,7 +1,10 @@
 -- What the proofs of condition 3 lean on beside the access rules: parts of the layout (refusals 1 to 5), which a well-formed sheet has.
 use Prim.Native.Nat.{ℕ, suc, _+_, _<_, _≤_}
 use mathlib.Core.Path.{_≡_}
+use mathlib.Core.Bool.{false}
 use mathlib.Core.Option.{Option, none, some}
+use Rattle.model.specs.Rights.{has, open-right}
+use Rattle.model.specs.Generic.{no-bound, least, uses}
 use Rattle.model.specs.Program.{Program}
 use Rattle.model.specs.Rules.{optional}
 use Rattle.model.specs.declared.Operation.{Operation}
@@ -33,6 +36,10 @@ module _ (g : Program) where
     pub begins : (p : ℕ) → p < g .procedures → 0 < g .instructions p
     pub formals : (p : ℕ) → p < g .procedures → g .formals p ≤ g .variables p
     pub operations : (p i : ℕ) → p < g .procedures → i < g .instructions p → Formed-at p i (g .operation p i)
+    -- S-1: main has no rights name, no least set has open, and no slot uses ?R
+    pub main-bound : g .bound 0 ≡ no-bound
+    pub bound-closed : (p : ℕ) → p < g .procedures → has open-right (least (g .bound p)) ≡ false
+    pub slots-plain : (p k : ℕ) → p < g .procedures → 2 ≤ g .owner p → k < g .slots (g .owner p) → uses (g .slot (g .owner p) k) ≡ false
 
   -- what Same.antt leans on beside these: a variable named is below v, an actual too, and an owner whose records are made or opened is a declared type
   abbrev pub Below-or-none : (p : ℕ) → Option ℕ → Type 0

@@ -6,7 +6,7 @@ use mathlib.Core.Option.{Option, none, some}
 use lib.Dec.{leb}
 use Rattle.model.specs.Outcome.{Stop, memory-full, Res, ok, stop, stuck, _>>=_, _>>_}
 use Rattle.model.specs.Program.{Program}
-use Rattle.model.specs.Modes.{Mode, plain, watched, amiss}
+use Rattle.model.specs.Modes.{Mode, plain, watched, SettledSet, amiss}
 use Rattle.model.specs.Machine.{Cell, Object, Frame, frame, State, state, View, view, Next, go, finished, Effect, write, take, put, jump, skip, new-array, new-record, store, call, resume, finish, plan-array, plan-record, plan-fetch, plan-store, plan-size, plan-get, plan-set, plan-call, into-caller, to-caller, plan-return, gives, branch, plan, apply, step}
 use Rattle.model.specs.Run.{stopped, snapshot, Moment, running, over, settle, advance, opened, start, trace}
 use Rattle.model.specs.Inside.{At, Waiting, bottom, waits, Inside}
@@ -65,7 +65,7 @@ module _ (m : Mode) (g : Program) where
   Stays p i (new-array a e n r) = suc i < g .instructions p
   Stays p i (new-record a t n r) = suc i < g .instructions p
   Stays p i (store a j c) = suc i < g .instructions p
-  Stays p i (call k cs) = (k < g .procedures) × (suc i < g .instructions p)
+  Stays p i (call k z cs) = (k < g .procedures) × (suc i < g .instructions p)
   Stays p i (resume w) = Unit {0}
   Stays p i finish = Unit {0}
 
@@ -79,16 +79,16 @@ module _ (m : Mode) (g : Program) where
     branch-stays h zero k l = l
     branch-stays h (suc n) k l = h
 
-    into-stays : (q : ℕ) (a : Option ℕ) (c : Option (Cell m)) → Yields (Stays p i) (into-caller m g v q a c)
+    into-stays : (q : ℕ) (z : SettledSet m) (a : Option ℕ) (c : Option (Cell m)) → Yields (Stays p i) (into-caller m g v q z a c)
     unfolding into-caller
-    into-stays q none c = yield tt
-    into-stays q (some a) none = no-kind m
-    into-stays q (some a) (some c) = after _ _ λ d. yield tt
+    into-stays q z none c = yield tt
+    into-stays q z (some a) none = no-kind m
+    into-stays q z (some a) (some c) = after _ _ λ d. yield tt
 
-    caller-stays : (q : Option (ℕ × ℕ)) (c : Option (Cell m)) → Yields (Stays p i) (to-caller m g v q c)
+    caller-stays : (q : Option (ℕ × ℕ × SettledSet m)) (c : Option (Cell m)) → Yields (Stays p i) (to-caller m g v q c)
     unfolding to-caller
     caller-stays none c = yield tt
-    caller-stays (some q) c = into-stays _ _ c
+    caller-stays (some q) c = into-stays _ _ _ c
 
     pub plan-stays : (o : Operation) → Formed-at g p i o → Yields (Stays p i) (plan m g v o)
     unfolding plan plan-array plan-record plan-fetch plan-store plan-size plan-get plan-set plan-call plan-return
@@ -107,33 +107,33 @@ module _ (m : Mode) (g : Program) where
     plan-stays (NewRecord a) h = behind _ (after _ _ λ r. yield (h .1))
     plan-stays (GetSlot a b k) h = after _ _ λ x. after _ _ λ o. behind _ (behind _ (after _ _ λ d. yield (h .2)))
     plan-stays (SetSlot a b k) h = after _ _ λ x. after _ _ λ o. behind _ (behind _ (after _ _ λ d. yield (h .2)))
-    plan-stays (Call a b k) h = behind _ (behind _ (after _ _ λ cs. yield h))
+    plan-stays (Call a b k) h = behind _ (after _ _ λ z. behind _ (after _ _ λ cs. yield h))
     plan-stays (Return a) h = behind _ (after _ _ λ c. caller-stays (v .caller) c)
 
   module _ (formed : Formed g) where
     apply-inside :
-        {p i : ℕ} {fs : List (Frame m)} (vs : List (Cell m)) (os : List (Object m)) (input out : List ℕ) →
-        At g p i → Waiting g fs → (e : Effect m) → Stays p i e → Next-inside g (apply g (state (frame p i vs) fs os input out) e)
+        {p i : ℕ} {fs : List (Frame m)} (z : SettledSet m) (vs : List (Cell m)) (os : List (Object m)) (input out : List ℕ) →
+        At g p i → Waiting g fs → (e : Effect m) → Stays p i e → Next-inside g (apply g (state (frame p i z vs) fs os input out) e)
     unfolding apply
-    apply-inside vs os input out a ws (write x c) h = (record { procedure = a .procedure; instruction = h }, ws)
-    apply-inside vs os input out a ws (take x c) h = (record { procedure = a .procedure; instruction = h }, ws)
-    apply-inside vs os input out a ws (put n) h = (record { procedure = a .procedure; instruction = h }, ws)
-    apply-inside vs os input out a ws (jump k) h = (record { procedure = a .procedure; instruction = h }, ws)
-    apply-inside vs os input out a ws skip h = (record { procedure = a .procedure; instruction = h }, ws)
-    apply-inside vs os input out a ws (new-array x e n r) h = (record { procedure = a .procedure; instruction = h }, ws)
-    apply-inside vs os input out a ws (new-record x t n r) h = (record { procedure = a .procedure; instruction = h }, ws)
-    apply-inside vs os input out a ws (store x j c) h = (record { procedure = a .procedure; instruction = h }, ws)
-    apply-inside vs os input out a ws (call k cs) h =
+    apply-inside z vs os input out a ws (write x c) h = (record { procedure = a .procedure; instruction = h }, ws)
+    apply-inside z vs os input out a ws (take x c) h = (record { procedure = a .procedure; instruction = h }, ws)
+    apply-inside z vs os input out a ws (put n) h = (record { procedure = a .procedure; instruction = h }, ws)
+    apply-inside z vs os input out a ws (jump k) h = (record { procedure = a .procedure; instruction = h }, ws)
+    apply-inside z vs os input out a ws skip h = (record { procedure = a .procedure; instruction = h }, ws)
+    apply-inside z vs os input out a ws (new-array x e n r) h = (record { procedure = a .procedure; instruction = h }, ws)
+    apply-inside z vs os input out a ws (new-record x t n r) h = (record { procedure = a .procedure; instruction = h }, ws)
+    apply-inside z vs os input out a ws (store x j c) h = (record { procedure = a .procedure; instruction = h }, ws)
+    apply-inside z vs os input out a ws (call k y cs) h =
         (record { procedure = h .0; instruction = formed .begins k (h .0) }, waits (record { procedure = a .procedure; instruction = h .1 }) ws)
-    apply-inside vs os input out a bottom (resume w) h = tt
-    apply-inside vs os input out a (waits b ws) (resume w) h = (b, ws)
-    apply-inside vs os input out a ws finish h = tt
+    apply-inside z vs os input out a bottom (resume w) h = tt
+    apply-inside z vs os input out a (waits b ws) (resume w) h = (b, ws)
+    apply-inside z vs os input out a ws finish h = tt
 
     pub step-inside : (memory output : ℕ) (t : State m) → Inside g t → Yields (Next-inside g) (step g memory output t)
     unfolding step
-    step-inside memory output (state (frame p i vs) fs os input out) h =
-        then _ (plan-stays p i (view memory output (state (frame p i vs) fs os input out)) (g .operation p i) (formed .operations p i (h .0 .procedure) (h .0 .instruction)))
-        λ e k. yield (apply-inside vs os input out (h .0) (h .1) e k)
+    step-inside memory output (state (frame p i z vs) fs os input out) h =
+        then _ (plan-stays p i (view memory output (state (frame p i z vs) fs os input out)) (g .operation p i) (formed .operations p i (h .0 .procedure) (h .0 .instruction)))
+        λ e k. yield (apply-inside z vs os input out (h .0) (h .1) e k)
 
     pub opened-inside : (memory output : ℕ) (input : List ℕ) → Inside g (opened m g memory output input)
     unfolding opened

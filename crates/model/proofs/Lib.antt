@@ -2,6 +2,8 @@ pub mod Formed
 pub mod Verdicts
 pub mod Rights
 pub mod Order
+pub mod Read
+pub mod Settling
 pub mod Allowed
 pub mod Fits
 pub mod Relate

@@ -3,18 +3,20 @@
 use Prim.Native.Nat.{ℕ, zero, suc, _<_}
 use mathlib.Core.Path.{_≡_, refl}
 use mathlib.Core.Bool.{Bool, true, false, _&&_}
+use mathlib.Core.List.{List}
 use mathlib.Core.Option.{Option, none, some}
 use lib.Dec.{eqb}
 use borrow.Author.Tests.{ltb-true}
 use Rattle.model.specs.Rights.{within, has}
-use Rattle.model.specs.Qualified.{Qual, base, rights}
+use Rattle.model.specs.Qualified.{Qual, rights}
+use Rattle.model.specs.Generic.{Bound, is-settled, is-enough}
 use Rattle.model.specs.Program.{Program}
-use Rattle.model.specs.Rules.{optional}
+use Rattle.model.specs.Rules.{optional, amplifies}
 use Rattle.model.specs.declared.Operation.{Operation}
 use Rattle.model.specs.declared.Operation.the-variants.{Set, Add, Subtract, Less, JumpZero, Bind, Take, Put, NewArray, Fetch, Store, Size, NewRecord, GetSlot, SetSlot, Call, Return}
 use Rattle.model.specs.Outcome.{Stop, done, fuel-spent, blank, past-end, input-ended, output-full, memory-full, wrong-kind, missing-right, Res, ok, stop, stuck, _>>=_, _>>_, ensure, found}
-use Rattle.model.specs.Modes.{Mode, plain, watched, Carried, ElementInfo, TypeInfo, Kind, amiss, demand, licence, is-of, fits, bind, is-record-of, raise-if, raise, bind-element, bind-result}
-use Rattle.model.specs.Machine.{Value, word, object, Cell, empty, filled, Head, array-head, record-head, no-head, View, Effect, write, take, put, jump, skip, new-array, new-record, store, call, resume, finish, held, as-integer, array-head-of, record-head-of, array-at, record-at, moved, give, integers, one-integer, plan-array, plan-record, plan-fetch, plan-store, plan-size, slot-there, plan-get, plan-set, actual, actuals, plan-call, handed, into-caller, to-caller, plan-return, gives, branch, plan}
+use Rattle.model.specs.Modes.{Mode, plain, watched, Carried, ElementInfo, TypeInfo, SettledSet, Kind, amiss, demand, licence, is-of, fits, bind, settle-set, is-record-of, raise-if, raise, bind-element, bind-result}
+use Rattle.model.specs.Machine.{Value, word, object, Cell, empty, filled, Head, array-head, record-head, no-head, View, Effect, write, take, put, jump, skip, new-array, new-record, store, call, resume, finish, held, as-integer, array-head-of, record-head-of, array-at, record-at, moved, give, integers, one-integer, plan-array, plan-record, plan-fetch, plan-store, plan-size, slot-there, plan-get, plan-set, settle-call, actual, actuals, plan-call, handed, into-caller, to-caller, plan-return, gives, branch, plan}
 
 -- ---- What a result may be
 
@@ -108,14 +110,22 @@ bind-comes watched q k r =
     (and-do (test-comes missing-right tt (within (rights q) r))
     (goes tt))
 
-raise-comes : (m : Mode) (o : ℕ) (inner : Qual) (k : Kind m) (r : Carried m) → Comes m Any (raise m o inner k r)
+settle-comes : (m : Mode) (b : Bound) (used : Bool) (found : List Qual) → Comes m Any (settle-set m b used found)
+unfolding settle-set
+settle-comes plain b used found = goes tt
+settle-comes watched b used found =
+    and-do (test-comes wrong-kind tt (is-settled b used found))
+    (and-do (test-comes missing-right tt (is-enough b found))
+    (goes tt))
+
+raise-comes : (m : Mode) (o : ℕ) (inner q : Qual) (k : Kind m) (r : Carried m) → Comes m Any (raise m o inner q k r)
 unfolding raise raise-if
-raise-comes plain o inner k r = goes tt
-raise-comes watched o inner k r = either (is-record-of o k && eqb (base inner) o)
+raise-comes plain o inner q k r = goes tt
+raise-comes watched o inner q k r = either (is-record-of o k && amplifies o inner)
   where
-    either : (b : Bool) → Comes watched Any (raise-if b inner k r)
+    either : (b : Bool) → Comes watched Any (raise-if b q k r)
     either true = goes tt
-    either false = bind-comes watched inner k r
+    either false = bind-comes watched q k r
 
 element-comes : (m : Mode) (e : ElementInfo m) (k : Kind m) (r : Carried m) → Comes m Any (bind-element m e k r)
 unfolding bind-element
@@ -163,7 +173,7 @@ Room free skip = Unit {0}
 Room free (new-array a e n r) = Unit {0}
 Room free (new-record a t n r) = Unit {0}
 Room free (store a j c) = Unit {0}
-Room free (call k cs) = Unit {0}
+Room free (call k z cs) = Unit {0}
 Room free (resume w) = Unit {0}
 Room free finish = Unit {0}
 
@@ -204,18 +214,18 @@ module _ (m : Mode) (g : Program) (v : View m) where
   slot-comes true = goes tt
   slot-comes false = amiss-comes m
 
-  actual-comes : (k b j : ℕ) → Comes m Any (actual m g v k b j)
+  actual-comes : (k b : ℕ) (z : SettledSet m) (j : ℕ) → Comes m Any (actual m g v k b z j)
   unfolding actual
-  actual-comes k b j =
+  actual-comes k b z j =
       and-then (moved-comes _ _) λ c.
       and-then (held-comes c) λ h.
-      and-then (raise-comes m _ _ _ (h .1)) λ r.
+      and-then (raise-comes m _ _ _ _ (h .1)) λ r.
       goes tt
 
-  actuals-comes : (k b j n : ℕ) → Comes m Any (actuals m g v k b j n)
+  actuals-comes : (k b : ℕ) (z : SettledSet m) (j n : ℕ) → Comes m Any (actuals m g v k b z j n)
   unfolding actuals
-  actuals-comes k b j zero = goes tt
-  actuals-comes k b j (suc n) = and-then (actual-comes k b j) λ c. and-then (actuals-comes k b (suc j) n) λ cs. goes tt
+  actuals-comes k b z j zero = goes tt
+  actuals-comes k b z j (suc n) = and-then (actual-comes k b z j) λ c. and-then (actuals-comes k b z (suc j) n) λ cs. goes tt
 
   handed-comes : (a : Option ℕ) → Comes m Any (handed m g v a)
   unfolding handed
@@ -307,23 +317,24 @@ module _ (m : Mode) (g : Program) (v : View m) where
       goes tt))
 
   call-comes : (a b k : ℕ) → Planned (plan-call m g v a b k)
-  unfolding plan-call
+  unfolding plan-call settle-call
   call-comes a b k =
       and-do (demand-comes m _)
-      (and-test memory-full tt _ λ e.
-      and-then (actuals-comes k b 0 (g .formals k)) λ cs.
+      (and-then (settle-comes m _ _ _) λ z.
+      and-test memory-full tt _ λ e.
+      and-then (actuals-comes k b z 0 (g .formals k)) λ cs.
       goes tt)
 
-  into-caller-comes : (p : ℕ) (a : Option ℕ) (c : Option (Cell m)) → Planned (into-caller m g v p a c)
+  into-caller-comes : (p : ℕ) (z : SettledSet m) (a : Option ℕ) (c : Option (Cell m)) → Planned (into-caller m g v p z a c)
   unfolding into-caller
-  into-caller-comes p none c = goes tt
-  into-caller-comes p (some a) none = amiss-comes m
-  into-caller-comes p (some a) (some c) = and-then (moved-comes _ c) λ d. goes tt
+  into-caller-comes p z none c = goes tt
+  into-caller-comes p z (some a) none = amiss-comes m
+  into-caller-comes p z (some a) (some c) = and-then (moved-comes _ c) λ d. goes tt
 
-  to-caller-comes : (place : Option (ℕ × ℕ)) (c : Option (Cell m)) → Planned (to-caller m g v place c)
+  to-caller-comes : (place : Option (ℕ × ℕ × SettledSet m)) (c : Option (Cell m)) → Planned (to-caller m g v place c)
   unfolding to-caller
   to-caller-comes none c = goes tt
-  to-caller-comes (some place) c = into-caller-comes (place .0) _ c
+  to-caller-comes (some place) c = into-caller-comes (place .0) (place .2) _ c
 
   return-comes : (a : Option ℕ) → Planned (plan-return m g v a)
   unfolding plan-return

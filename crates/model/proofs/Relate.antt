@@ -4,14 +4,19 @@ use Prim.Native.Nat.{ℕ, zero, suc, _+_, _<_}
 use mathlib.Core.Path.{_≡_, refl, ap, ap₂, subst, fun-ext}
 use mathlib.Core.Bool.{true}
 use mathlib.Core.List.{List, [], _∷_, _++_}
+use mathlib.Core.Option.{Option, none, some}
 use lib.ListN.{length, getD, set, replicate}
 use Rattle.model.specs.Rights.{Rights}
 use Rattle.model.specs.Qualified.{Qual, rights, element}
 use Rattle.model.specs.Program.{Program}
+use Rattle.model.specs.Generic.{read-result}
+use Rattle.model.specs.Rules.{optional}
 use Rattle.model.specs.declared.Operation.the-variants.{NewArray, NewRecord, Call}
 use Rattle.model.specs.Modes.{plain, watched, fits}
 use Rattle.model.specs.Machine.{Value, Cell, empty, filled, Object, array-of, record-of, Frame, frame, State, state, Head, cells-of, kind-at, object-units, frame-units, caller-place, Next, go, finished}
 use Rattle.model.specs.Claim.{heads}
+use Rattle.model.proofs.Read.{Good}
+use Rattle.model.proofs.Allowed.{Kept, in-set, typed-in}
 
 -- ---- Relations
 
@@ -43,7 +48,10 @@ pub record ArrayMade (g : Program) (e : Qual) : Type 0 where
   pub procedure : p < g .procedures
   pub instruction : i < g .instructions p
   pub operation : g .operation p i ≡ NewArray a b
-  pub element-is : e ≡ element (g .inner p a)
+  -- in a frame with this set
+  pub set : Rights
+  pub good : Good (g .bound p) set
+  pub element-is : e ≡ element (typed-in g p set a)
 
 pub record RecordMade (g : Program) (t : ℕ) : Type 0 where
   pub p : ℕ
@@ -68,26 +76,27 @@ pub data Objects (g : Program) (h : ℕ → Head watched) : List (Object watched
       {o : Object watched} {o′ : Object plain} {os : List (Object watched)} {os′ : List (Object plain)} →
       ObjectRel g h o o′ → Objects g h os os′ → Objects g h (o ∷ os) (o′ ∷ os′)
 
--- the variables of a live frame of procedure p
-pub record Live (g : Program) (h : ℕ → Head watched) (p : ℕ) (vs : List (Cell watched)) (vs′ : List (Cell plain)) : Type 0 where
+-- the set and the variables of a live frame of procedure p
+pub record Live (g : Program) (h : ℕ → Head watched) (p : ℕ) (z : Rights) (vs : List (Cell watched)) (vs′ : List (Cell plain)) : Type 0 where
   pub procedure : p < g .procedures
+  pub good : Good (g .bound p) z
   pub size : length vs ≡ g .variables p
-  pub row : Row h (g .inner p) vs vs′
+  pub row : Row h (typed-in g p z) vs vs′
 
--- the frames that wait for a frame of procedure k: each stands behind a call of the procedure above it
-pub data Stack (g : Program) (h : ℕ → Head watched) : ℕ → List (Frame watched) → List (Frame plain) → Type 0 where
-  bottom : {k : ℕ} → Stack g h k [] []
+-- the frames that wait for a frame of procedure k with set y: each stands behind a call of the procedure above it, whose result, read with the set above, it may keep
+pub data Stack (g : Program) (h : ℕ → Head watched) : ℕ → Rights → List (Frame watched) → List (Frame plain) → Type 0 where
+  bottom : {k : ℕ} {y : Rights} → Stack g h k y [] []
   waits :
-      {k p i a b : ℕ} {vs : List (Cell watched)} {vs′ : List (Cell plain)} {fs : List (Frame watched)} {fs′ : List (Frame plain)} →
-      suc i < g .instructions p → g .operation p i ≡ Call a b k → Live g h p vs vs′ → Stack g h p fs fs′ →
-      Stack g h k (frame p (suc i) vs ∷ fs) (frame p (suc i) vs′ ∷ fs′)
+      {k p i a b : ℕ} {y z : Rights} {vs : List (Cell watched)} {vs′ : List (Cell plain)} {fs : List (Frame watched)} {fs′ : List (Frame plain)} →
+      suc i < g .instructions p → g .operation p i ≡ Call a b k → Kept (typed-in g p z) (optional a) (read-result (in-set g k y) (g .result k)) →
+      Live g h p z vs vs′ → Stack g h p z fs fs′ → Stack g h k y (frame p (suc i) z vs ∷ fs) (frame p (suc i) tt vs′ ∷ fs′)
 
 pub data StateRel (g : Program) : State watched → State plain → Type 0 where
   states :
-      {p i : ℕ} {vs : List (Cell watched)} {vs′ : List (Cell plain)} {fs : List (Frame watched)} {fs′ : List (Frame plain)}
+      {p i : ℕ} {z : Rights} {vs : List (Cell watched)} {vs′ : List (Cell plain)} {fs : List (Frame watched)} {fs′ : List (Frame plain)}
       {os : List (Object watched)} {os′ : List (Object plain)} {input put : List ℕ} →
-      i < g .instructions p → Live g (heads os) p vs vs′ → Stack g (heads os) p fs fs′ → Objects g (heads os) os os′ →
-      StateRel g (state (frame p i vs) fs os input put) (state (frame p i vs′) fs′ os′ input put)
+      i < g .instructions p → Live g (heads os) p z vs vs′ → Stack g (heads os) p z fs fs′ → Objects g (heads os) os os′ →
+      StateRel g (state (frame p i z vs) fs os input put) (state (frame p i tt vs′) fs′ os′ input put)
 
 pub data NextRel (g : Program) : Next watched → Next plain → Type 0 where
   nexts : {s : State watched} {s′ : State plain} → StateRel g s s′ → NextRel g (go s) (go s′)
@@ -116,12 +125,12 @@ module _ {h k : ℕ → Head watched} (up : Grows h k) where
   objects-up objects-nil = objects-nil
   objects-up (objects-cons o r) = objects-cons (object-up o) (objects-up r)
 
-  pub live-up : {g : Program} {p : ℕ} {vs : List (Cell watched)} {vs′ : List (Cell plain)} → Live g h p vs vs′ → Live g k p vs vs′
-  live-up l = record { procedure = l .procedure; size = l .size; row = row-up (l .row) }
+  pub live-up : {g : Program} {p : ℕ} {z : Rights} {vs : List (Cell watched)} {vs′ : List (Cell plain)} → Live g h p z vs vs′ → Live g k p z vs vs′
+  live-up l = record { procedure = l .procedure; good = l .good; size = l .size; row = row-up (l .row) }
 
-  pub stack-up : {g : Program} {p : ℕ} {fs : List (Frame watched)} {fs′ : List (Frame plain)} → Stack g h p fs fs′ → Stack g k p fs fs′
+  pub stack-up : {g : Program} {p : ℕ} {z : Rights} {fs : List (Frame watched)} {fs′ : List (Frame plain)} → Stack g h p z fs fs′ → Stack g k p z fs fs′
   stack-up bottom = bottom
-  stack-up (waits i e l s) = waits i e (live-up l) (stack-up s)
+  stack-up (waits i e m l s) = waits i e m (live-up l) (stack-up s)
 
 -- ---- Rows
 
@@ -157,7 +166,12 @@ pub row-same :
     Row h d cs cs′ → ((x : ℕ) → d x ≡ e x) → Row h e cs cs′
 row-same {h} {cs} {cs′} r s = subst (λ d. Row h d cs cs′) (fun-ext s) r
 
--- ---- Units
+-- ---- Units and places
+
+-- a place as the plain machine has it
+abbrev pub plain-place : Option (ℕ × ℕ × Rights) → Option (ℕ × ℕ × Unit {0})
+plain-place none = none
+plain-place (some place) = some (place .0, place .1, tt)
 
 module _ {g : Program} {h : ℕ → Head watched} where
   pub object-length : {o : Object watched} {o′ : Object plain} → ObjectRel g h o o′ → length (cells-of o) ≡ length (cells-of o′)
@@ -169,11 +183,11 @@ module _ {g : Program} {h : ℕ → Head watched} where
   objects-units objects-nil = refl
   objects-units (objects-cons o r) = ap₂ (λ (x y : ℕ). suc x + y) (object-length o) (objects-units r)
 
-  pub stack-units : {p : ℕ} {fs : List (Frame watched)} {fs′ : List (Frame plain)} → Stack g h p fs fs′ → frame-units fs ≡ frame-units fs′
+  pub stack-units : {p : ℕ} {z : Rights} {fs : List (Frame watched)} {fs′ : List (Frame plain)} → Stack g h p z fs fs′ → frame-units fs ≡ frame-units fs′
   unfolding frame-units
   stack-units bottom = refl
-  stack-units (waits i e l s) = ap₂ (λ (x y : ℕ). (x + 2) + y) (row-length (l .row)) (stack-units s)
+  stack-units (waits i e m l s) = ap₂ (λ (x y : ℕ). (x + 2) + y) (row-length (l .row)) (stack-units s)
 
-  pub stack-place : {p : ℕ} {fs : List (Frame watched)} {fs′ : List (Frame plain)} → Stack g h p fs fs′ → caller-place fs ≡ caller-place fs′
+  pub stack-place : {p : ℕ} {z : Rights} {fs : List (Frame watched)} {fs′ : List (Frame plain)} → Stack g h p z fs fs′ → plain-place (caller-place fs) ≡ caller-place fs′
   stack-place bottom = refl
-  stack-place (waits i e l s) = refl
+  stack-place (waits i e m l s) = refl

@@ -1,10 +1,12 @@
 -- From one step to the whole run: condition 3.
 use Prim.Native.Nat.{ℕ, zero, suc, _+_, min}
-use mathlib.Core.Path.{_≡_, refl, subst, ap}
+use mathlib.Core.Path.{_≡_, refl, sym, subst, ap}
 use mathlib.Core.Bool.{Bool, true, false, cond}
 use mathlib.Core.List.{List, []}
 use lib.Dec.{leb}
 use lib.ListN.{length, length-replicate}
+use Rattle.model.specs.Rights.{within, has}
+use Rattle.model.specs.Generic.{Bound, least}
 use Rattle.model.specs.Program.{Program, Record}
 use Rattle.model.specs.Refusal.{verdict}
 use Rattle.model.specs.Rules.{access-rules}
@@ -15,7 +17,8 @@ use Rattle.model.specs.Machine.{empty, Object, State, Next}
 use Rattle.model.specs.Run.{End, stopped, stuck-at, words-put, end-in, Snapshot, snapshot, shot, finished-shot, Moment, running, over, settle, end-of, left-by, advance, opened, start, trace, run, state-after, written}
 use Rattle.model.specs.Claim.{heads, Regular-stop, Regular, Typed, Condition3}
 use Rattle.model.proofs.Formed.{Formed}
-use Rattle.model.proofs.Allowed.{facts}
+use Rattle.model.proofs.Read.{Good}
+use Rattle.model.proofs.Allowed.{facts, typed-in}
 use Rattle.model.proofs.Relate.{row-blank, Objects, objects-nil, bottom, StateRel, states, NextRel, nexts, ends}
 use Rattle.model.proofs.Agree.{Agree, both, halt}
 use Rattle.model.proofs.Cases.{Sound}
@@ -67,6 +70,10 @@ module _ (g : Program) (s : Sound g) (memory output : ℕ) where
   advance-ok (both-running {n} h) = settle-ok n h (step-ok g s memory output h)
   advance-ok (both-over e l) = both-over e l
 
+  -- main has no rights name, so that nothing is asked of its set
+  main-good : Good (g .bound 0) 0
+  main-good = subst (λ (b : Bound). Good b 0) (sym (s .formed .main-bound)) (unfold least within has in (record { enough = refl; shut = refl }))
+
   start-ok : (input : List ℕ) → MomentRel g (start watched g memory output input) (start plain g memory output input)
   unfolding start opened
   start-ok input = room (leb (g .variables 0 + 2) memory)
@@ -74,7 +81,7 @@ module _ (g : Program) (s : Sound g) (memory output : ℕ) where
       opened-ok : StateRel g (opened watched g memory output input) (opened plain g memory output input)
       opened-ok =
           states (s .formed .begins 0 (s .formed .main))
-          (record { procedure = s .formed .main; size = length-replicate (g .variables 0) empty; row = row-blank (g .inner 0) (g .variables 0) }) bottom objects-nil
+          (record { procedure = s .formed .main; good = main-good; size = length-replicate (g .variables 0) empty; row = row-blank (typed-in g 0 0) (g .variables 0) }) bottom objects-nil
 
       room : (b : Bool) →
           MomentRel g
@@ -111,7 +118,7 @@ pub condition3 :
     (at : Record → ℕ) (g : Program) → Formed g → verdict (access-rules at g) ≡ Accepted → (memory : ℕ) (input output : List ℕ) (fuel : ℕ) →
     Condition3 g memory input output fuel
 condition3 at g f a memory input output fuel =
-    let s : Sound g = record { formed = f; facts = facts at g a } in
+    let s : Sound g = record { formed = f; facts = facts at g f a } in
     let z = run-ok g s memory (length output) input fuel in
     record {
       not-stuck = regular-not-stuck _ (subst Regular (z .same) (z .regular));

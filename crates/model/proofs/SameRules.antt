@@ -9,24 +9,17 @@ use lib.Dec.{ltb}
 use borrow.Author.Tests.{ltb-true}
 use Rattle.model.specs.Program.{Program, Record, type-record, qual-record, procedure-record, variable-record, instruction-record}
 use Rattle.model.specs.Qualified.{Qual, element}
+use Rattle.model.specs.Generic.{own, read}
 use Rattle.model.specs.Refusal.{open-exposed, Test, test, Tests, tests, refuse, verdict, span, each}
-use Rattle.model.specs.Rules.{optional, moves, closed-result, formal-rule, local-rule, declaration-rule, optional-variable, call-rule, closed-rule, rule, type-rules, qual-rules, variable-rule, variable-rules, instruction-rules, head-rules, procedure-rules, access-rules}
+use Rattle.model.specs.Rules.{optional, moves, closed-result, formal-rule, local-rule, declaration-rule, optional-variable, settling-rule, passing-rule, call-rule, closed-rule, typed, typed-slot, called, rule, type-rules, qual-rules, variable-rule, variable-rules, instruction-rules, head-rules, procedure-rules, access-rules}
 use Rattle.model.specs.Same.{Same, SameQuals, Alike, both-accepted, at-record}
 use Rattle.model.specs.declared.Verdict.{Verdict}
 use Rattle.model.specs.declared.Operation.{Operation}
 use Rattle.model.specs.declared.Operation.the-variants.{Set, Add, Subtract, Less, JumpZero, Bind, Take, Put, NewArray, Fetch, Store, Size, NewRecord, GetSlot, SetSlot, Call, Return}
 use Rattle.model.proofs.Formed.{Formed, Formed-at, Operands, Operands-at, Below-or-none}
+use Rattle.model.proofs.Same.{same-each, same-need, same-uses, same-found}
 
 -- ---- Lists of tests
-
--- as many, and the same at each number
-same-span : {A : Type 0} (f f′ : ℕ → List A) (i n : ℕ) → ((k : ℕ) → k < i + n → f k ≡ f′ k) → span f i n ≡ span f′ i n
-unfolding span
-same-span f f′ i zero e = refl
-same-span f f′ i (suc n) e = ap₂ _++_ (e i (omega arith)) (same-span f f′ (suc i) n (λ k l. e k (omega arith)))
-
-same-each : {A : Type 0} {f f′ : ℕ → List A} {n n′ : ℕ} → n ≡ n′ → ((k : ℕ) → k < n → f k ≡ f′ k) → each n f ≡ each n′ f′
-same-each {A} {f} {f′} {n} e s = rw (← e) (same-span f f′ 0 n (λ k l. s k (omega arith)))
 
 module _ (at at′ : Record → ℕ) where
   -- the same tests of the same records
@@ -67,35 +60,49 @@ module _ {g h : Program} (formed : Formed g) (operands : Operands g) (same : Sam
   module _ (p : ℕ) (l : p < g .procedures) where
     -- ---- An instruction
 
-    same-optional : (a : Option ℕ) → Below-or-none g p a → optional-variable (g .inner p) a ≡ optional-variable (h .inner p) a
+    same-typed : (x : ℕ) → x < g .variables p → typed g p x ≡ typed h p x
+    unfolding typed
+    same-typed x n = λ i. read (own (same .bound p l i)) (same .inner p x l n i)
+
+    same-slot : (k : ℕ) → 2 ≤ g .owner p → g .owner p < 2 + g .types → k < g .slots (g .owner p) → typed-slot g p k ≡ typed-slot h p k
+    unfolding typed-slot
+    same-slot k o t n = rw (same .slot (g .owner p) k o t n, same .bound p l, same .owner p l)
+
+    same-optional : (a : Option ℕ) → Below-or-none g p a → optional-variable (typed g p) a ≡ optional-variable (typed h p) a
     unfolding optional-variable
     same-optional none b = refl
-    same-optional (some a) b = ap some (same .inner p a l b)
+    same-optional (some a) b = ap some (same-typed a b)
+
+    -- where ?R of procedure k stands for the same
+    same-passing :
+        (a b k : ℕ) → k < g .procedures → Operands-at g p (Call a b k) → (ρ : Qual) →
+        passing-rule (typed g p) (called g k) ρ a b ≡ passing-rule (typed h p) (called h k) ρ a b
+    unfolding passing-rule
+    same-passing a b k q x ρ =
+        let actuals : each (g .formals k) (λ j. moves (typed g p (b + j)) (read ρ (called g k .need j))) ≡ each (h .formals k) (λ j. moves (typed h p (b + j)) (read ρ (called h k .need j))) =
+        same-each (same .formals k q) (λ j n. ap₂ moves (same-typed (b + j) (x .1 j n)) (ap (read ρ) (same-need same k q j n))) in
+        rw (same-optional (optional a) (x .0), actuals, same .bound k q, same .result k q)
 
     same-rule : (i : ℕ) (o : Operation) → Formed-at g p i o → Operands-at g p o → rule g p o ≡ rule h p o
-    unfolding rule call-rule
-    same-rule i (Set a k) f x = rw (same .inner p a l x)
-    same-rule i (Add a b c) f x = rw (same .inner p a l (x .0), same .inner p b l (x .1), same .inner p c l (x .2))
-    same-rule i (Subtract a b c) f x = rw (same .inner p a l (x .0), same .inner p b l (x .1), same .inner p c l (x .2))
-    same-rule i (Less a b c) f x = rw (same .inner p a l (x .0), same .inner p b l (x .1), same .inner p c l (x .2))
-    same-rule i (JumpZero a k) f x = rw (same .inner p a l x)
-    same-rule i (Bind a b) f x = rw (same .inner p a l (x .0), same .inner p b l (x .1))
-    same-rule i (Take a) f x = rw (same .inner p a l x)
-    same-rule i (Put a) f x = rw (same .inner p a l x)
-    same-rule i (NewArray a b) f x = rw (same .inner p a l (x .0), same .inner p b l (x .1))
-    same-rule i (Fetch a b c) f x = rw (same .inner p a l (x .0), same .inner p b l (x .1), same .inner p c l (x .2))
-    same-rule i (Store a b c) f x = rw (same .inner p a l (x .0), same .inner p b l (x .1), same .inner p c l (x .2))
-    same-rule i (Size a b) f x = rw (same .inner p a l (x .0), same .inner p b l (x .1))
-    same-rule i (NewRecord a) f x = rw (same .named (g .owner p) (f .0) (x .1), same .owner p l, same .inner p a l (x .0))
-    same-rule i (GetSlot a b k) f x =
-        rw (same .slot (g .owner p) k (f .0) (x .2) (f .1), same .owner p l, same .inner p a l (x .0), same .inner p b l (x .1))
-    same-rule i (SetSlot a b k) f x =
-        rw (same .slot (g .owner p) k (f .0) (x .2) (f .1), same .owner p l, same .inner p a l (x .0), same .inner p b l (x .1))
+    unfolding rule call-rule settling-rule
+    same-rule i (Set a k) f x = rw (same-typed a x)
+    same-rule i (Add a b c) f x = rw (same-typed a (x .0), same-typed b (x .1), same-typed c (x .2))
+    same-rule i (Subtract a b c) f x = rw (same-typed a (x .0), same-typed b (x .1), same-typed c (x .2))
+    same-rule i (Less a b c) f x = rw (same-typed a (x .0), same-typed b (x .1), same-typed c (x .2))
+    same-rule i (JumpZero a k) f x = rw (same-typed a x)
+    same-rule i (Bind a b) f x = rw (same-typed a (x .0), same-typed b (x .1))
+    same-rule i (Take a) f x = rw (same-typed a x)
+    same-rule i (Put a) f x = rw (same-typed a x)
+    same-rule i (NewArray a b) f x = rw (same-typed a (x .0), same-typed b (x .1))
+    same-rule i (Fetch a b c) f x = rw (same-typed a (x .0), same-typed b (x .1), same-typed c (x .2))
+    same-rule i (Store a b c) f x = rw (same-typed a (x .0), same-typed b (x .1), same-typed c (x .2))
+    same-rule i (Size a b) f x = rw (same-typed a (x .0), same-typed b (x .1))
+    same-rule i (NewRecord a) f x = rw (same .named (g .owner p) (f .0) (x .1), same .owner p l, same-typed a (x .0))
+    same-rule i (GetSlot a b k) f x = rw (same-slot k (f .0) (x .2) (f .1), same .owner p l, same-typed a (x .0), same-typed b (x .1))
+    same-rule i (SetSlot a b k) f x = rw (same-slot k (f .0) (x .2) (f .1), same .owner p l, same-typed a (x .0), same-typed b (x .1))
     same-rule i (Call a b k) f x =
-        let actuals : each (g .formals k) (λ j. moves (g .inner p (b + j)) (g .need k j)) ≡ each (h .formals k) (λ j. moves (h .inner p (b + j)) (h .need k j)) =
-        same-each (same .formals k (f .0)) (λ j n. ap₂ moves (same .inner p (b + j) l (x .1 j n)) (same .need k j (f .0) n)) in
-        rw (same-optional (optional a) (x .0), actuals, same .result k (f .0))
-    same-rule i (Return a) f x = rw (same-optional (optional a) x, same .result p l)
+        rw (same-passing a b k (f .0) x _, same-found same k (f .0) (typed g p) (typed h p) b (λ j n. same-typed (b + j) (x .1 j n)), same-uses same k (f .0), same .bound k (f .0))
+    same-rule i (Return a) f x = rw (same-optional (optional a) x, same .bound p l, same .result p l)
 
     same-instruction : (i : ℕ) → i < g .instructions p → rule g p (g .operation p i) ≡ rule h p (h .operation p i)
     same-instruction i n = same-rule i (g .operation p i) (formed .operations p i l n) (operands .named p i l n) ∙ ap (rule h p) (same .operation p i l n)

@@ -1,11 +1,12 @@
 -- What related states say of each live frame and of each object of the watched machine; so they are typed:
 -- each filled variable, cell and slot fits its declared type and carries its declared rights.
 use Prim.Native.Nat.{ℕ, zero, suc}
-use mathlib.Core.Path.{_≡_, refl, subst, subst₂}
+use mathlib.Core.Path.{_≡_, refl, subst}
 use mathlib.Core.Bool.{Bool, true, false, false≢true}
 use mathlib.Core.List.{List, [], _∷_}
 use mathlib.Core.Option.{Option, some}
 use lib.ListN.{getD, getElem?}
+use Rattle.model.specs.Rights.{Rights}
 use Rattle.model.specs.Qualified.{Qual}
 use Rattle.model.specs.Program.{Program}
 use Rattle.model.specs.Modes.{plain, watched}
@@ -16,27 +17,29 @@ use Rattle.model.proofs.Relate.{fit, granted, CellRel, blanks, values, 
 
 module _ {g : Program} {h : ℕ → Head watched} where
   live-is :
-      {q j p i : ℕ} {ws vs : List (Cell watched)} {ws′ : List (Cell plain)} → Live g h q ws ws′ →
-      _≡_ {A = Option (Frame watched)} (some (frame q j ws)) (some (frame p i vs)) → (vs′ : List (Cell plain)) × Live g h p vs vs′
-  live-is {q} {p} {ws} {vs} {ws′} l e =
+      {q j p i : ℕ} {y z : Rights} {ws vs : List (Cell watched)} {ws′ : List (Cell plain)} → Live g h q y ws ws′ →
+      _≡_ {A = Option (Frame watched)} (some (frame q j y ws)) (some (frame p i z vs)) → (vs′ : List (Cell plain)) × Live g h p z vs vs′
+  live-is {q} {p} {y} {z} {ws} {vs} {ws′} l e =
       let a : q ≡ p = cc in
-      let b : ws ≡ vs = cc in
-      (ws′, subst₂ (λ (z : ℕ) (us : List (Cell watched)). Live g h z us ws′) a b l)
+      let b : y ≡ z = cc in
+      let c : ws ≡ vs = cc in
+      (ws′, rw (a, b, c) at l)
 
   -- the frames that wait
   waiting :
-      {k : ℕ} {fs : List (Frame watched)} {fs′ : List (Frame plain)} → Stack g h k fs fs′ →
-      (j p i : ℕ) (vs : List (Cell watched)) → getElem? fs j ≡ some (frame p i vs) → (vs′ : List (Cell plain)) × Live g h p vs vs′
-  waiting bottom j p i vs e = let z : _≡_ {A = Bool} false true = cc in absurd (false≢true z)
-  waiting (waits a c l s) zero p i vs e = live-is l e
-  waiting (waits a c l s) (suc j) p i vs e = waiting s j p i vs e
+      {k : ℕ} {y : Rights} {fs : List (Frame watched)} {fs′ : List (Frame plain)} → Stack g h k y fs fs′ →
+      (j p i : ℕ) (z : Rights) (vs : List (Cell watched)) → getElem? fs j ≡ some (frame p i z vs) → (vs′ : List (Cell plain)) × Live g h p z vs vs′
+  waiting bottom j p i z vs e = let n : _≡_ {A = Bool} false true = cc in absurd (false≢true n)
+  waiting (waits a c m l s) zero p i z vs e = live-is l e
+  waiting (waits a c m l s) (suc j) p i z vs e = waiting s j p i z vs e
 
   -- the running frame and those that wait
   pub live-at :
-      {k : ℕ} (n : ℕ) {ws : List (Cell watched)} {ws′ : List (Cell plain)} {fs : List (Frame watched)} {fs′ : List (Frame plain)} → Live g h k ws ws′ → Stack g h k fs fs′ →
-      (j p i : ℕ) (vs : List (Cell watched)) → getElem? (frame k n ws ∷ fs) j ≡ some (frame p i vs) → (vs′ : List (Cell plain)) × Live g h p vs vs′
-  live-at n l s zero p i vs e = live-is l e
-  live-at n l s (suc j) p i vs e = waiting s j p i vs e
+      {k : ℕ} (n : ℕ) {y : Rights} {ws : List (Cell watched)} {ws′ : List (Cell plain)} {fs : List (Frame watched)} {fs′ : List (Frame plain)} →
+      Live g h k y ws ws′ → Stack g h k y fs fs′ →
+      (j p i : ℕ) (z : Rights) (vs : List (Cell watched)) → getElem? (frame k n y ws ∷ fs) j ≡ some (frame p i z vs) → (vs′ : List (Cell plain)) × Live g h p z vs vs′
+  live-at n l s zero p i z vs e = live-is l e
+  live-at n l s (suc j) p i z vs e = waiting s j p i z vs e
 
   pub object-at :
       {os : List (Object watched)} {os′ : List (Object plain)} → Objects g h os os′ →
@@ -60,7 +63,7 @@ module _ (g : Program) (os : List (Object watched)) where
 pub none-typed : (g : Program) (os : List (Object watched)) {os′ : List (Object plain)} → Objects g (heads os) os os′ → Typed g (snapshot [] os)
 none-typed g os ob =
     record {
-      variables = λ j p i vs e x. let z : _≡_ {A = Bool} false true = cc in absurd (false≢true z);
+      variables = λ j p i z vs e x. let n : _≡_ {A = Bool} false true = cc in absurd (false≢true n);
       cells = λ j e cs at x. array-proper g os (object-at ob j (array-of e cs) at .1) x;
       slots = λ j t cs at x. record-proper g os (object-at ob j (record-of t cs) at .1) x;
     }
@@ -68,7 +71,7 @@ none-typed g os ob =
 pub state-typed : (g : Program) {s : State watched} {s′ : State plain} → StateRel g s s′ → Typed g (shot s)
 state-typed g (states {i = n} {os} l v st ob) =
     record {
-      variables = λ j p i vs at x. proper os (row-get (live-at n v st j p i vs at .1 .row) x);
+      variables = λ j p i z vs at x. proper os (row-get (live-at n v st j p i z vs at .1 .row) x);
       cells = λ j e cs at x. array-proper g os (object-at ob j (array-of e cs) at .1) x;
       slots = λ j t cs at x. record-proper g os (object-at ob j (record-of t cs) at .1) x;
     }

@@ -6,7 +6,7 @@ use mathlib.Core.Logic.{_⊎_, inl, inr}
 use mathlib.Core.List.{List, [], _∷_, _++_}
 use native.Mathlib.Omega.{arith}
 use native.Mathlib.Numerals.{add-one}
-use Rattle.model.specs.Refusal.{Refusal, overlong, torn, stray-mark, bad-edition, off-scale, open-exposed, false-raise, type-mismatch, insufficient-rights, big-memory, refusal-number, Test, test, Tests, tests, failure, refuse, verdict, span, each, all-from}
+use Rattle.model.specs.Refusal.{Refusal, overlong, torn, stray-mark, bad-edition, off-scale, open-exposed, false-raise, type-mismatch, insufficient-rights, big-memory, unsettled, short-set, refusal-number, Test, test, Tests, tests, failure, refuse, verdict, span, each, all-from}
 use Rattle.model.specs.declared.Verdict.{Verdict}
 use Rattle.model.specs.declared.Verdict.the-variants.{Accepted, Refused}
 
@@ -44,6 +44,8 @@ number-first false-raise n = refl
 number-first type-mismatch n = refl
 number-first insufficient-rights n = refl
 number-first big-memory n = refl
+number-first unsettled n = refl
+number-first short-set n = refl
 
 cond-first : (b : Bool) (r : Refusal) (m n : ℕ) → cond b (first m n) (refusal-number r) ≡ first (cond b m (refusal-number r)) n
 cond-first true r m n = refl
@@ -218,6 +220,8 @@ number-pos false-raise h = omega arith
 number-pos type-mismatch h = omega arith
 number-pos insufficient-rights h = omega arith
 number-pos big-memory h = omega arith
+number-pos unsettled h = omega arith
+number-pos short-set h = omega arith
 
 pub passed-test : (r : Refusal) (b : Bool) (ts : List Test) → failure (test r b ∷ ts) ≡ 0 → (b ≡ true) × (failure ts ≡ 0)
 unfolding failure

@@ -1,12 +1,13 @@
--- Condition 3 over a program (document 01, "Condition 3 is a single claim about the whole run"): what it says.
+-- Condition 3 over a program (document 01, "Condition 3 is a single claim about the whole run"; document 02, S-1): what it says.
 use Prim.Native.Nat.{ℕ, _≤_}
 use mathlib.Core.Path.{_≡_}
 use mathlib.Core.Bool.{true, false}
 use mathlib.Core.List.{List}
 use mathlib.Core.Option.{some}
 use lib.ListN.{length, getD, getElem?}
-use Rattle.model.specs.Rights.{has, open-right}
+use Rattle.model.specs.Rights.{Rights, has, open-right}
 use Rattle.model.specs.Qualified.{Qual, rights}
+use Rattle.model.specs.Generic.{instance, read}
 use Rattle.model.specs.Program.{Program}
 use Rattle.model.specs.Outcome.{Stop, done, fuel-spent, blank, past-end, input-ended, output-full, memory-full, wrong-kind, missing-right}
 use Rattle.model.specs.Modes.{plain, watched, Kind, record-kind, fits}
@@ -31,11 +32,12 @@ frames (snapshot fs os) = fs
 abbrev pub objects : Snapshot watched → List (Object watched)
 objects (snapshot fs os) = os
 
--- "a variable is declared by its inner QT, a cell of a tray by the object's element, a slot by the TY"
+-- "a variable is declared by its inner QT, a cell of a tray by the object's element, a slot by the TY"; S-1: "condition 3 reads ?R as the GN's base with
+-- that set", the one that the frame holds
 pub record Typed (g : Program) (s : Snapshot watched) : Type 0 where
   pub variables :
-      (j p i : ℕ) (vs : List (Cell watched)) → getElem? (frames s) j ≡ some (frame p i vs) →
-      (x : ℕ) → Proper (objects s) (g .inner p x) (getD vs x empty)
+      (j p i : ℕ) (z : Rights) (vs : List (Cell watched)) → getElem? (frames s) j ≡ some (frame p i z vs) →
+      (x : ℕ) → Proper (objects s) (read (instance (g .bound p) z) (g .inner p x)) (getD vs x empty)
   pub cells :
       (j : ℕ) (e : Qual) (cs : List (Cell watched)) → getElem? (objects s) j ≡ some (array-of e cs) →
       (x : ℕ) → Proper (objects s) e (getD cs x empty)
@@ -88,6 +90,6 @@ Shut (filled v r) = has open-right r ≡ false
 -- so no frame of another module, and no object through which another module could reach it, ever holds a record together with open
 pub record OpenStays (g : Program) (s : Snapshot watched) : Type 0 where
   pub variables :
-      (j p i : ℕ) (vs : List (Cell watched)) → getElem? (frames s) j ≡ some (frame p i vs) →
+      (j p i : ℕ) (z : Rights) (vs : List (Cell watched)) → getElem? (frames s) j ≡ some (frame p i z vs) →
       (x : ℕ) → Opens (objects s) (g .owner p) (getD vs x empty)
   pub cells : (j : ℕ) (o : Object watched) → getElem? (objects s) j ≡ some o → (x : ℕ) → Shut (getD (cells-of o) x empty)

@@ -9,11 +9,12 @@ use lib.ListN.{length, getD, set, replicate}
 use Rattle.model.specs.Rights.{fetch-right, store-right, size-right, open-right, array-rights, record-rights}
 use Rattle.model.specs.Qualified.{Qual, element, isArray}
 use Rattle.model.specs.Program.{Program}
-use Rattle.model.specs.Rules.{optional, keeps}
+use Rattle.model.specs.Generic.{read, read-result, some-uses}
+use Rattle.model.specs.Rules.{optional, keeps, called, found-by}
 use Rattle.model.specs.declared.Operation.{Operation}
 use Rattle.model.specs.declared.Operation.the-variants.{Set, Add, Subtract, Less, JumpZero, Bind, Take, Put, NewArray, Fetch, Store, Size, NewRecord, GetSlot, SetSlot, Call, Return}
 use Rattle.model.specs.Outcome.{blank, past-end, input-ended, output-full, memory-full, Res, ok, stop, _>>=_, _>>_, ensure, found}
-use Rattle.model.specs.Modes.{Mode, Carried, ElementInfo, TypeInfo, carried, element-info, type-info, Kind, integer-kind, array-kind, record-kind, no-kind, amiss, demand, licence, is-of, bind, raise, bind-element, bind-result}
+use Rattle.model.specs.Modes.{Mode, Carried, ElementInfo, TypeInfo, SettledSet, in-frame, settle-set, carried, element-info, type-info, Kind, integer-kind, array-kind, record-kind, no-kind, amiss, demand, licence, is-of, bind, raise, bind-element, bind-result}
 
 -- ---- The state
 
@@ -31,9 +32,9 @@ pub data Object (m : Mode) : Type 0 where
   array-of : ElementInfo m → List (Cell m) → Object m
   record-of : TypeInfo m → List (Cell m) → Object m
 
--- "frames (procedure, next instruction, variables)"
+-- "frames (procedure, next instruction, variables)"; "The watched frame holds the settled set"
 pub data Frame (m : Mode) : Type 0 where
-  frame : (procedure next : ℕ) → List (Cell m) → Frame m
+  frame : (procedure next : ℕ) → SettledSet m → List (Cell m) → Frame m
 
 -- the running frame, the frames that wait for it, the objects, the reads left, the words put
 pub data State (m : Mode) : Type 0 where
@@ -55,7 +56,7 @@ object-units (o ∷ os) = suc (length (cells-of o)) + object-units os
 
 unfoldable pub frame-units : {m : Mode} → List (Frame m) → ℕ
 frame-units [] = 0
-frame-units (frame p i vs ∷ fs) = (length vs + 2) + frame-units fs
+frame-units (frame p i z vs ∷ fs) = (length vs + 2) + frame-units fs
 
 -- the object of a name
 unfoldable pub find : {m : Mode} → List (Object m) → ℕ → Option (Object m)
@@ -88,9 +89,10 @@ cell-of none i = empty
 cell-of (some o) i = getD (cells-of o) i empty
 
 pub record View (m : Mode) : Type 0 where
-  -- the running procedure, and the place of the frame that waits for it
+  -- the running procedure and its frame's set; the place and the set of the frame that waits for it
   pub procedure : ℕ
-  pub caller : Option (ℕ × ℕ)
+  pub set-held : SettledSet m
+  pub caller : Option (ℕ × ℕ × SettledSet m)
   pub variable : ℕ → Cell m
   pub head : ℕ → Head m
   pub cell : ℕ → ℕ → Cell m
@@ -99,23 +101,24 @@ pub record View (m : Mode) : Type 0 where
   pub free : ℕ
   pub next-input : Option ℕ
 
-abbrev pub caller-place : {m : Mode} → List (Frame m) → Option (ℕ × ℕ)
+abbrev pub caller-place : {m : Mode} → List (Frame m) → Option (ℕ × ℕ × SettledSet m)
 caller-place [] = none
-caller-place (frame p i vs ∷ fs) = some (p, i)
+caller-place (frame p i z vs ∷ fs) = some (p, i, z)
 
 abbrev pub first-of : List ℕ → Option ℕ
 first-of [] = none
 first-of (n ∷ ns) = some n
 
 abbrev pub view : {m : Mode} → (memory output : ℕ) → State m → View m
-view memory output (state (frame p i vs) fs os input put) =
+view memory output (state (frame p i z vs) fs os input put) =
     record {
       procedure = p;
+      set-held = z;
       caller = caller-place fs;
       variable = λ x. getD vs x empty;
       head = λ a. head-of (find os a);
       cell = λ a. cell-of (find os a);
-      room = memory - (frame-units (frame p i vs ∷ fs) + object-units os);
+      room = memory - (frame-units (frame p i z vs ∷ fs) + object-units os);
       free = output - length put;
       next-input = first-of input;
     }
@@ -134,8 +137,8 @@ pub data Effect (m : Mode) : Type 0 where
   new-record : (a : ℕ) → TypeInfo m → (size : ℕ) → Carried m → Effect m
   -- cell i of an object becomes a cell
   store : (object i : ℕ) → Cell m → Effect m
-  -- a frame of procedure k with these first variables; the caller goes on, with a variable that becomes a cell, or the run is over
-  call : (k : ℕ) → List (Cell m) → Effect m
+  -- a frame of procedure k with this set and these first variables; the caller goes on, with a variable that becomes a cell, or the run is over
+  call : (k : ℕ) → SettledSet m → List (Cell m) → Effect m
   resume : Option (ℕ × Cell m) → Effect m
   finish : Effect m
 
@@ -210,9 +213,13 @@ flag true = 1
 flag false = 0
 
 module _ (m : Mode) (g : Program) (v : View m) where
+  -- a type of procedure k in a frame of it with this set
+  abbrev pub read-in : (k : ℕ) → SettledSet m → Qual → Qual
+  read-in k z q = read (in-frame m (g .bound k) z) q
+
   -- the declared type of variable x of the running procedure
   abbrev pub declared-as : ℕ → Qual
-  declared-as x = g .inner (v .procedure) x
+  declared-as x = read-in (v .procedure) (v .set-held) (g .inner (v .procedure) x)
 
   abbrev pub kind-of : Value → Kind m
   kind-of x = kind-at (v .head) x
@@ -314,51 +321,57 @@ module _ (m : Mode) (g : Program) (v : View m) where
     o ← record-at t (x .0)
     licence m open-right (x .1)
     slot-there (ltb k (o .1))
-    d ← moved (g .slot t k) (v .variable b)
+    d ← moved (read-in (v .procedure) (v .set-held) (g .slot t k)) (v .variable b)
     ok (store (o .0) k d)
 
-  -- "A call binds each actual to need; then .."
-  unfoldable pub actual : (k b j : ℕ) → Res (Cell m)
-  actual k b j = do
-    c ← moved (g .need k j) (v .variable (b + j))
+  -- "A call settles ?R from the declared type of each actual whose need uses it", of a call of procedure k with variables from b on
+  unfoldable pub settle-call : (k b : ℕ) → Res (SettledSet m)
+  settle-call k b =
+      settle-set m (g .bound k) (some-uses (called g k .need) 0 (g .formals k)) (found-by declared-as (called g k) b)
+
+  -- "A call binds each actual to need; then ..", in a frame with set z
+  unfoldable pub actual : (k b : ℕ) → SettledSet m → (j : ℕ) → Res (Cell m)
+  actual k b z j = do
+    c ← moved (read-in k z (g .need k j)) (v .variable (b + j))
     h ← held c
-    r ← raise m (g .owner k) (g .inner k j) (kind-of (h .0)) (h .1)
+    r ← raise m (g .owner k) (g .inner k j) (read-in k z (g .inner k j)) (kind-of (h .0)) (h .1)
     ok (filled (h .0) r)
 
   -- the actuals from number j on, n of them
-  unfoldable pub actuals : (k b j n : ℕ) → Res (List (Cell m))
-  actuals k b j zero = ok []
-  actuals k b j (suc n) = do
-    c ← actual k b j
-    cs ← actuals k b (suc j) n
+  unfoldable pub actuals : (k b : ℕ) → SettledSet m → (j n : ℕ) → Res (List (Cell m))
+  actuals k b z j zero = ok []
+  actuals k b z j (suc n) = do
+    c ← actual k b z j
+    cs ← actuals k b z (suc j) n
     ok (c ∷ cs)
 
   unfoldable pub plan-call : (a b k : ℕ) → Res (Effect m)
   plan-call a b k = do
     demand m (keeps (optional a) (g .result k))
+    z ← settle-call k b
     ensure memory-full (leb (g .variables k + 2) (v .room))
-    cs ← actuals k b 0 (g .formals k)
-    ok (call k cs)
+    cs ← actuals k b z 0 (g .formals k)
+    ok (call k z cs)
 
   -- the value that a return hands over, bound to the result
   unfoldable pub handed : Option ℕ → Res (Option (Cell m))
   handed none = ok none
   handed (some a) = do
     h ← held (v .variable a)
-    r ← bind-result m (g .result (v .procedure)) (kind-of (h .0)) (h .1)
+    r ← bind-result m (read-result (in-frame m (g .bound (v .procedure)) (v .set-held)) (g .result (v .procedure))) (kind-of (h .0)) (h .1)
     ok (some (filled (h .0) r))
 
-  -- ".. then to a": variable a of procedure p; "or a kept result has no value"
-  unfoldable pub into-caller : (p : ℕ) → Option ℕ → Option (Cell m) → Res (Effect m)
-  into-caller p none c = ok (resume none)
-  into-caller p (some a) none = amiss m
-  into-caller p (some a) (some c) = do
-    d ← moved (g .inner p a) c
+  -- ".. then to a": variable a of procedure p, in a frame with set z; "or a kept result has no value"
+  unfoldable pub into-caller : (p : ℕ) → SettledSet m → Option ℕ → Option (Cell m) → Res (Effect m)
+  into-caller p z none c = ok (resume none)
+  into-caller p z (some a) none = amiss m
+  into-caller p z (some a) (some c) = do
+    d ← moved (read-in p z (g .inner p a)) c
     ok (resume (some (a, d)))
 
-  unfoldable pub to-caller : Option (ℕ × ℕ) → Option (Cell m) → Res (Effect m)
+  unfoldable pub to-caller : Option (ℕ × ℕ × SettledSet m) → Option (Cell m) → Res (Effect m)
   to-caller none c = ok finish
-  to-caller (some place) c = into-caller (place .0) (kept (g .operation (place .0) (pred (place .1)))) c
+  to-caller (some place) c = into-caller (place .0) (place .2) (kept (g .operation (place .0) (pred (place .1)))) c
 
   unfoldable pub plan-return : Option ℕ → Res (Effect m)
   plan-return a = do
@@ -428,27 +441,27 @@ rest-of (n ∷ ns) = ns
 -- "frames are given back on return, objects are not"
 abbrev pub given-back : {m : Mode} → Option (ℕ × Cell m) → List (Frame m) → List (Object m) → (input out : List ℕ) → Next m
 given-back w [] os input out = finished
-given-back w (frame p i vs ∷ fs) os input out = go (state (frame p i (set-kept vs w)) fs os input out)
+given-back w (frame p i z vs ∷ fs) os input out = go (state (frame p i z (set-kept vs w)) fs os input out)
 
 unfoldable pub apply : {m : Mode} → Program → State m → Effect m → Next m
-apply g (state (frame p i vs) fs os input out) (write a c) = go (state (frame p (suc i) (set vs a c)) fs os input out)
-apply g (state (frame p i vs) fs os input out) (take a c) =
-    go (state (frame p (suc i) (set vs a c)) fs os (rest-of input) out)
-apply g (state (frame p i vs) fs os input out) (put n) = go (state (frame p (suc i) vs) fs os input (out ++ (n ∷ [])))
-apply g (state (frame p i vs) fs os input out) (jump k) = go (state (frame p k vs) fs os input out)
-apply g (state (frame p i vs) fs os input out) skip = go (state (frame p (suc i) vs) fs os input out)
-apply g (state (frame p i vs) fs os input out) (new-array a e n r) =
-    go (state (frame p (suc i) (set vs a (filled (object (object-units os)) r))) fs (os ++ (array-of e (replicate n empty) ∷ [])) input out)
-apply g (state (frame p i vs) fs os input out) (new-record a t n r) =
-    go (state (frame p (suc i) (set vs a (filled (object (object-units os)) r))) fs (os ++ (record-of t (replicate n empty) ∷ [])) input out)
-apply g (state (frame p i vs) fs os input out) (store a j c) = go (state (frame p (suc i) vs) fs (update os a j c) input out)
-apply g (state (frame p i vs) fs os input out) (call k cs) =
-    go (state (frame k 0 (cs ++ replicate (g .variables k - g .formals k) empty)) (frame p (suc i) vs ∷ fs) os input out)
-apply g (state (frame p i vs) fs os input out) (resume w) = given-back w fs os input out
-apply g (state (frame p i vs) fs os input out) finish = finished
+apply g (state (frame p i z vs) fs os input out) (write a c) = go (state (frame p (suc i) z (set vs a c)) fs os input out)
+apply g (state (frame p i z vs) fs os input out) (take a c) =
+    go (state (frame p (suc i) z (set vs a c)) fs os (rest-of input) out)
+apply g (state (frame p i z vs) fs os input out) (put n) = go (state (frame p (suc i) z vs) fs os input (out ++ (n ∷ [])))
+apply g (state (frame p i z vs) fs os input out) (jump k) = go (state (frame p k z vs) fs os input out)
+apply g (state (frame p i z vs) fs os input out) skip = go (state (frame p (suc i) z vs) fs os input out)
+apply g (state (frame p i z vs) fs os input out) (new-array a e n r) =
+    go (state (frame p (suc i) z (set vs a (filled (object (object-units os)) r))) fs (os ++ (array-of e (replicate n empty) ∷ [])) input out)
+apply g (state (frame p i z vs) fs os input out) (new-record a t n r) =
+    go (state (frame p (suc i) z (set vs a (filled (object (object-units os)) r))) fs (os ++ (record-of t (replicate n empty) ∷ [])) input out)
+apply g (state (frame p i z vs) fs os input out) (store a j c) = go (state (frame p (suc i) z vs) fs (update os a j c) input out)
+apply g (state (frame p i z vs) fs os input out) (call k y cs) =
+    go (state (frame k 0 y (cs ++ replicate (g .variables k - g .formals k) empty)) (frame p (suc i) z vs ∷ fs) os input out)
+apply g (state (frame p i z vs) fs os input out) (resume w) = given-back w fs os input out
+apply g (state (frame p i z vs) fs os input out) finish = finished
 
 abbrev pub operation-in : {m : Mode} → Program → State m → Operation
-operation-in g (state (frame p i vs) fs os input out) = g .operation p i
+operation-in g (state (frame p i z vs) fs os input out) = g .operation p i
 
 unfoldable pub step : {m : Mode} → Program → (memory output : ℕ) → State m → Res (Next m)
 step {m} g memory output s = do

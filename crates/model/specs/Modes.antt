@@ -3,10 +3,13 @@
 -- no test of kind or right is made, and a value of the wrong kind is stuck.
 use Prim.Native.Nat.{ℕ}
 use mathlib.Core.Bool.{Bool, true, false, _&&_}
+use mathlib.Core.List.{List}
 use mathlib.Core.Option.{Option, none, some}
 use lib.Dec.{eqb, leb}
 use Rattle.model.specs.Rights.{Rights, within, has}
 use Rattle.model.specs.Qualified.{Qual, base, rights, element, isInteger, isArray, elements}
+use Rattle.model.specs.Generic.{Bound, own, instance, settled, is-settled, is-enough}
+use Rattle.model.specs.Rules.{amplifies}
 use Rattle.model.specs.Outcome.{wrong-kind, missing-right, Res, ok, stop, stuck, _>>=_, _>>_, ensure}
 
 pub data Mode : Type 0 where
@@ -24,6 +27,15 @@ ElementInfo watched = Qual
 abbrev pub TypeInfo : Mode → Type 0
 TypeInfo plain = Unit {0}
 TypeInfo watched = ℕ
+
+-- "The watched frame holds the settled set" (document 02, S-1)
+abbrev pub SettledSet : Mode → Type 0
+SettledSet plain = Unit {0}
+SettledSet watched = Rights
+
+abbrev pub settled-set : (m : Mode) → Rights → SettledSet m
+settled-set plain r = tt
+settled-set watched r = r
 
 abbrev pub carried : (m : Mode) → Rights → Carried m
 carried plain r = tt
@@ -81,6 +93,19 @@ bind watched q k r = do
   ensure missing-right (within (rights q) r)
   ok (rights q)
 
+-- what ?R stands for in a frame: the bound's base with the frame's set; the plain machine reads no type
+abbrev pub in-frame : (m : Mode) → Bound → SettledSet m → Qual
+in-frame plain b s = own b
+in-frame watched b s = instance b s
+
+-- what a call settles ?R to: "watch stops there with 18 or 19, with kinds, reading a caller's ?R as its frame's set"
+unfoldable pub settle-set : (m : Mode) → Bound → (used : Bool) → List Qual → Res (SettledSet m)
+settle-set plain b used found = ok tt
+settle-set watched b used found = do
+  ensure wrong-kind (is-settled b used found)
+  ensure missing-right (is-enough b found)
+  ok (rights (settled b found))
+
 -- "then, if its type and inner's base are the callee's owner (2 or more), it carries inner's rights, else it is bound to inner"
 unfoldable pub is-record-of : ℕ → Kind watched → Bool
 is-record-of o integer-kind = false
@@ -92,9 +117,10 @@ unfoldable pub raise-if : Bool → Qual → Kind watched → Rights → Res Righ
 raise-if true inner k r = ok (rights inner)
 raise-if false inner k r = bind watched inner k r
 
-unfoldable pub raise : (m : Mode) → (owner : ℕ) → Qual → Kind m → Carried m → Res (Carried m)
-raise plain o inner k r = ok tt
-raise watched o inner k r = raise-if (is-record-of o k && eqb (base inner) o) inner k r
+-- `inner` is as its record has it, for ?R "is never amplified", and `as-read` is what it is read as
+unfoldable pub raise : (m : Mode) → (owner : ℕ) → (inner as-read : Qual) → Kind m → Carried m → Res (Carried m)
+raise plain o inner q k r = ok tt
+raise watched o inner q k r = raise-if (is-record-of o k && amplifies o inner) q k r
 
 -- an array's cells are declared by its element
 unfoldable pub bind-element : (m : Mode) → ElementInfo m → Kind m → Carried m → Res (Carried m)

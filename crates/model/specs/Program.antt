@@ -2,6 +2,7 @@
 use Prim.Native.Nat.{ℕ}
 use mathlib.Core.Option.{Option}
 use Rattle.model.specs.Qualified.{Qual}
+use Rattle.model.specs.Generic.{Bound}
 use Rattle.model.specs.declared.Operation.{Operation}
 
 pub record Program : Type 0 where
@@ -13,11 +14,12 @@ pub record Program : Type 0 where
   pub named : ℕ → ℕ
   pub slots : ℕ → ℕ
   pub slot : ℕ → ℕ → Qual
-  -- procedures: the owner's type (0 none), formals, variables, result, instructions
+  -- procedures: the owner's type (0 none), formals, variables, the bound of its rights name, result, instructions; types as their records have them, unread
   pub procedures : ℕ
   pub owner : ℕ → ℕ
   pub formals : ℕ → ℕ
   pub variables : ℕ → ℕ
+  pub bound : ℕ → Bound
   pub result : ℕ → Option Qual
   pub inner : ℕ → ℕ → Qual
   pub need : ℕ → ℕ → Qual

@@ -1,15 +1,18 @@
 -- Refusals, and how a list of tests gives a verdict: the first test that fails is the refusal (document 01, "What check, run and watch say").
-use Prim.Native.Nat.{ℕ, zero, suc, _≤_}
+use Prim.Native.Nat.{ℕ, zero, suc}
+use mathlib.Core.Path.{_≡_}
 use mathlib.Core.Bool.{Bool, true, _&&_, cond}
 use mathlib.Core.List.{List, [], _∷_, _++_}
+use lib.Dec.{leb}
 use Rattle.model.specs.declared.Verdict.{Verdict}
 use Rattle.model.specs.declared.Verdict.the-variants.{Accepted, Refused}
 
 pub data Refusal : Type 0 where
   overlong torn stray-mark bad-edition off-scale : Refusal
   open-exposed false-raise type-mismatch insufficient-rights big-memory : Refusal
+  unsettled short-set : Refusal
 
--- the paper's number of each: overlong, torn, stray mark, edition, off scale, loose key, false raise, wrong kind, no licence, big bench
+-- the paper's number of each: overlong, torn, stray mark, edition, off scale, loose key, false raise, wrong kind, no licence, big bench; document 02: unsettled, short
 abbrev pub refusal-number : Refusal → ℕ
 refusal-number overlong = 1
 refusal-number torn = 2
@@ -21,6 +24,8 @@ refusal-number false-raise = 7
 refusal-number type-mismatch = 8
 refusal-number insufficient-rights = 9
 refusal-number big-memory = 10
+refusal-number unsettled = 20
+refusal-number short-set = 21
 
 -- the number and the place that a verdict stands for; an accepted sheet has 0 and 0
 abbrev pub verdict-number : Verdict → ℕ
@@ -31,10 +36,13 @@ abbrev pub verdict-place : Verdict → ℕ
 verdict-place Accepted = 0
 verdict-place (Refused n at) = at
 
--- accepted, or refused with a number from m to n
-abbrev pub Gives : (m n : ℕ) → Verdict → Type 0
-Gives m n Accepted = Unit {0}
-Gives m n (Refused k at) = (m ≤ k) × (k ≤ n)
+abbrev pub between : (m n k : ℕ) → Bool
+between m n k = leb m k && leb k n
+
+-- accepted, or refused with one of some numbers
+abbrev pub Gives : (number : ℕ → Bool) → Verdict → Type 0
+Gives number Accepted = Unit {0}
+Gives number (Refused k at) = number k ≡ true
 
 -- a test that must hold, and what is said where it does not
 pub data Test : Type 0 where

@@ -1,5 +1,5 @@
 -- Sets of rights (document 01, "Bytes of a worksheet": "rights, bit i = right i"). No width is fixed here.
-use Prim.Native.Nat.{ℕ, _+_, _-_, _/_, _%_, _^_}
+use Prim.Native.Nat.{ℕ, _+_, _-_, _*_, _/_, _%_, _^_}
 use mathlib.Core.Bool.{Bool}
 use lib.Dec.{eqb}
 use lib.Bits.{bitAnd}
@@ -14,6 +14,10 @@ within asked held = eqb (bitAnd asked held) asked
 -- right i is in `held`
 unfoldable pub has : ℕ → Rights → Bool
 has i held = eqb (held / 2 ^ i % 2) 1
+
+-- "open left out" (document 02, S-1)
+unfoldable pub less-open : Rights → Rights
+less-open held = 2 * (held / 2)
 
 -- "Tray: bits 1 fetch, 2 store, 3 size"; "right 0 is open"
 abbrev pub open-right : ℕ

@@ -7,7 +7,7 @@ use lib.Dec.{leb}
 use lib.ListN.{length, drop, replicate}
 use Rattle.model.specs.Program.{Program}
 use Rattle.model.specs.Outcome.{Stop, done, fuel-spent, memory-full, Res, ok, stop, stuck}
-use Rattle.model.specs.Modes.{Mode}
+use Rattle.model.specs.Modes.{Mode, settled-set}
 use Rattle.model.specs.Machine.{Frame, frame, Object, State, state, empty, Next, go, finished, step}
 
 -- how a run ends: the stop, steps, the words put, procedure and instruction; or stuck
@@ -21,10 +21,10 @@ words-put (stuck-at n put p i) = put
 
 -- "The place is that of the instruction stopped at, or of main's return"
 abbrev pub end-in : {m : Mode} → Stop → ℕ → State m → End
-end-in x n (state (frame p i vs) fs os input put) = stopped x n put p i
+end-in x n (state (frame p i z vs) fs os input put) = stopped x n put p i
 
 abbrev pub stuck-in : {m : Mode} → ℕ → State m → End
-stuck-in n (state (frame p i vs) fs os input put) = stuck-at n put p i
+stuck-in n (state (frame p i z vs) fs os input put) = stuck-at n put p i
 
 -- the live frames and the objects at some moment; there is no frame before main's opens and after it returned
 pub data Snapshot (m : Mode) : Type 0 where
@@ -63,9 +63,9 @@ module _ (m : Mode) (g : Program) (memory output : ℕ) where
   advance (running n s) = settle n s (step g memory output s)
   advance (over e x) = over e x
 
-  -- "Main's frame is opened first, at no step."; "17 before main opens gives 0, 0"
+  -- "Main's frame is opened first, at no step.", with no set, for main has no rights name; "17 before main opens gives 0, 0"
   unfoldable pub opened : (input : List ℕ) → State m
-  opened input = state (frame 0 0 (replicate (g .variables 0) empty)) [] [] input []
+  opened input = state (frame 0 0 (settled-set m 0) (replicate (g .variables 0) empty)) [] [] input []
 
   unfoldable pub start : (input : List ℕ) → Moment m
   start input = cond (leb (g .variables 0 + 2) memory) (running 0 (opened input)) (over (stopped memory-full 0 [] 0 0) (snapshot [] []))

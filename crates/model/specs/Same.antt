@@ -15,6 +15,7 @@ pub record Same (g h : Program) : Type 0 where
   pub owner : (p : ℕ) → p < g .procedures → g .owner p ≡ h .owner p
   pub formals : (p : ℕ) → p < g .procedures → g .formals p ≡ h .formals p
   pub variables : (p : ℕ) → p < g .procedures → g .variables p ≡ h .variables p
+  pub bound : (p : ℕ) → p < g .procedures → g .bound p ≡ h .bound p
   pub result : (p : ℕ) → p < g .procedures → g .result p ≡ h .result p
   pub inner : (p x : ℕ) → p < g .procedures → x < g .variables p → g .inner p x ≡ h .inner p x
   pub need : (p x : ℕ) → p < g .procedures → x < g .formals p → g .need p x ≡ h .need p x

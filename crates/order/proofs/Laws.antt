@@ -1,21 +1,22 @@
 -- Equality and order of two qualified types by their words, as the code asks them.
-use Prim.Native.Nat.{ℕ, zero, suc}
-use mathlib.Core.Path.{_≡_, refl, sym, ap₂, _∙_}
+use Prim.Native.Nat.{ℕ, zero, suc, _+_, _-_, _%_, _<_, _≤_}
+use mathlib.Core.Path.{_≡_, refl, sym, ap, ap₂, _∙_}
 use mathlib.Core.List.{List}
 use mathlib.Core.Bool.{Bool, true, false, false≢true, _&&_, _||_, cond}
 use native.Mathlib.Omega.{arith}
-use lib.Dec.{eqb, ltb}
-use borrow.Author.Tests.{eqb-true, ne-eqb}
-use Rattle.model.specs.Rights.{within}
-use Rattle.model.specs.Qualified.{Qual, integer, array, declared, rights, isInteger, same, alike, order}
+use lib.Dec.{eqb, ltb, leb}
+use borrow.Author.Tests.{eqb-true, eqb-false, eq-eqb, ne-eqb, ltb-true, ltb-false, lt-ltb, le-ltb, le-leb}
+use Rattle.model.specs.Rights.{Rights}
+use Rattle.model.specs.Qualified.{Qual, integer, array, declared, generic, base, isInteger, same, alike, covers, order}
 use Rattle.model.specs.Refusal.{failure}
-use Rattle.model.specs.Rules.{moves}
+use Rattle.model.specs.Rules.{moves, amplifies}
 use Rattle.model.proofs.Verdicts.{both-true}
-use Rattle.sheet.specs.Meaning.{shaped}
-use Rattle.index.specs.Types.{word-in, rights-of, base-of, element-of, element-below, qualIn}
-use Rattle.index.proofs.Trees.{qual-shaped, none-qual}
+use Rattle.index.specs.Types.{word-in, rights-of, shape-of, element-of, element-below, qualIn, word-as, typeIn}
+use Rattle.index.proofs.Trees.{Shape, an-integer, an-array, a-declared, a-generic, shape-is, qual-shaped}
+use Rattle.index.proofs.Reading.{type-integer, base-as, none-type, type-word-as}
 
--- same rights, of two types of base b; an integer has none
+-- ---- two types by their shapes
+-- same rights, of two types of shape b; an integer has none
 abbrev same-rights : (b r u : ℕ) → Bool
 same-rights b r u = eqb b 0 || eqb r u
 
@@ -32,36 +33,123 @@ and-no : (t x : Bool) → cond (t && false) x t ≡ t
 and-no true x = refl
 and-no false x = refl
 
-same-shaped : (b r c u : ℕ) (e f : Qual)
-    → same (shaped b r e) (shaped c u f) ≡ eqb b c && cond (same-rights b r u && eqb b 1) (same e f) (same-rights b r u)
-unfolding same shaped
-same-shaped zero r zero u e f = refl
-same-shaped zero r (suc zero) u e f = refl
-same-shaped zero r (suc (suc c)) u e f = rw (ne-eqb 0 (suc (suc c)) (λ z. omega arith))
-same-shaped (suc zero) r zero u e f = refl
-same-shaped (suc zero) r (suc zero) u e f = rw (and-then (eqb r u) (same e f))
-same-shaped (suc zero) r (suc (suc c)) u e f = rw (ne-eqb 1 (suc (suc c)) (λ z. omega arith))
-same-shaped (suc (suc b)) r zero u e f = rw (ne-eqb (suc (suc b)) 0 (λ z. omega arith))
-same-shaped (suc (suc b)) r (suc zero) u e f = rw (ne-eqb (suc (suc b)) 1 (λ z. omega arith))
-same-shaped (suc (suc b)) r (suc (suc c)) u e f =
-    rw (ne-eqb (suc (suc b)) 0 (λ z. omega arith), ne-eqb (suc (suc b)) 1 (λ z. omega arith), and-no (eqb r u) (same e f))
+and-if : (t x y : Bool) → (t ≡ false → y ≡ false) → t && x ≡ cond t x y
+and-if true x y h = refl
+and-if false x y h = sym (h refl)
 
-alike-shaped : (b r c u : ℕ) (e f : Qual) → alike (shaped b r e) (shaped c u f) ≡ cond (eqb b c && eqb b 1) (same e f) (eqb b c)
-unfolding alike shaped
-alike-shaped zero r zero u e f = refl
-alike-shaped zero r (suc zero) u e f = refl
-alike-shaped zero r (suc (suc c)) u e f = rw (ne-eqb 0 (suc (suc c)) (λ z. omega arith))
-alike-shaped (suc zero) r zero u e f = refl
-alike-shaped (suc zero) r (suc zero) u e f = refl
-alike-shaped (suc zero) r (suc (suc c)) u e f = rw (ne-eqb 1 (suc (suc c)) (λ z. omega arith))
-alike-shaped (suc (suc b)) r zero u e f = rw (ne-eqb (suc (suc b)) 0 (λ z. omega arith))
-alike-shaped (suc (suc b)) r (suc zero) u e f = rw (ne-eqb (suc (suc b)) 1 (λ z. omega arith))
-alike-shaped (suc (suc b)) r (suc (suc c)) u e f = rw (ne-eqb (suc (suc b)) 1 (λ z. omega arith), and-no (eqb (suc (suc b)) (suc (suc c))) (same e f))
+or-no : (t : Bool) → t ≡ t || false
+or-no true = refl
+or-no false = refl
+
+-- the bases of two shapes of ?R
+less-eqb : (b c : ℕ) → 256 ≤ b → 256 ≤ c → eqb (b - 256) (c - 256) ≡ eqb b c
+less-eqb b c h k = go (eqb b c) refl
+  where
+    go : (u : Bool) → eqb b c ≡ u → eqb (b - 256) (c - 256) ≡ u
+    go true e = let z = eqb-true b c e in eq-eqb (b - 256) (c - 256) (omega arith)
+    go false e = let z = eqb-false b c e in ne-eqb (b - 256) (c - 256) (λ y. z (omega arith))
+
+-- of a declared type and ?R
+more-eqb : (b c : ℕ) → 256 ≤ c → eqb b (c - 256) ≡ eqb (b + 256) c
+more-eqb b c k = go (eqb (b + 256) c) refl
+  where
+    go : (u : Bool) → eqb (b + 256) c ≡ u → eqb b (c - 256) ≡ u
+    go true e = let z = eqb-true (b + 256) c e in eq-eqb b (c - 256) (omega arith)
+    go false e = let z = eqb-false (b + 256) c e in ne-eqb b (c - 256) (λ y. z (omega arith))
+
+eqb-flip : (b c : ℕ) → eqb b c ≡ eqb c b
+eqb-flip b c = go (eqb c b) refl
+  where
+    go : (u : Bool) → eqb c b ≡ u → eqb b c ≡ u
+    go true e = eq-eqb b c (sym (eqb-true c b e))
+    go false e = let z = eqb-false c b e in ne-eqb b c (λ y. z (sym y))
+
+-- shapes that differ are alike where one is a declared type, the other ?R of its base
+abbrev one-named : (b c : ℕ) → Bool
+one-named b c = (leb 2 b && eqb (b + 256) c) || (leb 2 c && eqb (c + 256) b)
+
+module _ {r u : Rights} {e f : Qual} where
+  same-shapes : {b c : ℕ} {p q : Qual} → Shape r e b p → Shape u f c q
+      → same p q ≡ eqb b c && cond (same-rights b r u && eqb b 1) (same e f) (same-rights b r u)
+  unfolding same
+  same-shapes an-integer an-integer = refl
+  same-shapes an-integer an-array = refl
+  same-shapes an-integer (a-declared c l m) = rw (ne-eqb 0 c (λ z. omega arith))
+  same-shapes an-integer (a-generic c l) = rw (ne-eqb 0 c (λ z. omega arith))
+  same-shapes an-array an-integer = refl
+  same-shapes an-array an-array = rw (and-then (eqb r u) (same e f))
+  same-shapes an-array (a-declared c l m) = rw (ne-eqb 1 c (λ z. omega arith))
+  same-shapes an-array (a-generic c l) = rw (ne-eqb 1 c (λ z. omega arith))
+  same-shapes (a-declared b h k) an-integer = rw (ne-eqb b 0 (λ z. omega arith))
+  same-shapes (a-declared b h k) an-array = rw (ne-eqb b 1 (λ z. omega arith))
+  same-shapes (a-declared b h k) (a-declared c l m) =
+      rw (ne-eqb b 0 (λ z. omega arith), ne-eqb b 1 (λ z. omega arith), and-no (eqb r u) (same e f))
+  same-shapes (a-declared b h k) (a-generic c l) = rw (ne-eqb b c (λ z. omega arith))
+  same-shapes (a-generic b h) an-integer = rw (ne-eqb b 0 (λ z. omega arith))
+  same-shapes (a-generic b h) an-array = rw (ne-eqb b 1 (λ z. omega arith))
+  same-shapes (a-generic b h) (a-declared c l m) = rw (ne-eqb b c (λ z. omega arith))
+  same-shapes (a-generic b h) (a-generic c l) =
+      rw (less-eqb b c h l, ne-eqb b 0 (λ z. omega arith), ne-eqb b 1 (λ z. omega arith), and-no (eqb r u) (same e f))
+
+  alike-shapes : {b c : ℕ} {p q : Qual} → Shape r e b p → Shape u f c q → b < 512 → c < 512
+      → alike p q ≡ cond (eqb b c) (cond (eqb b 1) (same e f) (ltb b 256 || eqb r u)) (one-named b c)
+  unfolding alike
+  alike-shapes an-integer an-integer x y = refl
+  alike-shapes an-integer an-array x y = refl
+  alike-shapes an-integer (a-declared c l m) x y =
+      rw (ne-eqb 0 c (λ z. omega arith), le-leb 2 c l, ne-eqb (c + 256) 0 (λ z. omega arith))
+  alike-shapes an-integer (a-generic c l) x y =
+      rw (ne-eqb 0 c (λ z. omega arith), le-leb 2 c (omega arith), ne-eqb (c + 256) 0 (λ z. omega arith))
+  alike-shapes an-array an-integer x y = refl
+  alike-shapes an-array an-array x y = refl
+  alike-shapes an-array (a-declared c l m) x y =
+      rw (ne-eqb 1 c (λ z. omega arith), le-leb 2 c l, ne-eqb (c + 256) 1 (λ z. omega arith))
+  alike-shapes an-array (a-generic c l) x y =
+      rw (ne-eqb 1 c (λ z. omega arith), le-leb 2 c (omega arith), ne-eqb (c + 256) 1 (λ z. omega arith))
+  alike-shapes (a-declared b h k) an-integer x y =
+      rw (ne-eqb b 0 (λ z. omega arith), le-leb 2 b h, ne-eqb (b + 256) 0 (λ z. omega arith))
+  alike-shapes (a-declared b h k) an-array x y =
+      rw (ne-eqb b 1 (λ z. omega arith), le-leb 2 b h, ne-eqb (b + 256) 1 (λ z. omega arith))
+  alike-shapes (a-declared b h k) (a-declared c l m) x y =
+      rw (ne-eqb b 1 (λ z. omega arith), lt-ltb b 256 k, le-leb 2 b h, le-leb 2 c l, ne-eqb (b + 256) c (λ z. omega arith), ne-eqb (c + 256) b (λ z. omega arith))
+      (as-it-is (eqb b c))
+    where
+      as-it-is : (t : Bool) → t ≡ cond t true false
+      as-it-is true = refl
+      as-it-is false = refl
+  alike-shapes (a-declared b h k) (a-generic c l) x y =
+      rw (more-eqb b c l, ne-eqb b c (λ z. omega arith), le-leb 2 b h, le-leb 2 c (omega arith), ne-eqb (c + 256) b (λ z. omega arith)) (or-no (eqb (b + 256) c))
+  alike-shapes (a-generic b h) an-integer x y =
+      rw (ne-eqb b 0 (λ z. omega arith), le-leb 2 b (omega arith), ne-eqb (b + 256) 0 (λ z. omega arith))
+  alike-shapes (a-generic b h) an-array x y =
+      rw (ne-eqb b 1 (λ z. omega arith), le-leb 2 b (omega arith), ne-eqb (b + 256) 1 (λ z. omega arith))
+  alike-shapes (a-generic b h) (a-declared c l m) x y =
+      rw (ne-eqb b c (λ z. omega arith), le-leb 2 b (omega arith), le-leb 2 c l, ne-eqb (b + 256) c (λ z. omega arith)) (eqb-flip (b - 256) c ∙ more-eqb c b h)
+  alike-shapes (a-generic b h) (a-generic c l) x y =
+      rw (less-eqb b c h l, ne-eqb b 1 (λ z. omega arith), le-ltb b 256 h, le-leb 2 b (omega arith), le-leb 2 c (omega arith), ne-eqb (b + 256) c (λ z. omega arith), ne-eqb (c + 256) b (λ z. omega arith))
+      (and-if (eqb b c) (eqb r u) false (λ z. refl))
+
+-- a type of neither shape 0 nor 1 is of an owner's type
+no-owner : (b o : ℕ) → b < 2 → false ≡ leb 2 o && eqb b o
+no-owner b zero h = refl
+no-owner b (suc zero) h = refl
+no-owner b (suc (suc o)) h = rw (le-leb 2 (suc (suc o)) (omega arith), ne-eqb b (suc (suc o)) (λ z. omega arith))
+
+amplifies-shape : {r : Rights} {e : Qual} {b : ℕ} {q : Qual} → Shape r e b q → (o : ℕ) → o < 256 → amplifies o q ≡ leb 2 o && eqb b o
+unfolding amplifies
+amplifies-shape an-integer o l = no-owner 0 o (omega arith)
+amplifies-shape an-array o l = no-owner 1 o (omega arith)
+amplifies-shape (a-declared b h k) o l = refl
+amplifies-shape (a-generic b h) o l = rw (ne-eqb b o (λ z. omega arith)) (never (leb 2 o))
+  where
+    never : (t : Bool) → false ≡ t && false
+    never true = refl
+    never false = refl
 
 -- a movement that the order allows passes both tests; of another, bases and elements tell 9 from 8
 pub moves-failure : (a b : Qual) → failure (moves a b) ≡ cond (order a b) 0 (cond (alike a b) 9 8)
 unfolding failure moves order
-moves-failure a b = go (alike a b) (within (rights b) (rights a))
+moves-failure a b = go (alike a b) (covers a b)
   where
     go : (t u : Bool) → _≡_ {A = ℕ} (cond t (cond u 0 9) 8) (cond (t && u) 0 (cond t 9 8))
     go true true = refl
@@ -69,19 +157,41 @@ moves-failure a b = go (alike a b) (within (rights b) (rights a))
     go false u = refl
 
 -- ---- of the types of an index
-module _ (t : List ℕ) (i j : ℕ) where
-  pub same-words : same (qualIn t i) (qualIn t j)
-      ≡ eqb (base-of (word-in t i)) (base-of (word-in t j))
-      && cond (same-rights (base-of (word-in t i)) (rights-of (word-in t i)) (rights-of (word-in t j)) && eqb (base-of (word-in t i)) 1)
-      (same (qualIn t (element-below (word-in t i) i)) (qualIn t (element-below (word-in t j) j)))
-      (same-rights (base-of (word-in t i)) (rights-of (word-in t i)) (rights-of (word-in t j)))
-  same-words = ap₂ same (qual-shaped t i) (qual-shaped t j) ∙ same-shaped _ _ _ _ _ _
+pub shape-small : (w : ℕ) → shape-of w < 512
+unfolding shape-of
+shape-small w = omega arith
 
-  pub alike-words : alike (qualIn t i) (qualIn t j)
-      ≡ cond (eqb (base-of (word-in t i)) (base-of (word-in t j)) && eqb (base-of (word-in t i)) 1)
-      (same (qualIn t (element-below (word-in t i) i)) (qualIn t (element-below (word-in t j) j)))
-      (eqb (base-of (word-in t i)) (base-of (word-in t j)))
-  alike-words = ap₂ alike (qual-shaped t i) (qual-shaped t j) ∙ alike-shaped _ _ _ _ _ _
+module _ (t : List ℕ) where
+  pub same-words : (m i n j : ℕ) → same (typeIn t m i) (typeIn t n j)
+      ≡ eqb (shape-of (word-as t m i)) (shape-of (word-as t n j))
+      && cond (same-rights (shape-of (word-as t m i)) (rights-of (word-as t m i)) (rights-of (word-as t n j)) && eqb (shape-of (word-as t m i)) 1)
+      (same (typeIn t m (element-below (word-as t m i) i)) (typeIn t n (element-below (word-as t n j) j)))
+      (same-rights (shape-of (word-as t m i)) (rights-of (word-as t m i)) (rights-of (word-as t n j)))
+  same-words m i n j = ap₂ same (type-word-as t m i) (type-word-as t n j) ∙ same-shapes (shape-is _ _ _) (shape-is _ _ _)
+
+  pub alike-words : (m i n j : ℕ) → alike (typeIn t m i) (typeIn t n j)
+      ≡ cond (eqb (shape-of (word-as t m i)) (shape-of (word-as t n j)))
+      (cond (eqb (shape-of (word-as t m i)) 1)
+      (same (typeIn t m (element-below (word-as t m i) i)) (typeIn t n (element-below (word-as t n j) j)))
+      (ltb (shape-of (word-as t m i)) 256 || eqb (rights-of (word-as t m i)) (rights-of (word-as t n j))))
+      (one-named (shape-of (word-as t m i)) (shape-of (word-as t n j)))
+  alike-words m i n j =
+      ap₂ alike (type-word-as t m i) (type-word-as t n j)
+      ∙ alike-shapes (shape-is _ _ _) (shape-is _ _ _) (shape-small (word-as t m i)) (shape-small (word-as t n j))
+
+  -- the base of a type, in its shape
+  pub base-part : (n j : ℕ) → base (typeIn t n j) ≡ shape-of (word-as t n j) % 256
+  base-part n j = base-as t n j ∙ go (shape-of (word-as t n j)) (shape-small (word-as t n j))
+    where
+      part : (b : ℕ) → b < 512 → (u : Bool) → ltb b 256 ≡ u → cond u b (b - 256) ≡ b % 256
+      part b h true e = let l = ltb-true b 256 e in omega arith
+      part b h false e = let l = ltb-false b 256 e in omega arith
+
+      go : (b : ℕ) → b < 512 → cond (ltb b 256) b (b - 256) ≡ b % 256
+      go b h = part b h (ltb b 256) refl
+
+  pub amplifies-word : (o j : ℕ) → o < 256 → amplifies o (qualIn t j) ≡ leb 2 o && eqb (shape-of (word-in t j)) o
+  amplifies-word o j h = ap (amplifies o) (qual-shaped t j) ∙ amplifies-shape (shape-is _ _ _) o h
 
 -- ---- of two elements, by their numbers as they stand
 -- below their arrays' they are read as they stand
@@ -95,22 +205,25 @@ unfolding same isInteger
 same-integer integer = refl
 same-integer (array r e) = refl
 same-integer (declared t r) = refl
+same-integer (generic t l) = refl
 
 integer-same : (q : Qual) → same integer q ≡ isInteger integer && isInteger q
 unfolding same isInteger
 integer-same integer = refl
 integer-same (array r e) = refl
 integer-same (declared t r) = refl
+integer-same (generic t l) = refl
 
 -- where one is not, it is read as an integer, and the other must be one too
-pub same-outside : (t : List ℕ) (v w i j : ℕ) → ltb (element-of v) i && ltb (element-of w) j ≡ false
-    → same (qualIn t (element-below v i)) (qualIn t (element-below w j)) ≡ isInteger (qualIn t (element-below v i)) && isInteger (qualIn t (element-below w j))
+pub same-outside : (t : List ℕ) (m n v w i j : ℕ) → ltb (element-of v) i && ltb (element-of w) j ≡ false
+    → same (typeIn t m (element-below v i)) (typeIn t n (element-below w j)) ≡ isInteger (qualIn t (element-below v i)) && isInteger (qualIn t (element-below w j))
 unfolding element-below
-same-outside t v w i j h = go (ltb (element-of v) i) (ltb (element-of w) j) h
+same-outside t m n v w i j h =
+    go (ltb (element-of v) i) (ltb (element-of w) j) h ∙ ap₂ (λ (x y : Bool). x && y) (type-integer t m _) (type-integer t n _)
   where
     go : (a b : Bool) → a && b ≡ false
-        → same (qualIn t (cond a (element-of v) 255)) (qualIn t (cond b (element-of w) 255))
-        ≡ isInteger (qualIn t (cond a (element-of v) 255)) && isInteger (qualIn t (cond b (element-of w) 255))
+        → same (typeIn t m (cond a (element-of v) 255)) (typeIn t n (cond b (element-of w) 255))
+        ≡ isInteger (typeIn t m (cond a (element-of v) 255)) && isInteger (typeIn t n (cond b (element-of w) 255))
     go true true l = absurd (false≢true (sym l))
-    go true false l = rw (none-qual t 255 (omega arith)) (same-integer (qualIn t (element-of v)))
-    go false b l = rw (none-qual t 255 (omega arith)) (integer-same (qualIn t (cond b (element-of w) 255)))
+    go true false l = rw (none-type t n 255 (omega arith)) (same-integer (typeIn t m (element-of v)))
+    go false b l = rw (none-type t m 255 (omega arith)) (integer-same (typeIn t n (cond b (element-of w) 255)))

@@ -1,43 +1,52 @@
-// The order of the qualified types of an index: equality, ≥ and movements, by their numbers.
+// The order of the qualified types of an index: equality, ≥ and movements, by their numbers. Each side reads ?R as its name has it, so that one number may
+// stand for two types.
 use index::Index;
-use index::types::base_in;
-use index::types::base_of;
 use index::types::element_in;
 use index::types::element_number;
+use index::types::is_generic;
 use index::types::is_integer;
+use index::types::rights_as;
 use index::types::rights_in;
-use index::types::rights_of;
+use index::types::shape_in;
 use index::types::type_word;
+use index::types::type_word_as;
 use rights::is_within;
 ghost use mathlib.Core.Path.{_≡_};
 ghost use mathlib.Core.Bool.{cond};
-ghost use Rattle.model.specs.Qualified.{same, alike, order};
+ghost use Rattle.model.specs.Qualified.{same, alike, covers, order};
 ghost use Rattle.model.specs.Refusal.{failure};
-ghost use Rattle.model.specs.Rules.{moves, owned-by};
-ghost use Rattle.index.specs.Types.{qualIn};
+ghost use Rattle.model.specs.Rules.{moves, owned-by, amplifies};
+ghost use Rattle.index.specs.Types.{qualIn, typeIn};
 
-// Of the owner's type; owner 0 is none.
-pub fn is_owned(index: &Index, owner: u8, j: u8) -> bool
-    ensures { λ r. ⌜ r ≡ owned-by owner (qualIn (now (index .entry)) j) ⌝ }
+// Of the owner's type; owner 0 is none. ?R has the base that it is read with.
+pub fn is_owned(index: &Index, name: u64, owner: u8, j: u8) -> bool
+    ensures { λ r. ⌜ r ≡ owned-by owner (typeIn (now (index .entry)) name j) ⌝ }
 {
-    (2 <= owner) & (base_of(index, j) == owner)
+    (2 <= owner) & (shape_in(type_word_as(index, name, j)) % 256 == (owner as u16))
 }
 
-// Same base, same rights, which an integer does not have, and equal elements all the way down.
-fn equal_in(index: &Index, i: u8, j: u8) -> bool
-    ensures { λ r. ⌜ r ≡ same (qualIn (now (index .entry)) i) (qualIn (now (index .entry)) j) ⌝ }
+// The same, and no ?R, which is not read for it.
+pub fn is_amplified(index: &Index, owner: u8, j: u8) -> bool
+    ensures { λ r. ⌜ r ≡ amplifies owner (qualIn (now (index .entry)) j) ⌝ }
 {
-    let v = type_word(index, i);
-    let w = type_word(index, j);
-    let b = base_in(v);
-    if b == base_in(w) {
+    (2 <= owner) & (shape_in(type_word(index, j)) == (owner as u16))
+}
+
+// Same shape, same rights, which an integer does not have, and equal elements all the way down.
+fn equal_in(index: &Index, m: u64, i: u8, n: u64, j: u8) -> bool
+    ensures { λ r. ⌜ r ≡ same (typeIn (now (index .entry)) m i) (typeIn (now (index .entry)) n j) ⌝ }
+{
+    let v = type_word_as(index, m, i);
+    let w = type_word_as(index, n, j);
+    let b = shape_in(v);
+    if b == shape_in(w) {
         let head = (b == 0) | (rights_in(v) == rights_in(w));
         if head & (b == 1) {
             let e = element_number(v);
             let f = element_number(w);
             // An element's number falls; one that does not is read as an integer.
             if (e < i) & (f < j) {
-                return equal_in(index, e, f);
+                return equal_in(index, m, e, n, f);
             }
             return is_integer(index, element_in(v, i)) & is_integer(index, element_in(w, j));
         }
@@ -46,45 +55,58 @@ fn equal_in(index: &Index, i: u8, j: u8) -> bool
     false
 }
 
-// Two names of one QT are equal at once: a test by itself, so that it is inlined where the walk is not.
-pub fn equal(index: &Index, i: u8, j: u8) -> bool
-    ensures { λ r. ⌜ r ≡ same (qualIn (now (index .entry)) i) (qualIn (now (index .entry)) j) ⌝ }
+// Two names of one QT, read alike, are equal at once: a test by itself, so that it is inlined where the walk is not.
+pub fn equal(index: &Index, m: u64, i: u8, n: u64, j: u8) -> bool
+    ensures { λ r. ⌜ r ≡ same (typeIn (now (index .entry)) m i) (typeIn (now (index .entry)) n j) ⌝ }
 {
-    if i == j {
+    if (i == j) & (m == n) {
         return true;
     }
-    equal_in(index, i, j)
+    equal_in(index, m, i, n, j)
 }
 
-// Equal bases and, for arrays, equal elements.
-fn is_alike(index: &Index, i: u8, j: u8) -> bool
-    ensures { λ r. ⌜ r ≡ alike (qualIn (now (index .entry)) i) (qualIn (now (index .entry)) j) ⌝ }
+// Equal shapes and, for arrays, equal elements; ?R and a type of its base.
+fn is_alike(index: &Index, m: u64, i: u8, n: u64, j: u8) -> bool
+    ensures { λ r. ⌜ r ≡ alike (typeIn (now (index .entry)) m i) (typeIn (now (index .entry)) n j) ⌝ }
 {
-    let v = type_word(index, i);
-    let w = type_word(index, j);
-    let b = base_in(v);
-    let c = base_in(w);
-    if (b == c) & (b == 1) {
-        return equal(index, element_in(v, i), element_in(w, j));
+    let v = type_word_as(index, m, i);
+    let w = type_word_as(index, n, j);
+    let b = shape_in(v);
+    let c = shape_in(w);
+    if b == c {
+        if b == 1 {
+            return equal(index, m, element_in(v, i), n, element_in(w, j));
+        }
+        return (b < 256) | (rights_in(v) == rights_in(w));
     }
-    b == c
+    (2 <= b) & (b + 256 == c) | (2 <= c) & (c + 256 == b)
+}
+
+// The rights of QT j are among those of QT i; only ?R reaches ?R.
+fn is_covered(index: &Index, m: u64, i: u8, n: u64, j: u8) -> bool
+    ensures { λ r. ⌜ r ≡ covers (typeIn (now (index .entry)) m i) (typeIn (now (index .entry)) n j) ⌝ }
+{
+    if is_generic(index, n, j) {
+        return is_generic(index, m, i);
+    }
+    is_within(rights_as(index, n, j), rights_as(index, m, i))
 }
 
 // QT i ≥ QT j.
-pub fn is_above(index: &Index, i: u8, j: u8) -> bool
-    ensures { λ r. ⌜ r ≡ order (qualIn (now (index .entry)) i) (qualIn (now (index .entry)) j) ⌝ }
+pub fn is_above(index: &Index, m: u64, i: u8, n: u64, j: u8) -> bool
+    ensures { λ r. ⌜ r ≡ order (typeIn (now (index .entry)) m i) (typeIn (now (index .entry)) n j) ⌝ }
 {
-    is_alike(index, i, j) & is_within(rights_of(index, j), rights_of(index, i))
+    is_alike(index, m, i, n, j) & is_covered(index, m, i, n, j)
 }
 
 // The number of the refusal of a movement from QT i to QT j: 8, then 9; 0 where there is none.
-pub fn movement(index: &Index, i: u8, j: u8) -> u8
-    ensures { λ r. ⌜ r ≡ failure (moves (qualIn (now (index .entry)) i) (qualIn (now (index .entry)) j)) ⌝ }
+pub fn movement(index: &Index, m: u64, i: u8, n: u64, j: u8) -> u8
+    ensures { λ r. ⌜ r ≡ failure (moves (typeIn (now (index .entry)) m i) (typeIn (now (index .entry)) n j)) ⌝ }
 {
-    if is_above(index, i, j) {
+    if is_above(index, m, i, n, j) {
         return 0;
     }
-    if is_alike(index, i, j) {
+    if is_alike(index, m, i, n, j) {
         return 9;
     }
     8

@@ -72,4 +72,4 @@ module _ (s input words words′ before out : List ℕ) (r : Registers) (o : Ste
       (λ c t q i S.
       let v = view (length words) (length before) t in
       exactly (records (programOf s) v a (r .base - r .used) integer 0 0 n (room-is plain c words before r t S)
-      (e ∙ ap (λ (at : ℕ). slotsOf s (ownerAt s at)) (is ∙ runs plain c s words before r t q S .place))))
+      (e ∙ ap (λ (at : ℕ). slotsOf s (ownerAt s at)) (is ∙ runs plain c s words before r t q S .placed-at .place))))

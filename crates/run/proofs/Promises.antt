@@ -3,25 +3,26 @@ use Prim.Native.Nat.{ℕ, _≤_}
 use mathlib.Core.Path.{_≡_, refl}
 use mathlib.Core.Bool.{Bool, true, false, cond}
 use mathlib.Core.List.{List}
-use mathlib.Core.Logic.{_⊎_, inl, inr}
+use mathlib.Core.Logic.{_⊎_, inl, inr, ⊎-elim}
 use native.Mathlib.Omega.{arith}
 use borrow.Author.Tests.{leb-true}
 use lib.Dec.{leb}
 use lib.ListN.{length}
 use Rattle.model.specs.Modes.{Mode, plain, watched}
 use Rattle.model.specs.Outcome.{Stop, done, fuel-spent, blank, past-end, input-ended, output-full, memory-full, wrong-kind, missing-right, stop-number}
-use Rattle.model.specs.Refusal.{Gives, verdict, big-memory, refusal-number}
+use Rattle.model.specs.Refusal.{between, Gives, verdict, big-memory, refusal-number}
 use Rattle.model.specs.Run.{End, stopped, stuck-at, run}
 use Rattle.model.specs.declared.Verdict.{Verdict}
 use Rattle.model.specs.declared.Verdict.the-variants.{Accepted, Refused}
 use Rattle.model.proofs.Plans.{Stops}
 use Rattle.model.proofs.AnyProgram.{watched-not-stuck}
 use Rattle.model.proofs.Ends.{run-ended}
-use Rattle.model.proofs.Numbers.{verdict-range}
+use Rattle.model.proofs.Verdicts.{either-true}
+use Rattle.model.proofs.Numbers.{between-true, verdict-range}
 use Rattle.sheet.specs.Meaning.{programOf}
 use Rattle.form.specs.WellFormed.{form-tests}
-use Rattle.form.proofs.Numbers.{form-range}
-use Rattle.checking.specs.Check.{check}
+use Rattle.form.proofs.Numbers.{form-number, form-range}
+use Rattle.checking.specs.Check.{check, check-number}
 use Rattle.checking.proofs.Numbers.{check-numbers}
 use Rattle.theorem.proofs.Condition3.{condition3-holds}
 use Rattle.run.specs.Run.{refuses, ends, end, memory-fits, verdict-before, answer-by, answer}
@@ -83,24 +84,29 @@ module _ (m : Mode) (sheet input : List ℕ) (fuel : ℕ) (memory output : List 
       fit true h = e refl h
       fit false h = t
 
-abbrev To17 : ℕ → Type 0
-To17 n = (1 ≤ n) × (n ≤ 17)
+abbrev AllBut18And19 : ℕ → Type 0
+AllBut18And19 n = ((1 ≤ n) × (n ≤ 17)) ⊎ ((20 ≤ n) × (n ≤ 21))
+
+check-gives : (n : ℕ) → check-number n ≡ true → AllBut18And19 n
+check-gives n h =
+    ⊎-elim (λ l. let z = between-true 1 9 n l in let a = z .0 in let b = z .1 in inl (omega arith, omega arith)) (λ r. inr (between-true 20 21 n r))
+    (either-true (between 1 9 n) (between 20 21 n) h)
 
 plain-end : (sheet input : List ℕ) (fuel : ℕ) (memory output : List ℕ) → Words32 input → check sheet ≡ Accepted
     → memory-fits memory ≡ true → (e : End) → end plain sheet input fuel memory output ≡ e
-    → Says To17 (ends memory output e)
+    → Says AllBut18And19 (ends memory output e)
 unfolding end memory-fits
 plain-end sheet input fuel memory output w a h (stopped x n put p i) q =
-    stop-plain _ x (rw q at (run-ended plain (programOf sheet) (length memory) (length output) input fuel .way))
+    inl (stop-plain _ x (rw q at (run-ended plain (programOf sheet) (length memory) (length output) input fuel .way)))
 plain-end sheet input fuel memory output w a h (stuck-at n put p i) q =
     condition3-holds sheet a (length memory) (leb-true (length memory) 65536 h) input output w fuel .not-stuck n put p i q
 
 pub run-numbers : RunNumbers
 unfolding answer
 run-numbers sheet input fuel memory output w =
-    says plain sheet input fuel memory output To17 (check sheet)
-    (λ n at e. let g : Gives 1 9 (Refused n at) = rw e at (check-numbers sheet) in let l = g .0 in let h = g .1 in (omega arith, omega arith))
-    (omega arith, omega arith)
+    says plain sheet input fuel memory output AllBut18And19 (check sheet)
+    (λ n at e. let g : Gives check-number (Refused n at) = rw e at (check-numbers sheet) in check-gives n g)
+    (inl (omega arith, omega arith))
     (λ a h. plain-end sheet input fuel memory output w a h (end plain sheet input fuel memory output) refl)
 
 abbrev AllBut6To9 : ℕ → Type 0
@@ -116,7 +122,7 @@ pub watch-numbers : WatchNumbers
 unfolding answer
 watch-numbers sheet input fuel memory output =
     says watched sheet input fuel memory output AllBut6To9 (verdict (form-tests sheet))
-    (λ n at e. let g : Gives 1 5 (Refused n at) = rw e at (verdict-range 1 5 (form-tests sheet) (form-range sheet)) in inl g)
+    (λ n at e. let g : Gives form-number (Refused n at) = rw e at (verdict-range form-number (form-tests sheet) (form-range sheet)) in inl (between-true 1 5 n g))
     (inr (omega arith, omega arith))
     (λ a h. watched-end sheet input fuel memory output (end watched sheet input fuel memory output) refl)
 

@@ -26,11 +26,11 @@ abbrev pub Says : (P : ℕ → Type 0) → Option Answer → Type 0
 Says P none = ⊥
 Says P (some a) = P (a .reply .number)
 
--- "run gives 1 to 17"
+-- "run gives 1 to 17"; document 02, S-1: or 20 or 21
 abbrev pub RunNumbers : Type 0
 RunNumbers =
     (sheet input : List ℕ) (fuel : ℕ) (memory output : List ℕ) → Words32 input →
-    Says (λ n. (1 ≤ n) × (n ≤ 17)) (answer plain sheet input fuel memory output)
+    Says (λ n. ((1 ≤ n) × (n ≤ 17)) ⊎ ((20 ≤ n) × (n ≤ 21))) (answer plain sheet input fuel memory output)
 
 -- "watch all but 6 to 9"
 abbrev pub WatchNumbers : Type 0

@@ -65,10 +65,11 @@ begins m s words zeros input out v w wf of e room small cleared =
       procedure = of .number;
       next = refl;
       first = of .first;
+      bounded = of .bounded;
       variables = has ∙ sym (length-replicate _ empty);
       sane = record { room = zero-le; frame = rw l (omega arith); small = rw l small };
       running = record { procedure = form-small s wf .2; variables = length-replicate _ empty };
-      waiting = tt;
+      waiting = refl;
       objects = refl;
       frames = rw (← e) (frame-of words zeros v room cleared m (qualOf s));
       input-left = refl;

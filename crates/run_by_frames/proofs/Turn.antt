@@ -46,14 +46,14 @@ told r k n = record { number = k; steps = n; put = r .put; procedure = number-in
 
 module _ (m : Mode) (c : Given) (words out : List ℕ) (r : Registers) where
   sane : (t : State m) → StandsFor m c words out r t → Sane (length words) r
-  sane (state (frame p i vs) fs os input put) S = S .sane
+  sane (state (frame p i z vs) fs os input put) S = S .sane
 
   fetchable : verdict (form-tests (c .sheet)) ≡ Accepted → (t : State m) → StandsFor m c words out r t → Inside (programOf (c .sheet)) t → Fetchable (c .sheet) r
-  fetchable wf (state (frame p i vs) fs os input put) S I =
+  fetchable wf (state (frame p i z vs) fs os input put) S I =
       let s = c .sheet in
       let l = I .0 .procedure in
       let n = I .0 .instruction in
-      let e : place-in r ≡ instructionAt s (procedureAt s p) i = place-is S in
+      let e : place-in r ≡ instructionAt s p i = place-is S in
       record {
         whole = rw e (instruction-whole s wf p l i n);
         first = let w : place-in r + 8 ≤ length s = rw e (instruction-whole s wf p l i n) in omega arith;
@@ -66,7 +66,7 @@ module _ (m : Mode) (c : Given) (words out : List ℕ) (r : Registers) where
   -- the run from a state that stops there
   ends : (t : State m) → StandsFor m c words out r t → (x : Stop) (k n : ℕ) (out′ : List ℕ) → k ≡ stop-number x → out′ ≡ out
       → EndedIs (told r k n) (c .output) out′ (end-in x n t)
-  ends (state (frame p i vs) fs os input put) S x k n out′ a b = ended a refl (S .put-words) (S .procedure) (S .next) (b ∙ S .output-is)
+  ends (state (frame p i z vs) fs os input put) S x k n out′ a b = ended a refl (S .put-words) (S .procedure) (S .next) (b ∙ S .output-is)
 
   -- a step that the definition is not stuck at
   module _ (words′ out′ : List ℕ) where
@@ -119,7 +119,7 @@ module _ (m : Mode) (g : Program) (memory output : ℕ) (input : List ℕ) (fuel
   one-stuck e = rw e at (ends-there (rw e tt))
 
 not-stuck-in : (m : Mode) (n : ℕ) (t : State m) (x : End) → Never-stuck x → x ≡ stuck-in n t → ⊥
-not-stuck-in m n (state (frame p i vs) fs os input put) x free e = free n put p i e
+not-stuck-in m n (state (frame p i z vs) fs os input put) x free e = free n put p i e
 
 -- ---- one turn
 

@@ -1,18 +1,17 @@
 -- Laws of the definitions in specs/, which the functions' proofs and the layers above cite.
-use Prim.Native.Nat.{ℕ, _+_, _*_, _-_, _<_, _≤_}
+use Prim.Native.Nat.{ℕ, suc, _+_, _*_, _-_, _<_, _≤_}
 use mathlib.Core.Path.{_≡_, refl, _∙_}
 use mathlib.Core.List.{List}
 use mathlib.Core.Logic.{_⊎_, inl, inr}
 use mathlib.Core.Bool.{Bool, true, false, _&&_, cond}
 use native.Mathlib.Omega.{arith}
-use native.Mathlib.Numerals.{add-one}
 use lib.Dec.{leb, ltb, eqb}
 use lib.ListN.{length, getD, take, drop, length-take, length-drop}
 use lib.Seq.{getD-take, getD-drop, length-take-le}
 use borrow.Author.Tests.{leb-true, leb-false, le-leb, lt-leb, ltb-true, ltb-false, eqb-true}
 use Rattle.model.proofs.Verdicts.{both-true}
 use Rattle.sheet.specs.Bytes.{byteAt, wholeAt, mark, markedAt}
-use Rattle.sheet.specs.Layout.{hd-mark, in-mark, variableAt, innerAt, needAt, instructionAt, instructionsAt, procedureAt}
+use Rattle.sheet.specs.Layout.{hd-mark, in-mark, variableAt, innerAt, needAt, variablesAt, instructionsAt, startFrom, instructionFrom, procedureAt, instructionAt, startAt}
 use Rattle.sheet.specs.Reader.{sizeAt, recordAt}
 
 -- ---- tests
@@ -72,7 +71,7 @@ pub in-sized : (s : List ℕ) (at : ℕ) → markedAt s at in-mark ≡ true → 
 unfolding sizeAt
 in-sized s at h =
     let other = other-mark s at 73 78 h in
-    rw (other 72 68 refl, other 84 89 refl, other 81 84 refl, other 80 82 refl, other 86 82 refl, h)
+    rw (other 72 68 refl, other 84 89 refl, other 81 84 refl, other 80 82 refl, other 71 78 refl, other 86 82 refl, h)
 
 module _ (s : List ℕ) (at n : ℕ) (z : sizeAt s at ≡ n) (w : wholeAt s at n ≡ true) where
   -- a record that stands whole is as long as its mark says
@@ -91,16 +90,16 @@ module _ (s : List ℕ) (at n : ℕ) (z : sizeAt s at ≡ n) (w : wholeAt s at n
 
 -- ---- the places of procedures
 -- the next procedure starts where the instructions of this one end
-pub procedure-next : (s : List ℕ) (i at : ℕ) → at ≡ procedureAt s i → instructionAt s at (instructionsAt s at) ≡ procedureAt s (i + 1)
+pub procedure-next : (s : List ℕ) (p at : ℕ) → at ≡ procedureAt s p → instructionFrom (startFrom s p at) (variablesAt s at) (instructionsAt s at) ≡ procedureAt s (suc p)
 unfolding procedureAt
-procedure-next s i at e = rw (add-one, e)
+procedure-next s p at e = rw e
 
--- ---- fields of the VRs, counted from the place of their procedure
-module _ (s : List ℕ) (pr x : ℕ) where
-  pub inner-field : byteAt s pr (10 + 4 * x) ≡ innerAt s pr x
+-- ---- fields of the VRs, counted from where those of their procedure start
+module _ (s : List ℕ) (start x : ℕ) where
+  pub inner-field : byteAt s start (2 + 4 * x) ≡ innerAt s start x
   unfolding byteAt innerAt variableAt
-  inner-field = let e : pr + (10 + 4 * x) ≡ pr + 8 + 4 * x + 2 = omega arith in rw e
+  inner-field = let e : start + (2 + 4 * x) ≡ start + 4 * x + 2 = omega arith in rw e
 
-  pub need-field : byteAt s pr (11 + 4 * x) ≡ needAt s pr x
+  pub need-field : byteAt s start (3 + 4 * x) ≡ needAt s start x
   unfolding byteAt needAt variableAt
-  need-field = let e : pr + (11 + 4 * x) ≡ pr + 8 + 4 * x + 3 = omega arith in rw e
+  need-field = let e : start + (3 + 4 * x) ≡ start + 4 * x + 3 = omega arith in rw e

@@ -3,7 +3,7 @@ use Prim.Native.Nat.{ℕ}
 use mathlib.Core.List.{List}
 use mathlib.Core.Option.{Option, none, some}
 use Rattle.sheet.specs.Bytes.{byteAt}
-use Rattle.sheet.specs.Layout.{codeAt, kAt, instructionAt}
+use Rattle.sheet.specs.Layout.{codeAt, kAt}
 use Rattle.sheet.specs.Instructions.{Line, line, line-of}
 use Rattle.sheet.specs.declared.decode.Fields.{Fields}
 use Rattle.model.specs.declared.Operation.{Operation}
@@ -29,6 +29,6 @@ fieldsAt s at = record { code = codeAt s at; a = byteAt s at 3; b = byteAt s at 
 unfoldable pub operationAt : List ℕ → ℕ → Operation
 operationAt s at = decode (fieldsAt s at)
 
--- instruction i of procedure p, which stands at `pr`
-unfoldable pub instructionIn : List ℕ → (pr p i : ℕ) → Instruction
-instructionIn s pr p i = record { procedure = p; instruction = i; operation = operationAt s (instructionAt s pr i) }
+-- instruction i of procedure p, which stands at `at`
+unfoldable pub instructionIn : List ℕ → (p i at : ℕ) → Instruction
+instructionIn s p i at = record { procedure = p; instruction = i; operation = operationAt s at }

@@ -1,8 +1,10 @@
--- Document 01, "Bytes of a worksheet": where each record and each of its fields stands.
--- "Order: HD, all TY, all QT, then for each procedure its PR, VRs, INs."
+-- Document 01, "Bytes of a worksheet", and document 02, S-1: where each record and each of its fields stands.
+-- "Order: HD, all TY, all QT, then for each procedure its PR, VRs, INs."; "by a GN record after its PR"
 use Prim.Native.Nat.{ℕ, zero, suc, _+_, _*_, _-_}
 use mathlib.Core.List.{List}
-use Rattle.sheet.specs.Bytes.{byteAt, wordAt, Mark, mark}
+use mathlib.Core.Bool.{Bool, _&&_, cond}
+use lib.Dec.{ltb}
+use Rattle.sheet.specs.Bytes.{byteAt, wordAt, Mark, mark, markedAt}
 
 -- "Each record starts with a two-byte ASCII mark": its two letters
 abbrev pub hd-mark : Mark
@@ -16,6 +18,9 @@ qt-mark = mark 81 84
 
 abbrev pub pr-mark : Mark
 pr-mark = mark 80 82
+
+abbrev pub gn-mark : Mark
+gn-mark = mark 71 78
 
 abbrev pub vr-mark : Mark
 vr-mark = mark 86 82
@@ -35,6 +40,9 @@ qt-size = 6
 
 abbrev pub pr-size : ℕ
 pr-size = 8
+
+abbrev pub gn-size : ℕ
+gn-size = 5
 
 abbrev pub vr-size : ℕ
 vr-size = 4
@@ -97,23 +105,37 @@ resultAt s pr = byteAt s pr 5
 unfoldable pub instructionsAt : List ℕ → ℕ → ℕ
 instructionsAt s pr = wordAt s pr 6
 
--- where the VRs of the procedure at `pr` start
-abbrev pub startAt : ℕ → ℕ
-startAt pr = pr + pr-size
+-- GN, after the PR at `pr`: base, least set
+abbrev pub boundAt : ℕ → ℕ
+boundAt pr = pr + pr-size
 
--- VR x of the procedure at `pr`: inner, need
-unfoldable pub variableAt : ℕ → ℕ → ℕ
-variableAt pr x = startAt pr + vr-size * x
+unfoldable pub boundBaseAt : List ℕ → ℕ → ℕ
+boundBaseAt s pr = byteAt s (boundAt pr) 2
 
-unfoldable pub innerAt : List ℕ → ℕ → ℕ → ℕ
-innerAt s pr x = byteAt s (variableAt pr x) 2
+unfoldable pub leastAt : List ℕ → ℕ → ℕ
+leastAt s pr = wordAt s (boundAt pr) 3
 
-unfoldable pub needAt : List ℕ → ℕ → ℕ → ℕ
-needAt s pr x = byteAt s (variableAt pr x) 3
+-- "A procedure but main may declare one": a GN is due exactly where its mark stands after the PR, at `pr`, of another procedure than 0
+unfoldable pub isBounded : List ℕ → (p pr : ℕ) → Bool
+isBounded s p pr = ltb 0 p && markedAt s (boundAt pr) gn-mark
 
--- IN i of the procedure at `pr`: code, a, b, c, k
-unfoldable pub instructionAt : List ℕ → ℕ → ℕ → ℕ
-instructionAt s pr i = variableAt pr (variablesAt s pr) + in-size * i
+-- where the VRs of procedure p, whose PR stands at `pr`, start
+unfoldable pub startFrom : List ℕ → (p pr : ℕ) → ℕ
+startFrom s p pr = pr + pr-size + cond (isBounded s p pr) gn-size 0
+
+-- VR x of a procedure whose VRs start at `start`: inner, need
+unfoldable pub variableAt : (start x : ℕ) → ℕ
+variableAt start x = start + vr-size * x
+
+unfoldable pub innerAt : List ℕ → (start x : ℕ) → ℕ
+innerAt s start x = byteAt s (variableAt start x) 2
+
+unfoldable pub needAt : List ℕ → (start x : ℕ) → ℕ
+needAt s start x = byteAt s (variableAt start x) 3
+
+-- IN i of a procedure with v variables: code, a, b, c, k
+unfoldable pub instructionFrom : (start v i : ℕ) → ℕ
+instructionFrom start v i = variableAt start v + in-size * i
 
 unfoldable pub codeAt : List ℕ → ℕ → ℕ
 codeAt s at = byteAt s at 2
@@ -124,4 +146,12 @@ kAt s at = wordAt s at 6
 -- procedure p: after the QTs, and after the INs of those before it
 unfoldable pub procedureAt : List ℕ → ℕ → ℕ
 procedureAt s zero = qualAt s (qualsOf s)
-procedureAt s (suc p) = instructionAt s (procedureAt s p) (instructionsAt s (procedureAt s p))
+procedureAt s (suc p) =
+    instructionFrom (startFrom s p (procedureAt s p)) (variablesAt s (procedureAt s p)) (instructionsAt s (procedureAt s p))
+
+-- where its VRs start, and where its IN i stands
+unfoldable pub startAt : List ℕ → (p : ℕ) → ℕ
+startAt s p = startFrom s p (procedureAt s p)
+
+unfoldable pub instructionAt : List ℕ → (p i : ℕ) → ℕ
+instructionAt s p i = instructionFrom (startAt s p) (variablesAt s (procedureAt s p)) i

@@ -4,7 +4,7 @@ use mathlib.Core.List.{List}
 use mathlib.Core.Bool.{cond}
 use lib.ListN.{length, take, drop}
 use Rattle.sheet.specs.Bytes.{wholeAt, markedAt}
-use Rattle.sheet.specs.Layout.{hd-mark, ty-mark, qt-mark, pr-mark, vr-mark, in-mark, hd-size, ty-size, qt-size, pr-size, vr-size, in-size}
+use Rattle.sheet.specs.Layout.{hd-mark, ty-mark, qt-mark, pr-mark, gn-mark, vr-mark, in-mark, hd-size, ty-size, qt-size, pr-size, gn-size, vr-size, in-size}
 
 -- the size of the record whose mark stands at `at`, 0 where no known mark does
 unfoldable pub sizeAt : List ℕ → ℕ → ℕ
@@ -13,9 +13,10 @@ sizeAt s at =
     (cond (markedAt s at ty-mark) ty-size
     (cond (markedAt s at qt-mark) qt-size
     (cond (markedAt s at pr-mark) pr-size
+    (cond (markedAt s at gn-mark) gn-size
     (cond (markedAt s at vr-mark) vr-size
     (cond (markedAt s at in-mark) in-size
-    0)))))
+    0))))))
 
 -- "Where no record with a known mark stands whole at the place given, that part is empty."
 unfoldable pub recordAt : List ℕ → ℕ → List ℕ

@@ -1,7 +1,6 @@
 // What an instruction says: its fields, and the operation that they are.
 use crate::bytes::byte;
 use crate::bytes::word;
-use crate::places::instruction_at;
 use model::Instruction;
 use model::Operation;
 ghost use mathlib.Core.Path.{_≡_};
@@ -54,11 +53,11 @@ pub fn operation_at(s: &[u8], at: usize) -> Operation
     operation_of(Fields { code, a, b, c, k })
 }
 
-// Instruction i of procedure p, which stands at pr.
-pub fn instruction_in(s: &[u8], pr: u32, p: usize, i: u16) -> Instruction
-    ensures { λ r. ⌜ r ≡ instructionIn (now (s .entry)) pr p i ⌝ }
+// Instruction i of procedure p, which stands at a place.
+pub fn instruction_in(s: &[u8], p: usize, i: u16, at: usize) -> Instruction
+    ensures { λ r. ⌜ r ≡ instructionIn (now (s .entry)) p i at ⌝ }
 {
-    let operation = operation_at(s, instruction_at(s, pr, i));
+    let operation = operation_at(s, at);
     let instruction = i as usize;
     Instruction {
         procedure: p,

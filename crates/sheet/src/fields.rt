@@ -16,17 +16,17 @@ pub fn field(s: &[u8], at: u32, k: u16) -> u8
     0
 }
 
-// The QT numbers of the VR of variable x of the procedure at a place: inner and need.
-pub fn inner_of(s: &[u8], pr: u32, x: u8) -> u8
-    ensures { λ r. ⌜ r ≡ innerAt (now (s .entry)) pr x ⌝ }
+// The QT numbers of the VR of variable x of a procedure whose VRs start at a place: inner and need.
+pub fn inner_of(s: &[u8], start: u32, x: u8) -> u8
+    ensures { λ r. ⌜ r ≡ innerAt (now (s .entry)) start x ⌝ }
 {
-    field(s, pr, 10 + 4 * (x as u16))
+    field(s, start, 2 + 4 * (x as u16))
 }
 
-pub fn need_of(s: &[u8], pr: u32, x: u8) -> u8
-    ensures { λ r. ⌜ r ≡ needAt (now (s .entry)) pr x ⌝ }
+pub fn need_of(s: &[u8], start: u32, x: u8) -> u8
+    ensures { λ r. ⌜ r ≡ needAt (now (s .entry)) start x ⌝ }
 {
-    field(s, pr, 11 + 4 * (x as u16))
+    field(s, start, 3 + 4 * (x as u16))
 }
 
 // The QT number that declares slot k of a type.

@@ -1,8 +1,9 @@
 // Where the records of a sheet start. A procedure's place is a u32: 64 procedures of any size end far below 2^32.
 use crate::bytes::byte;
+use crate::bytes::marked;
 ghost use mathlib.Core.Path.{_≡_};
-ghost use Prim.Native.Nat.{_+_, _<_};
-ghost use Rattle.sheet.specs.Layout.{typeAt, qualAt, variableAt, instructionAt};
+ghost use Prim.Native.Nat.{_+_, _<_, _≤_};
+ghost use Rattle.sheet.specs.Layout.{typeAt, qualAt, isBounded, startFrom, variableAt, instructionFrom};
 
 // Where the TY of a type stands.
 pub fn type_at(t: u8) -> usize
@@ -22,17 +23,35 @@ pub fn qual_at(s: &[u8], j: u8) -> usize
     6 + 12 * (byte(s, 0, 3) as usize) + 6 * (j as usize)
 }
 
-// Where the VR of a variable stands in the procedure at a place.
-pub fn variable_at(pr: u32, x: u8) -> usize
-    ensures { λ r. ⌜ r ≡ variableAt pr x ⌝ }
+// Whether a GN is due after the PR of procedure p at a place.
+pub fn is_bounded(s: &[u8], p: usize, pr: u32) -> bool
+    ensures { λ r. ⌜ r ≡ isBounded (now (s .entry)) p pr ⌝ }
 {
-    (pr as usize) + (8 + 4 * (x as usize))
+    (0 < p) & marked(s, (pr as usize) + 8, b'G', b'N')
 }
 
-// Where an IN stands in the procedure at a place.
-pub fn instruction_at(s: &[u8], pr: u32, i: u16) -> usize
-    ensures { λ r. ⌜ r ≡ instructionAt (now (s .entry)) pr i ⌝ }
-    ensures { λ r. ⌜ r < pr + 600000 ⌝ }
+// Where the VRs of procedure p start, whose PR stands at a place.
+pub fn start_from(s: &[u8], p: usize, pr: u32) -> usize
+    ensures { λ r. ⌜ r ≡ startFrom (now (s .entry)) p pr ⌝ }
+    ensures { λ r. ⌜ r ≤ pr + 13 ⌝ }
 {
-    (pr as usize) + (8 + 4 * (byte(s, pr as usize, 4) as usize)) + 8 * (i as usize)
+    if is_bounded(s, p, pr) {
+        return (pr as usize) + 13;
+    }
+    (pr as usize) + 8
+}
+
+// Where the VR of a variable stands, in a procedure whose VRs start at a place.
+pub fn variable_at(start: u32, x: u8) -> usize
+    ensures { λ r. ⌜ r ≡ variableAt start x ⌝ }
+{
+    (start as usize) + 4 * (x as usize)
+}
+
+// Where an IN stands, in a procedure with v variables whose VRs start at a place.
+pub fn instruction_from(start: u32, v: u8, i: u16) -> usize
+    ensures { λ r. ⌜ r ≡ instructionFrom start v i ⌝ }
+    ensures { λ r. ⌜ r < start + 600000 ⌝ }
+{
+    (start as usize) + 4 * (v as usize) + 8 * (i as usize)
 }

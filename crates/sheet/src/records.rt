@@ -19,7 +19,8 @@ fn size_at(s: &[u8], at: usize) -> usize
     let n = byte(s, at, 1);
     let of_in = pick((m == b'I') & (n == b'N'), 8, 0);
     let of_vr = pick((m == b'V') & (n == b'R'), 4, of_in);
-    let of_pr = pick((m == b'P') & (n == b'R'), 8, of_vr);
+    let of_gn = pick((m == b'G') & (n == b'N'), 5, of_vr);
+    let of_pr = pick((m == b'P') & (n == b'R'), 8, of_gn);
     let of_qt = pick((m == b'Q') & (n == b'T'), 6, of_pr);
     let of_ty = pick((m == b'T') & (n == b'Y'), 12, of_qt);
     pick((m == b'H') & (n == b'D'), 6, of_ty)

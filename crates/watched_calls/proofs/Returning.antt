@@ -7,6 +7,8 @@ use mathlib.Core.List.{List, [], _∷_}
 use mathlib.Core.Option.{Option, none, some}
 use lib.Dec.{eqb}
 use lib.ListN.{length}
+use Rattle.model.specs.Rights.{Rights}
+use Rattle.model.specs.Qualified.{Qual}
 use Rattle.model.specs.Rules.{optional}
 use Rattle.model.specs.Outcome.{Res, ok, stop, stuck, ensure, _>>=_, _>>_}
 use Rattle.model.specs.Program.{Program}
@@ -14,14 +16,16 @@ use Rattle.model.specs.Modes.{watched, demand, amiss}
 use Rattle.model.specs.Machine as M
 use Rattle.model.specs.Machine.{Cell, frame, State, state, View, view, moved, handed, to-caller, plan, plan-return}
 use Rattle.model.specs.declared.Operation.the-variants.{Return}
-use Rattle.sheet.specs.Layout.{resultAt, procedureAt, innerAt}
-use Rattle.sheet.specs.Meaning.{qualOf, programOf, innerIn, resultIn}
-use Rattle.index.specs.Procedures.{place-of}
+use Rattle.sheet.specs.Layout.{resultAt, procedureAt}
+use Rattle.sheet.specs.Meaning.{qualOf, programOf, resultIn}
+use Rattle.index.specs.Scope.{innerAs}
+use Rattle.index.specs.declared.procedures.Scope.{Scope}
+use Rattle.index.proofs.Reading.{inner-read}
 use Rattle.words.specs.Word.{slot-in, as-cell}
 use Rattle.words.specs.Answers.{halted, IsCell}
 use Rattle.words.specs.declared.Moved.{Moved}
 use Rattle.words.specs.declared.Moved.the-variants as Mv
-use Rattle.binding.specs.Binds.{moved-cell, handed-cell, BindsWord}
+use Rattle.binding.specs.Binds.{FrameScope, moved-cell, handed-cell, BindsWord}
 use Rattle.writers.specs.declared.Registers.{Registers}
 use Rattle.writers.specs.declared.Stepped.{Stepped}
 use Rattle.writers.specs.declared.Stepped.the-variants.{Enter, Halt}
@@ -29,14 +33,14 @@ use Rattle.writers.specs.Memory.{Given, number-in, variables-in, object-part, S
 use Rattle.writers.proofs.Effects.{halted-then}
 use Rattle.writers.proofs.View.{alone}
 use Rattle.frames.specs.Performs.{Performs, Returns}
-use Rattle.frames.specs.Frames.{Waits, KeptIn, Keeps}
-use Rattle.frames.proofs.Performs.{runs, sees}
+use Rattle.frames.specs.Frames.{Waits, KeptIn, SetIn, Keeps}
+use Rattle.frames.proofs.Performs.{sees}
 use Rattle.frames.proofs.Kept.{optional-none, optional-some}
 use Rattle.frames.proofs.Returning.{planned-as, caller-binds, caller-lacks, resumed}
 use Rattle.watched_calls.specs.declared.Handed.{Handed}
 use Rattle.watched_calls.specs.declared.Handed.the-variants as H
-use Rattle.watched_calls.specs.Calls.{PlaceOf, hands, handed-as, HandsOver}
-use Rattle.watched_calls.proofs.Laws.{stopped-as, at-place}
+use Rattle.watched_calls.specs.Calls.{ScopeHere, hands, handed-as, HandsOver}
+use Rattle.watched_calls.proofs.Laws.{stopped-as, in-scope}
 
 -- ---- what is handed over
 
@@ -83,29 +87,26 @@ module _ (s words : List ℕ) (r : Registers) (a : ℕ) (above : r .base + (vari
   unfolding halted
   returns-lacking out c t same S = stopped-as c words out s r t S 18 _ (caller-lacks watched s words r a above K n out c t same S)
 
-  module _ (b : Registers) (W : Waits watched words r b) where
-    -- where its PR stands
-    back-place : (c : Given) (out : List ℕ) (t : State watched) → c .sheet ≡ s → StandsFor watched c words out r t
-        → place-of (b .procedure) ≡ procedureAt s (number-in b)
-    back-place c out (state (frame p i vs) [] os input put) same S = let l = alone S in absurd (omega arith)
-    back-place c out (state (frame p i vs) (frame q k us ∷ gs) os input put) same S =
-        let B = W c p i q k vs us gs os input put out S in
-        runs watched c s words out b (state (frame q k us) gs os input put) same B .place ∙ ap (procedureAt s) (sym (B .procedure))
+  module _ (b : Registers) (W : Waits watched words r b) (set : Rights) (sets : SetIn watched words b set) {p : Scope} (here : ScopeHere s words b p) where
+    -- the scope in which it reads its types
+    back-scope : (c : Given) (out : List ℕ) (t : State watched) → c .sheet ≡ s → StandsFor watched c words out r t → FrameScope s (number-in b) set p
+    back-scope c out (state (frame k i z vs) [] os input put) same S = let l = alone S in absurd (omega arith)
+    back-scope c out (state (frame k i z vs) (frame q j y us ∷ gs) os input put) same S =
+        let B = W c k i q j z y vs us gs os input put out S in
+        rw (B .procedure, sets c q j y us gs os input put out B) (here c q j y us gs os input put out same B)
 
-    module _ (w pr : ℕ) (is-cell : IsCell w) (m : Moved) (at : pr ≡ place-of (b .procedure))
-        (is : BindsWord (qualOf s) (object-part r words) (innerAt s pr a) w m) where
+    module _ (w : ℕ) (is-cell : IsCell w) (m : Moved) (is : BindsWord (qualOf s) (object-part r words) (innerAs s p a) w m) where
       -- the value, bound to the variable that is kept
       bound-kept : (out : List ℕ) (c : Given) (t : State watched) → c .sheet ≡ s → StandsFor watched c words out r t
           → to-caller watched (programOf s) (view (length words) (length out) t) (view (length words) (length out) t .caller) (some (as-cell (slot-in watched (qualOf s) w)))
           ≡ (moved-cell (qualOf s) m >>= λ d. ok (M.resume (some (a, d))))
-      unfolding innerIn
       bound-kept out c t same S =
           let v = view (length words) (length out) t in
           let value = as-cell (slot-in watched (qualOf s) w) in
-          caller-binds watched s words r a above K b W n value out c t same S
+          caller-binds watched s words r a above K b W n set sets value out c t same S
           ∙ ap (λ (x : Res (Cell watched)). x >>= λ d. ok (M.resume (some (a, d))))
           (sym (is .moves (programOf s) v value (sees watched c s words out r t same S .head) (is-cell watched (qualOf s))
-          ∙ ap (λ (p : ℕ). moved watched (programOf s) v (qualOf s (innerAt s p a)) value) (at ∙ back-place c out t same S)))
+          ∙ ap (λ (q : Qual). moved watched (programOf s) v q value) (inner-read (back-scope c out t same S) a)))
 
       pub returns-refused : {k : ℕ} → m ≡ Mv.Halt k → (out : List ℕ)
           → Returns watched s words words out r (Halt k) (some (as-cell (slot-in watched (qualOf s) w)))
@@ -134,8 +135,7 @@ returned : (g : Program) (v : View watched) (a : ℕ) → plan watched g v (Retu
 unfolding plan plan-return hands
 returned g v a = tested-both _ (handed watched g v (optional a)) (λ c. to-caller watched g v (v .caller) c)
 
-module _ (s words words′ : List ℕ) (r : Registers) (a pr : ℕ) (A : PlaceOf r pr) (h : Handed)
-    (is : HandsOver s words r pr a h) where
+module _ (s words words′ : List ℕ) (r : Registers) (a : ℕ) {p : Scope} (here : ScopeHere s words r p) (h : Handed) (is : HandsOver s words r p a h) where
   return-is : (c : Given) (out : List ℕ) (t : State watched) → c .sheet ≡ s → StandsFor watched c words out r t
       → plan watched (programOf s) (view (length words) (length out) t) (Return a)
       ≡ (handed-as (qualOf s) h >>= λ d. to-caller watched (programOf s) (view (length words) (length out) t) (view (length words) (length out) t .caller) d)
@@ -143,7 +143,7 @@ module _ (s words words′ : List ℕ) (r : Registers) (a pr : ℕ) (A : PlaceOf
       let v = view (length words) (length out) t in
       returned (programOf s) v a
       ∙ ap (λ (x : Res (Option (Cell watched))). x >>= λ d. to-caller watched (programOf s) v (v .caller) d)
-      (sym (is .1 v (at-place s r pr v A (runs watched c s words out r t same S)) (sees watched c s words out r t same S)))
+      (sym (is .1 v (in-scope here c out t same S) (sees watched c s words out r t same S)))
 
   pub gives-nothing : (o : Stepped) → h ≡ H.Nothing → ((out : List ℕ) → Returns watched s words words′ out r o none)
       → (input out : List ℕ) → Performs watched s input words words′ out out r o (Return a)

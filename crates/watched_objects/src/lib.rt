@@ -1,6 +1,9 @@
-// The operations of the watched machine on arrays and records: what each asks for (crate watched_plan), done (crate writers). pr is the place of the running
-// procedure's PR.
+// The operations of the watched machine on arrays and records: what each asks for (crate watched_plan), done (crate writers). p is the scope of the running
+// frame.
 use index::Index;
+use index::procedures::Scope;
+use index::types::name_base;
+use index::types::name_rights;
 use sheet::bytes::byte;
 use sheet::fields::field;
 use sheet::places::type_at;
@@ -30,22 +33,26 @@ use writers::store_cell;
 ghost use mathlib.Core.List.{List};
 ghost use Prim.Native.Nat.{ℕ, _-_, _<_};
 ghost use lib.ListN.{length};
+ghost use mathlib.Core.Path.{_≡_};
+ghost use mathlib.Core.Bool.{false};
+ghost use Rattle.model.specs.Qualified.{isGeneric};
 ghost use Rattle.model.specs.Modes.{watched};
 ghost use Rattle.model.specs.declared.Operation.the-variants as Op;
+ghost use Rattle.index.specs.Types.{named-as};
 ghost use Rattle.index.specs.Indexed.{Ready};
 ghost use Rattle.words.specs.declared.Number.the-variants.{Is};
-ghost use Rattle.watched_plan.specs.Plans.{PlansNumber, PlansMoved, PlansStored};
+ghost use Rattle.watched_plan.specs.Plans.{PlansNumber, PlansMoved, PlansStored, PlansStore};
 ghost use Rattle.form.specs.Named.{Named};
 ghost use Rattle.writers.specs.Memory.{Sane, variables-in, frame-part, object-part};
 ghost use Rattle.frames.specs.Performs.{PerformsInside};
-ghost use Rattle.watched_calls.specs.Calls.{PlaceOf};
+ghost use Rattle.watched_calls.specs.Calls.{ScopeHere};
 ghost use Rattle.watched_objects.specs.Objects.{array-for, record-for, DoesInside};
 
 // What is read of the running frame's part of the memory and of the objects' part.
 fn fetch_in(
     s: &[u8],
     index: &Index,
-    pr: u32,
+    p: Scope,
     memory: &[u64],
     r: Registers,
     a: u8,
@@ -55,18 +62,18 @@ fn fetch_in(
     requires { ⌜ Ready (now s) (now index) ⌝ }
     requires { ⌜ Sane (length (now memory)) r ⌝ }
     requires { ⌜ (b < variables-in r) × (c < variables-in r) ⌝ }
-    ensures { λ m. ⌜ PlansMoved (now (s .entry)) pr (frame-part r (now (memory .entry))) (object-part r (now (memory .entry))) (Op.Fetch a b c) a m ⌝ }
+    ensures { λ m. ⌜ PlansMoved (now (s .entry)) p (frame-part r (now (memory .entry))) (object-part r (now (memory .entry))) (Op.Fetch a b c) a m ⌝ }
 {
     let base = r.base;
     let end = frame_end(r);
     let used = r.used;
-    fetch_guarded(s, index, pr, &memory[base..end], &memory[..used], a, b, c)
+    fetch_guarded(s, index, p, &memory[base..end], &memory[..used], a, b, c)
 }
 
 fn store_in(index: &Index, memory: &[u64], r: Registers, a: u8, b: u8, c: u8) -> Stored
     requires { ⌜ Sane (length (now memory)) r ⌝ }
     requires { ⌜ (a < variables-in r) × ((b < variables-in r) × (c < variables-in r)) ⌝ }
-    ensures { λ m. ⌜ ((s : List ℕ) (pr : ℕ) → Ready s (now (index .entry)) → PlansStored s pr (frame-part r (now (memory .entry))) (object-part r (now (memory .entry))) (Op.Store a b c) m) ⌝ }
+    ensures { λ m. ⌜ ((s : List ℕ) → Ready s (now (index .entry)) → PlansStore s (frame-part r (now (memory .entry))) (object-part r (now (memory .entry))) (Op.Store a b c) m) ⌝ }
 {
     let base = r.base;
     let end = frame_end(r);
@@ -74,22 +81,22 @@ fn store_in(index: &Index, memory: &[u64], r: Registers, a: u8, b: u8, c: u8) ->
     store_guarded(index, &memory[base..end], &memory[..used], a, b, c)
 }
 
-fn size_in(s: &[u8], index: &Index, pr: u32, memory: &[u64], r: Registers, a: u8, b: u8) -> Number
+fn size_in(s: &[u8], index: &Index, p: Scope, memory: &[u64], r: Registers, a: u8, b: u8) -> Number
     requires { ⌜ Ready (now s) (now index) ⌝ }
     requires { ⌜ Sane (length (now memory)) r ⌝ }
     requires { ⌜ b < variables-in r ⌝ }
-    ensures { λ n. ⌜ PlansNumber (now (s .entry)) pr (frame-part r (now (memory .entry))) (object-part r (now (memory .entry))) (Op.Size a b) a n ⌝ }
+    ensures { λ n. ⌜ PlansNumber (now (s .entry)) p (frame-part r (now (memory .entry))) (object-part r (now (memory .entry))) (Op.Size a b) a n ⌝ }
 {
     let base = r.base;
     let end = frame_end(r);
     let used = r.used;
-    size_guarded(s, index, pr, &memory[base..end], &memory[..used], a, b)
+    size_guarded(s, index, p, &memory[base..end], &memory[..used], a, b)
 }
 
 fn get_in(
     s: &[u8],
     index: &Index,
-    pr: u32,
+    p: Scope,
     memory: &[u64],
     r: Registers,
     a: u8,
@@ -99,18 +106,18 @@ fn get_in(
     requires { ⌜ Ready (now s) (now index) ⌝ }
     requires { ⌜ Sane (length (now memory)) r ⌝ }
     requires { ⌜ b < variables-in r ⌝ }
-    ensures { λ m. ⌜ PlansMoved (now (s .entry)) pr (frame-part r (now (memory .entry))) (object-part r (now (memory .entry))) (Op.GetSlot a b k) a m ⌝ }
+    ensures { λ m. ⌜ PlansMoved (now (s .entry)) p (frame-part r (now (memory .entry))) (object-part r (now (memory .entry))) (Op.GetSlot a b k) a m ⌝ }
 {
     let base = r.base;
     let end = frame_end(r);
     let used = r.used;
-    get_guarded(s, index, pr, &memory[base..end], &memory[..used], a, b, k)
+    get_guarded(s, index, p, &memory[base..end], &memory[..used], a, b, k)
 }
 
 fn set_in(
     s: &[u8],
     index: &Index,
-    pr: u32,
+    p: Scope,
     memory: &[u64],
     r: Registers,
     a: u8,
@@ -120,19 +127,19 @@ fn set_in(
     requires { ⌜ Ready (now s) (now index) ⌝ }
     requires { ⌜ Sane (length (now memory)) r ⌝ }
     requires { ⌜ (a < variables-in r) × (b < variables-in r) ⌝ }
-    ensures { λ m. ⌜ PlansStored (now (s .entry)) pr (frame-part r (now (memory .entry))) (object-part r (now (memory .entry))) (Op.SetSlot a b k) m ⌝ }
+    ensures { λ m. ⌜ PlansStored (now (s .entry)) p (frame-part r (now (memory .entry))) (object-part r (now (memory .entry))) (Op.SetSlot a b k) m ⌝ }
 {
     let base = r.base;
     let end = frame_end(r);
     let used = r.used;
-    set_slot_guarded(s, index, pr, &memory[base..end], &memory[..used], a, b, k)
+    set_slot_guarded(s, index, p, &memory[base..end], &memory[..used], a, b, k)
 }
 
 // A new array of n cells, where there is room for it, bound to variable a.
 fn give_array(
     s: &[u8],
     index: &Index,
-    pr: u32,
+    p: Scope,
     memory: &mut [u64],
     r: Registers,
     a: u8,
@@ -142,12 +149,12 @@ fn give_array(
     requires { ⌜ Sane (length (now memory)) r ⌝ }
     requires { ⌜ r .next < 1000 ⌝ }
     requires { ⌜ a < variables-in r ⌝ }
-    ensures { λ o. ⌜ DoesInside (now (s .entry)) (now (memory .entry)) (now (memory .exit)) r o (array-for (now (s .entry)) pr r a n) ⌝ }
+    ensures { λ o. ⌜ (isGeneric (named-as (p .name)) ≡ false → DoesInside (now (s .entry)) (now (memory .entry)) (now (memory .exit)) r o (array-for (now (s .entry)) p r a n)) ⌝ }
 {
     match n {
         Number::Is(x) => {
             if (x as usize) < r.base - r.used {
-                return make_array(s, index, pr, memory, r, a, x);
+                return make_array(s, index, p, memory, r, a, x);
             }
             Stepped::Halt(17)
         }
@@ -159,7 +166,7 @@ fn give_array(
 fn make_array(
     s: &[u8],
     index: &Index,
-    pr: u32,
+    p: Scope,
     memory: &mut [u64],
     r: Registers,
     a: u8,
@@ -170,12 +177,13 @@ fn make_array(
     requires { ⌜ r .next < 1000 ⌝ }
     requires { ⌜ a < variables-in r ⌝ }
     requires { ⌜ n < r .base - r .used ⌝ }
-    ensures { λ o. ⌜ DoesInside (now (s .entry)) (now (memory .entry)) (now (memory .exit)) r o (array-for (now (s .entry)) pr r a (Is n)) ⌝ }
+    ensures { λ o. ⌜ (isGeneric (named-as (p .name)) ≡ false → DoesInside (now (s .entry)) (now (memory .entry)) (now (memory .exit)) r o (array-for (now (s .entry)) p r a (Is n))) ⌝ }
 {
-    let stop = array_made_as(s, index, pr, a);
+    let stop = array_made_as(s, index, p, a);
     if stop == 0 {
-        let head = array_word(n, declared_element(s, index, pr, a));
-        let name = object_word(r.used as u32, declared_rights(s, index, pr, a));
+        let element = declared_element(s, index, p, a);
+        let head = array_word(n, element, name_base(p.name), name_rights(p.name));
+        let name = object_word(r.used as u32, declared_rights(s, index, p, a));
         return Stepped::Enter(allot(memory, r, a, head, n, name));
     }
     Stepped::Halt(stop)
@@ -184,7 +192,7 @@ fn make_array(
 pub fn new_array(
     s: &[u8],
     index: &Index,
-    pr: u32,
+    p: Scope,
     memory: &mut [u64],
     r: Registers,
     a: u8,
@@ -194,19 +202,19 @@ pub fn new_array(
     requires { ⌜ Sane (length (now memory)) r ⌝ }
     requires { ⌜ r .next < 1000 ⌝ }
     requires { ⌜ Named (variables-in r) (Op.NewArray a b) ⌝ }
-    requires { ⌜ PlaceOf r pr ⌝ }
+    requires { ⌜ ScopeHere (now s) (now memory) r p ⌝ }
     ensures { λ o. ⌜ PerformsInside watched (now (s .entry)) (now (memory .entry)) (now (memory .exit)) r o (Op.NewArray a b) ⌝ }
 {
     let base = r.base;
     let end = frame_end(r);
-    let n = sized(s, index, pr, &memory[base..end], a, b);
-    give_array(s, index, pr, memory, r, a, n)
+    let n = sized(s, index, p, &memory[base..end], a, b);
+    give_array(s, index, p, memory, r, a, n)
 }
 
 pub fn fetch(
     s: &[u8],
     index: &Index,
-    pr: u32,
+    p: Scope,
     memory: &mut [u64],
     r: Registers,
     a: u8,
@@ -217,10 +225,10 @@ pub fn fetch(
     requires { ⌜ Sane (length (now memory)) r ⌝ }
     requires { ⌜ r .next < 1000 ⌝ }
     requires { ⌜ Named (variables-in r) (Op.Fetch a b c) ⌝ }
-    requires { ⌜ PlaceOf r pr ⌝ }
+    requires { ⌜ ScopeHere (now s) (now memory) r p ⌝ }
     ensures { λ o. ⌜ PerformsInside watched (now (s .entry)) (now (memory .entry)) (now (memory .exit)) r o (Op.Fetch a b c) ⌝ }
 {
-    let m = fetch_in(s, index, pr, memory, r, a, b, c);
+    let m = fetch_in(s, index, p, memory, r, a, b, c);
     give_moved(memory, r, a, m)
 }
 
@@ -237,7 +245,7 @@ pub fn store(index: &Index, memory: &mut [u64], r: Registers, a: u8, b: u8, c: u
 pub fn size(
     s: &[u8],
     index: &Index,
-    pr: u32,
+    p: Scope,
     memory: &mut [u64],
     r: Registers,
     a: u8,
@@ -247,10 +255,10 @@ pub fn size(
     requires { ⌜ Sane (length (now memory)) r ⌝ }
     requires { ⌜ r .next < 1000 ⌝ }
     requires { ⌜ Named (variables-in r) (Op.Size a b) ⌝ }
-    requires { ⌜ PlaceOf r pr ⌝ }
+    requires { ⌜ ScopeHere (now s) (now memory) r p ⌝ }
     ensures { λ o. ⌜ PerformsInside watched (now (s .entry)) (now (memory .entry)) (now (memory .exit)) r o (Op.Size a b) ⌝ }
 {
-    let n = size_in(s, index, pr, memory, r, a, b);
+    let n = size_in(s, index, p, memory, r, a, b);
     give_number(memory, r, a, n)
 }
 
@@ -258,7 +266,7 @@ pub fn size(
 fn make_record(
     s: &[u8],
     index: &Index,
-    pr: u32,
+    p: Scope,
     memory: &mut [u64],
     r: Registers,
     a: u8,
@@ -269,12 +277,12 @@ fn make_record(
     requires { ⌜ r .next < 1000 ⌝ }
     requires { ⌜ a < variables-in r ⌝ }
     requires { ⌜ n < r .base - r .used ⌝ }
-    ensures { λ o. ⌜ DoesInside (now (s .entry)) (now (memory .entry)) (now (memory .exit)) r o (record-for (now (s .entry)) pr r a n) ⌝ }
+    ensures { λ o. ⌜ DoesInside (now (s .entry)) (now (memory .entry)) (now (memory .exit)) r o (record-for (now (s .entry)) p r a n) ⌝ }
 {
-    let stop = record_made_as(s, index, pr, a);
+    let stop = record_made_as(s, index, p, a);
     if stop == 0 {
-        let head = record_word(n, field(s, pr, 2));
-        let name = object_word(r.used as u32, declared_rights(s, index, pr, a));
+        let head = record_word(n, field(s, p.head, 2));
+        let name = object_word(r.used as u32, declared_rights(s, index, p, a));
         return Stepped::Enter(allot(memory, r, a, head, n, name));
     }
     Stepped::Halt(stop)
@@ -283,7 +291,7 @@ fn make_record(
 pub fn new_record(
     s: &[u8],
     index: &Index,
-    pr: u32,
+    p: Scope,
     memory: &mut [u64],
     r: Registers,
     a: u8,
@@ -292,12 +300,12 @@ pub fn new_record(
     requires { ⌜ Sane (length (now memory)) r ⌝ }
     requires { ⌜ r .next < 1000 ⌝ }
     requires { ⌜ Named (variables-in r) (Op.NewRecord a) ⌝ }
-    requires { ⌜ PlaceOf r pr ⌝ }
+    requires { ⌜ ScopeHere (now s) (now memory) r p ⌝ }
     ensures { λ o. ⌜ PerformsInside watched (now (s .entry)) (now (memory .entry)) (now (memory .exit)) r o (Op.NewRecord a) ⌝ }
 {
-    let n = byte(s, type_at(field(s, pr, 2)), 3) as u32;
+    let n = byte(s, type_at(field(s, p.head, 2)), 3) as u32;
     if (n as usize) < r.base - r.used {
-        return make_record(s, index, pr, memory, r, a, n);
+        return make_record(s, index, p, memory, r, a, n);
     }
     Stepped::Halt(17)
 }
@@ -305,7 +313,7 @@ pub fn new_record(
 pub fn get_slot(
     s: &[u8],
     index: &Index,
-    pr: u32,
+    p: Scope,
     memory: &mut [u64],
     r: Registers,
     a: u8,
@@ -316,17 +324,17 @@ pub fn get_slot(
     requires { ⌜ Sane (length (now memory)) r ⌝ }
     requires { ⌜ r .next < 1000 ⌝ }
     requires { ⌜ Named (variables-in r) (Op.GetSlot a b k) ⌝ }
-    requires { ⌜ PlaceOf r pr ⌝ }
+    requires { ⌜ ScopeHere (now s) (now memory) r p ⌝ }
     ensures { λ o. ⌜ PerformsInside watched (now (s .entry)) (now (memory .entry)) (now (memory .exit)) r o (Op.GetSlot a b k) ⌝ }
 {
-    let m = get_in(s, index, pr, memory, r, a, b, k);
+    let m = get_in(s, index, p, memory, r, a, b, k);
     give_moved(memory, r, a, m)
 }
 
 pub fn set_slot(
     s: &[u8],
     index: &Index,
-    pr: u32,
+    p: Scope,
     memory: &mut [u64],
     r: Registers,
     a: u8,
@@ -337,9 +345,9 @@ pub fn set_slot(
     requires { ⌜ Sane (length (now memory)) r ⌝ }
     requires { ⌜ r .next < 1000 ⌝ }
     requires { ⌜ Named (variables-in r) (Op.SetSlot a b k) ⌝ }
-    requires { ⌜ PlaceOf r pr ⌝ }
+    requires { ⌜ ScopeHere (now s) (now memory) r p ⌝ }
     ensures { λ o. ⌜ PerformsInside watched (now (s .entry)) (now (memory .entry)) (now (memory .exit)) r o (Op.SetSlot a b k) ⌝ }
 {
-    let m = set_in(s, index, pr, memory, r, a, b, k);
+    let m = set_in(s, index, p, memory, r, a, b, k);
     store_cell(memory, r, m)
 }

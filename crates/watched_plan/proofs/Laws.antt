@@ -12,19 +12,22 @@ use lib.ListN.{getD}
 use lib.Pow.{pow-pos}
 use borrow.Author.Tests.{lt-ltb, le-ltb, eqb-true, eq-eqb}
 use Rattle.model.specs.Rights.{Rights, within, has, none-above, record-rights, fetch-right, store-right, size-right, open-right}
-use Rattle.model.specs.Qualified.{Qual, integer, array, declared, rights, element, isInteger, isArray}
+use Rattle.model.specs.Qualified.{Qual, integer, array, declared, generic, rights, element, isInteger, isArray}
 use Rattle.model.specs.Outcome.{blank, past-end, wrong-kind, missing-right, Res, ok, stop, stuck, _>>=_, _>>_, ensure}
 use Rattle.model.specs.Program.{Program}
 use Rattle.model.specs.Rules.{owned-by}
 use Rattle.model.specs.Modes.{watched, Kind, array-kind, record-kind, amiss, demand, licence, is-of, fits, bind, bind-element}
-use Rattle.model.specs.Machine.{Value, word, Cell, empty, filled, Head, View, Effect, write, held, as-integer, array-head-of, record-head-of, array-at, record-at, declared-as, moved, give, gives, integers, one-integer, slot-there, plan, plan-fetch, plan-store, plan-size, plan-get, plan-set}
+use Rattle.model.specs.Machine.{Value, word, Cell, empty, filled, Head, View, Effect, write, held, as-integer, array-head-of, record-head-of, array-at, record-at, read-in, declared-as, moved, give, gives, integers, one-integer, slot-there, plan, plan-fetch, plan-store, plan-size, plan-get, plan-set}
 use Rattle.model.proofs.Verdicts.{both-true}
 use Rattle.model.proofs.Order.{same-refl}
 use Rattle.model.proofs.Rights.{within-refl, within-all}
-use Rattle.sheet.specs.Layout.{innerAt}
-use Rattle.sheet.specs.Meaning.{qualOf, innerIn}
-use Rattle.index.specs.Types.{qualIn}
+use Rattle.sheet.specs.Layout.{innerAt, slotOf}
+use Rattle.sheet.specs.Meaning.{programOf}
+use Rattle.index.specs.Types.{qualIn, typeIn}
 use Rattle.index.specs.Indexed.{Ready}
+use Rattle.index.specs.Scope.{innerAs}
+use Rattle.index.specs.declared.procedures.Scope.{Scope}
+use Rattle.index.proofs.Reading.{type-integer, type-array, inner-read, slot-read, inner-type, slot-type}
 use Rattle.words.specs.Word.{tag, low, payload, size-of, info-of as kind-number, cell, slot-in, as-head}
 use Rattle.words.specs.Sees.{head-size, Sees}
 use Rattle.words.specs.Answer.{read-as}
@@ -35,10 +38,10 @@ use Rattle.words.specs.declared.Number.{Number}
 use Rattle.words.specs.declared.Moved.{Moved}
 use Rattle.words.specs.declared.Stored.{Stored}
 use Rattle.words.proofs.Laws.{told-blank, told-filled, blank-word, slot-array, slot-record}
-use Rattle.binding.specs.Binds.{Heads, moved-cell}
+use Rattle.binding.specs.Binds.{InScope, Heads, moved-cell}
 use Rattle.binding.proofs.Views.{ValueOf, integer-in, object-in, value-word, CellOf, blank-in, cell-word, HeadOf, array-in, record-in, no-head-in, head-word}
 use Rattle.binding.proofs.Laws.{bound, bound-misfit, halted-then}
-use Rattle.watched_plan.specs.Spots.{pair-as, element-as, slot-as, SpotOk, storing, made, index-of, element-at, slot-of, slot-at, size-for}
+use Rattle.watched_plan.specs.Spots.{pair-as, element-in, element-as, slot-as, SpotOk, storing, made, index-of, element-at, slot-of, slot-at, size-for}
 use Rattle.watched_plan.specs.declared.Pair.{Pair}
 use Rattle.watched_plan.specs.declared.Spot.{Spot}
 use Rattle.model.specs.declared.Operation.the-variants as Op
@@ -48,10 +51,25 @@ use Rattle.words.specs.declared.Stored.the-variants as T
 use Rattle.watched_plan.specs.declared.Pair.the-variants as P
 use Rattle.watched_plan.specs.declared.Spot.the-variants as S
 
--- the type of variable a of the procedure at pr, by its number in the index
-pub inner-type : (s : List ℕ) (pr a : ℕ) {t : List ℕ} {q : ℕ} → Ready s t → q ≡ innerAt s pr a → qualIn t q ≡ innerIn s pr a
-unfolding innerIn
-inner-type s pr a {q = q} ready is = ready .types q ∙ ap (qualOf s) is
+-- the type of variable a, by its number in the index, as the scope reads it
+module _ (s : List ℕ) (p : Scope) (a : ℕ) {t : List ℕ} {q : ℕ} (ready : Ready s t) (is : q ≡ innerAt s (p .start) a) where
+  pub type-in : typeIn t (p .name) q ≡ innerAs s p a
+  type-in = ap (typeIn t (p .name)) is ∙ inner-type ready p a
+
+  -- an integer, an array: not by ?R
+  pub integer-in-type : isInteger (qualIn t q) ≡ isInteger (innerAs s p a)
+  integer-in-type = sym (type-integer t (p .name) q) ∙ ap isInteger type-in
+
+  pub array-in-type : isArray (qualIn t q) ≡ isArray (innerAs s p a)
+  array-in-type = sym (type-array t (p .name) q) ∙ ap isArray type-in
+
+  pub declared-type : (v : View watched) → InScope s v p → declared-as watched (programOf s) v a ≡ typeIn t (p .name) q
+  declared-type v in-scope = sym (type-in ∙ inner-read in-scope a)
+
+-- the type of a slot of the owner's, in the same way
+pub slot-declared : (s : List ℕ) (v : View watched) {p : Scope} {t : List ℕ} {q : ℕ} → Ready s t → InScope s v p → (o k : ℕ) → q ≡ slotOf s o k
+    → read-in watched (programOf s) v (v .procedure) (v .set-held) (programOf s .slot o k) ≡ typeIn t (p .name) q
+slot-declared s v {p} {t} ready in-scope o k is = sym (ap (typeIn t (p .name)) is ∙ slot-type ready p o k ∙ slot-read in-scope o k)
 
 -- ---- one test after another
 
@@ -191,6 +209,7 @@ unfolding isInteger rights
 no-rights integer e = refl
 no-rights (array r f) e = absurd (false≢true e)
 no-rights (declared t r) e = absurd (false≢true e)
+no-rights (generic t l) e = absurd (false≢true e)
 
 module _ (g : Program) (v : View watched) (a n : ℕ) {q : Qual} (is : declared-as watched g v a ≡ q) where
   pub gives-integer : isInteger q ≡ true → given watched a (N.Is n) ≡ gives watched g v a n
@@ -268,7 +287,7 @@ module _ (g : Program) (v : View watched) (q : ℕ → Qual) (right x y w : ℕ)
 
   index-there : {z u : Value} {m n : ℕ} {d : Head watched} → ValueOf x z m → ValueOf y u n → HeadOf q w d → d ≡ v .head (payload x)
       → (tag x ≡ 2) × (tag w ≡ 3) × (tag y ≡ 1)
-      → (ensure missing-right (has right (low x)) >> (ensure past-end (ltb (low y) (size-of w)) >> ok (payload x, q (kind-number w), low y))) ≡ index-of g v right z m u
+      → (ensure missing-right (has right (low x)) >> (ensure past-end (ltb (low y) (size-of w)) >> ok (payload x, element-in q w, low y))) ≡ index-of g v right z m u
   unfolding index-of array-at array-head-of as-integer licence _>>=_
   index-there (object-in i) (integer-in j) (array-in t) e tags = rw (sym e)
   index-there (integer-in i) r k e tags = let l = tags .0 in absurd (omega arith)
@@ -287,7 +306,7 @@ module _ (g : Program) (v : View watched) (q : ℕ → Qual) (h : List ℕ) (rig
       index-amiss g v q right x y w (value-word q x z m first) (value-word q y u n second) (head-word q w) (head-seen q v h x heads name at) (rw (t-x, t-h, t-y) at fails)
 
   index-is : (eqb tx 2 && eqb th 3) && eqb ty 1 ≡ true
-      → (ensure missing-right (has right (low x)) >> (ensure past-end (ltb (low y) (size-of w)) >> ok (payload x, q (kind-number w), low y))) ≡ index-of g v right z m u
+      → (ensure missing-right (has right (low x)) >> (ensure past-end (ltb (low y) (size-of w)) >> ok (payload x, element-in q w, low y))) ≡ index-of g v right z m u
   index-is holds =
       let k = three-true (eqb tx 2) (eqb th 3) (eqb ty 1) holds in
       index-there g v q right x y w (value-word q x z m first) (value-word q y u n second) (head-word q w) (head-seen q v h x heads name at)
@@ -367,7 +386,7 @@ module _ (q : ℕ → Qual) (g : Program) (v : View watched) (f h : List ℕ) (a
       → moved-to watched q a r ≡ plan watched g v (Op.Fetch a b c)
   unfolding element-as _>>=_
   fetch-at r {o} {i} {w} told here s dec at rest =
-      let spot : element-at g v fetch-right b c ≡ ok (o, q (kind-number (getD h o 0)), i) = sym is ∙ ap (element-as q h) told in
+      let spot : element-at g v fetch-right b c ≡ ok (o, element-in q (getD h o 0), i) = sym is ∙ ap (element-as q h) told in
       moved-into q a r
       ∙ ap (λ (m : Res (Cell watched)). m >>= λ d. ok (write a d)) (rest _ (cell-seen q v f h o i w s (inside-spot told here) at))
       ∙ sym (fetch-plan g v a b c ∙ rw (spot, dec))
@@ -379,14 +398,14 @@ module _ (q : ℕ → Qual) (g : Program) (v : View watched) (f h : List ℕ) (a
       sym (fetch-plan g v a b c ∙ rw spot (halted-then k _))
 
 module _ (q : ℕ → Qual) (g : Program) (v : View watched) (h : List ℕ) (a b c : ℕ) {p : Spot} (is : element-as q h p ≡ element-at g v store-right a b) where
-  pub store-at : (r : Stored) (m : Moved) {o i w e : ℕ} → p ≡ S.At o i → stored watched q r ≡ storing o i (moved-cell q m)
-      → w ≡ getD h o 0 → e ≡ kind-number w
-      → moved-cell q m ≡ moved watched g v (q e) (v .variable c)
+  pub store-at : (r : Stored) (m : Moved) {o i w : ℕ} {t : Qual} → p ≡ S.At o i → stored watched q r ≡ storing o i (moved-cell q m)
+      → w ≡ getD h o 0 → t ≡ element-in q w
+      → moved-cell q m ≡ moved watched g v t (v .variable c)
       → stored watched q r ≡ plan watched g v (Op.Store a b c)
   unfolding element-as _>>=_
-  store-at r m {o} {i} {w} {e} told stores at number moves =
-      let spot : element-at g v store-right a b ≡ ok (o, q (kind-number (getD h o 0)), i) = sym is ∙ ap (element-as q h) told in
-      let same : q e ≡ q (kind-number (getD h o 0)) = ap q (number ∙ ap (λ (z : ℕ). kind-number z) at) in
+  store-at r m {o} {i} {w} {t} told stores at is-element moves =
+      let spot : element-at g v store-right a b ≡ ok (o, element-in q (getD h o 0), i) = sym is ∙ ap (element-as q h) told in
+      let same : t ≡ element-in q (getD h o 0) = is-element ∙ ap (λ (z : ℕ). element-in q z) at in
       stores ∙ ap (storing o i) (moves ∙ ap (λ (t : Qual). moved watched g v t (v .variable c)) same) ∙ sym (store-plan g v a b c ∙ rw spot)
 
   pub store-halt : {k : ℕ} → p ≡ S.Halt k → stored watched q (T.Halt k) ≡ plan watched g v (Op.Store a b c)
@@ -477,7 +496,7 @@ get-plan g v a b k = sym (simp (bind-assoc, then-assoc, bind-ok))
 
 set-plan : (g : Program) (v : View watched) (a b k : ℕ)
     → plan watched g v (Op.SetSlot a b k)
-    ≡ (slot-at g v (g .owner (v .procedure)) k a >>= λ p. storing (p .0) (p .1) (moved watched g v (g .slot (g .owner (v .procedure)) k) (v .variable b)))
+    ≡ (slot-at g v (g .owner (v .procedure)) k a >>= λ p. storing (p .0) (p .1) (moved watched g v (read-in watched g v (v .procedure) (v .set-held) (g .slot (g .owner (v .procedure)) k)) (v .variable b)))
 unfolding plan plan-set slot-at slot-of storing
 set-plan g v a b k = sym (simp (bind-assoc, then-assoc, bind-ok))
 
@@ -502,13 +521,14 @@ module _ (q : ℕ → Qual) (g : Program) (v : View watched) (f h : List ℕ) (a
 
 module _ (q : ℕ → Qual) (g : Program) (v : View watched) (a b k : ℕ) {p : Spot} {owner : ℕ}
     (own : g .owner (v .procedure) ≡ owner) (is : slot-as p ≡ slot-at g v owner k a) where
-  pub set-at : (r : Stored) (m : Moved) {o i : ℕ} → p ≡ S.At o i → stored watched q r ≡ storing o i (moved-cell q m)
-      → moved-cell q m ≡ moved watched g v (g .slot owner k) (v .variable b)
+  pub set-at : (r : Stored) (m : Moved) {o i : ℕ} {t : Qual} → p ≡ S.At o i → stored watched q r ≡ storing o i (moved-cell q m)
+      → read-in watched g v (v .procedure) (v .set-held) (g .slot owner k) ≡ t
+      → moved-cell q m ≡ moved watched g v t (v .variable b)
       → stored watched q r ≡ plan watched g v (Op.SetSlot a b k)
   unfolding slot-as _>>=_
-  set-at r m {o} {i} told stores moves =
+  set-at r m {o} {i} told stores is-slot moves =
       let spot : slot-at g v (g .owner (v .procedure)) k a ≡ ok (o, i) = rw own (sym is ∙ ap slot-as told) in
-      stores ∙ ap (storing o i) moves ∙ sym (set-plan g v a b k ∙ rw (spot, own))
+      stores ∙ ap (storing o i) moves ∙ sym (set-plan g v a b k ∙ rw (spot, own, is-slot))
 
   pub set-halt : {n : ℕ} → p ≡ S.Halt n → stored watched q (T.Halt n) ≡ plan watched g v (Op.SetSlot a b k)
   unfolding slot-as stored

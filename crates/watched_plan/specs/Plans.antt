@@ -1,5 +1,5 @@
--- What an instruction asks for, against its plan: in every view that sees the words f of the running frame and h of the objects while the procedure at pr
--- runs.
+-- What an instruction asks for, against its plan: in every view that sees the words f of the running frame, which reads its types in scope p, and h of the
+-- objects.
 use Prim.Native.Nat.{ℕ}
 use mathlib.Core.Path.{_≡_}
 use mathlib.Core.List.{List}
@@ -7,17 +7,18 @@ use Rattle.model.specs.Outcome.{Res}
 use Rattle.model.specs.Modes.{watched}
 use Rattle.model.specs.Machine.{View, Effect, plan}
 use Rattle.model.specs.declared.Operation.{Operation}
-use Rattle.sheet.specs.Layout.{procedureAt}
 use Rattle.sheet.specs.Meaning.{qualOf, programOf}
+use Rattle.index.specs.declared.procedures.Scope.{Scope}
 use Rattle.words.specs.Sees.{Sees}
 use Rattle.words.specs.Answers.{MovedOk, StoredOk, given, moved-to, stored}
 use Rattle.words.specs.declared.Number.{Number}
 use Rattle.words.specs.declared.Moved.{Moved}
 use Rattle.words.specs.declared.Stored.{Stored}
+use Rattle.binding.specs.Binds.{InScope}
 
-module _ (s : List ℕ) (pr : ℕ) (f h : List ℕ) where
+module _ (s : List ℕ) (p : Scope) (f h : List ℕ) where
   abbrev pub Plans : Operation → Res (Effect watched) → Type 0
-  Plans op e = (v : View watched) → procedureAt s (v .procedure) ≡ pr → Sees watched (qualOf s) v f h → e ≡ plan watched (programOf s) v op
+  Plans op e = (v : View watched) → InScope s v p → Sees watched (qualOf s) v f h → e ≡ plan watched (programOf s) v op
 
   -- it gives variable a this integer
   abbrev pub PlansNumber : Operation → (a : ℕ) → Number → Type 0
@@ -30,3 +31,8 @@ module _ (s : List ℕ) (pr : ℕ) (f h : List ℕ) where
   -- it stores this word in a cell of an object
   abbrev pub PlansStored : Operation → Stored → Type 0
   PlansStored op m = StoredOk h m × Plans op (stored watched (qualOf s) m)
+
+-- a store reads no type of the frame: the array has its element
+abbrev pub PlansStore : (s f h : List ℕ) → Operation → Stored → Type 0
+PlansStore s f h op m =
+    StoredOk h m × ((v : View watched) → Sees watched (qualOf s) v f h → stored watched (qualOf s) m ≡ plan watched (programOf s) v op)

@@ -5,13 +5,14 @@ use mathlib.Core.List.{List}
 use lib.Dec.{ltb}
 use lib.ListN.{getD}
 use Rattle.model.specs.Rights.{Rights, open-right, array-rights, record-rights}
-use Rattle.model.specs.Qualified.{Qual, rights, element, isArray}
+use Rattle.model.specs.Qualified.{Qual, declared, rights, element, isArray}
+use Rattle.model.specs.Generic.{read}
 use Rattle.model.specs.Program.{Program}
 use Rattle.model.specs.Outcome.{past-end, Res, ok, _>>=_, _>>_, ensure}
 use Rattle.model.specs.Modes.{watched, array-kind, record-kind, demand, licence, bind}
 use Rattle.model.specs.Machine.{Value, Cell, filled, View, Effect, store, held, as-integer, array-at, record-at, one-integer, slot-there}
 use Rattle.sheet.specs.Layout.{namedOf}
-use Rattle.words.specs.Word.{info-of, cell, slot-in}
+use Rattle.words.specs.Word.{low, info-of, settled-base, cell, slot-in}
 use Rattle.words.specs.Sees.{Sees}
 use Rattle.words.specs.Answers.{halted, InObject}
 use Rattle.binding.specs.Binds.{Heads}
@@ -25,9 +26,13 @@ unfoldable pub pair-as : Pair → Res (ℕ × ℕ)
 pair-as (P.Are m n) = ok (m, n)
 pair-as (P.Halt k) = halted watched k
 
+-- the element of an array, by its head
+abbrev pub element-in : (ℕ → Qual) → ℕ → Qual
+element-in qual w = read (declared (settled-base w) (low w)) (qual (info-of w))
+
 -- an object, its element and an index; an object and a slot
 unfoldable pub element-as : (ℕ → Qual) → List ℕ → Spot → Res (ℕ × Qual × ℕ)
-element-as qual h (S.At o i) = ok (o, qual (info-of (getD h o 0)), i)
+element-as qual h (S.At o i) = ok (o, element-in qual (getD h o 0), i)
 element-as qual h (S.Halt k) = halted watched k
 
 unfoldable pub slot-as : Spot → Res (ℕ × ℕ)

@@ -1,11 +1,13 @@
 // What each instruction of the watched machine asks for, with every test of kind and right, found by reading alone: f is the running frame's part of the
-// memory, h the objects' part, pr the place of the running procedure's PR. Every test reads carried rights.
+// memory, h the objects' part, p the scope in which it reads its types. Every test reads carried rights.
 use binding::bind_word;
+use binding::object_name;
 use index::Index;
+use index::procedures::Scope;
 use index::types::element_of;
 use index::types::is_array;
 use index::types::is_integer;
-use index::types::rights_of;
+use index::types::rights_as;
 use order::is_owned;
 use rights::has_none_above;
 use rights::has_right;
@@ -33,19 +35,22 @@ ghost use Prim.Native.Nat.{ℕ, _<_};
 ghost use lib.ListN.{length};
 ghost use lib.Dec.{ltb};
 ghost use Rattle.model.specs.Qualified.{Qual, rights, element, isInteger};
+ghost use Rattle.model.specs.Generic as generic;
 ghost use Rattle.model.specs.Program.{Program};
 ghost use Rattle.model.specs.Modes.{watched};
 ghost use Rattle.model.specs.Machine.{Value, filled, View, as-integer, integers, one-integer, gives, flag};
 ghost use Rattle.model.specs.declared.Operation.the-variants as Op;
-ghost use Rattle.sheet.specs.Layout.{procedureAt, ownerAt};
-ghost use Rattle.sheet.specs.Meaning.{qualOf, innerIn, programOf};
+ghost use Rattle.sheet.specs.Layout.{ownerAt};
+ghost use Rattle.sheet.specs.Meaning.{qualOf, programOf};
+ghost use Rattle.index.specs.Types.{named-as};
 ghost use Rattle.index.specs.Indexed.{Ready};
+ghost use Rattle.index.specs.Scope.{innerAs};
 ghost use Rattle.words.specs.Word.{cell, slot-in};
 ghost use Rattle.words.specs.Sees.{Sees};
 ghost use Rattle.words.specs.Answers.{MovedOk, StoredOk, InObject, number-as, given, stored};
-ghost use Rattle.binding.specs.Binds.{moved-cell};
+ghost use Rattle.binding.specs.Binds.{InScope, moved-cell};
 ghost use Rattle.watched_plan.specs.Spots.{pair-as, storing, size-for, FindsIndexed, FindsElement, FindsOpened, FindsSlot, MakesArray, MakesRecord};
-ghost use Rattle.watched_plan.specs.Plans.{PlansNumber, PlansMoved, PlansStored};
+ghost use Rattle.watched_plan.specs.Plans.{PlansNumber, PlansMoved, PlansStored, PlansStore};
 
 // Two integers, or the number of the stop.
 enum Pair {
@@ -98,49 +103,49 @@ fn two_integers(f: &[u64], b: u8, c: u8) -> Pair
 }
 
 // The input that a take finds may go into variable a.
-pub fn takes_integer(s: &[u8], index: &Index, pr: u32, a: u8) -> bool
+pub fn takes_integer(s: &[u8], index: &Index, p: Scope, a: u8) -> bool
     requires { ⌜ Ready (now s) (now index) ⌝ }
-    ensures { λ r. ⌜ r ≡ isInteger (innerIn (now (s .entry)) pr a) ⌝ }
+    ensures { λ r. ⌜ r ≡ isInteger (innerAs (now (s .entry)) p a) ⌝ }
 {
-    is_integer(index, inner_of(s, pr, a))
+    is_integer(index, inner_of(s, p.start, a))
 }
 
 // An integer on its way into variable a.
-fn give(s: &[u8], index: &Index, pr: u32, a: u8, n: u32) -> Number
+fn give(s: &[u8], index: &Index, p: Scope, a: u8, n: u32) -> Number
     requires { ⌜ Ready (now s) (now index) ⌝ }
-    ensures { λ r. ⌜ ((v : View watched) → procedureAt (now (s .entry)) (v .procedure) ≡ pr → given watched a r ≡ gives watched (programOf (now (s .entry))) v a n) ⌝ }
+    ensures { λ r. ⌜ ((v : View watched) → InScope (now (s .entry)) v p → given watched a r ≡ gives watched (programOf (now (s .entry))) v a n) ⌝ }
 {
-    if takes_integer(s, index, pr, a) {
+    if takes_integer(s, index, p, a) {
         return Number::Is(n);
     }
     Number::Halt(18)
 }
 
-pub fn set_guarded(s: &[u8], index: &Index, pr: u32, a: u8, k: u16) -> Number
+pub fn set_guarded(s: &[u8], index: &Index, p: Scope, a: u8, k: u16) -> Number
     requires { ⌜ Ready (now s) (now index) ⌝ }
-    ensures { λ r. ⌜ ((f h : List ℕ) → PlansNumber (now (s .entry)) pr f h (Op.Set a k) a r) ⌝ }
+    ensures { λ r. ⌜ ((f h : List ℕ) → PlansNumber (now (s .entry)) p f h (Op.Set a k) a r) ⌝ }
 {
-    give(s, index, pr, a, k as u32)
+    give(s, index, p, a, k as u32)
 }
 
-pub fn add_guarded(s: &[u8], index: &Index, pr: u32, f: &[u64], a: u8, b: u8, c: u8) -> Number
+pub fn add_guarded(s: &[u8], index: &Index, p: Scope, f: &[u64], a: u8, b: u8, c: u8) -> Number
     requires { ⌜ Ready (now s) (now index) ⌝ }
     requires { ⌜ (b < length (now f)) × (c < length (now f)) ⌝ }
-    ensures { λ r. ⌜ ((h : List ℕ) → PlansNumber (now (s .entry)) pr (now (f .entry)) h (Op.Add a b c) a r) ⌝ }
+    ensures { λ r. ⌜ ((h : List ℕ) → PlansNumber (now (s .entry)) p (now (f .entry)) h (Op.Add a b c) a r) ⌝ }
 {
     match two_integers(f, b, c) {
-        Pair::Are(m, n) => give(s, index, pr, a, std::num::wrapping_add_u32(m, n)),
+        Pair::Are(m, n) => give(s, index, p, a, std::num::wrapping_add_u32(m, n)),
         Pair::Halt(k) => Number::Halt(k),
     }
 }
 
-pub fn subtract_guarded(s: &[u8], index: &Index, pr: u32, f: &[u64], a: u8, b: u8, c: u8) -> Number
+pub fn subtract_guarded(s: &[u8], index: &Index, p: Scope, f: &[u64], a: u8, b: u8, c: u8) -> Number
     requires { ⌜ Ready (now s) (now index) ⌝ }
     requires { ⌜ (b < length (now f)) × (c < length (now f)) ⌝ }
-    ensures { λ r. ⌜ ((h : List ℕ) → PlansNumber (now (s .entry)) pr (now (f .entry)) h (Op.Subtract a b c) a r) ⌝ }
+    ensures { λ r. ⌜ ((h : List ℕ) → PlansNumber (now (s .entry)) p (now (f .entry)) h (Op.Subtract a b c) a r) ⌝ }
 {
     match two_integers(f, b, c) {
-        Pair::Are(m, n) => give(s, index, pr, a, std::num::wrapping_sub_u32(m, n)),
+        Pair::Are(m, n) => give(s, index, p, a, std::num::wrapping_sub_u32(m, n)),
         Pair::Halt(k) => Number::Halt(k),
     }
 }
@@ -154,23 +159,23 @@ fn less(m: u32, n: u32) -> u32
     0
 }
 
-pub fn less_guarded(s: &[u8], index: &Index, pr: u32, f: &[u64], a: u8, b: u8, c: u8) -> Number
+pub fn less_guarded(s: &[u8], index: &Index, p: Scope, f: &[u64], a: u8, b: u8, c: u8) -> Number
     requires { ⌜ Ready (now s) (now index) ⌝ }
     requires { ⌜ (b < length (now f)) × (c < length (now f)) ⌝ }
-    ensures { λ r. ⌜ ((h : List ℕ) → PlansNumber (now (s .entry)) pr (now (f .entry)) h (Op.Less a b c) a r) ⌝ }
+    ensures { λ r. ⌜ ((h : List ℕ) → PlansNumber (now (s .entry)) p (now (f .entry)) h (Op.Less a b c) a r) ⌝ }
 {
     match two_integers(f, b, c) {
-        Pair::Are(m, n) => give(s, index, pr, a, less(m, n)),
+        Pair::Are(m, n) => give(s, index, p, a, less(m, n)),
         Pair::Halt(k) => Number::Halt(k),
     }
 }
 
-pub fn bind_guarded(s: &[u8], index: &Index, pr: u32, f: &[u64], h: &[u64], a: u8, b: u8) -> Moved
+pub fn bind_guarded(s: &[u8], index: &Index, p: Scope, f: &[u64], h: &[u64], a: u8, b: u8) -> Moved
     requires { ⌜ Ready (now s) (now index) ⌝ }
     requires { ⌜ b < length (now f) ⌝ }
-    ensures { λ r. ⌜ PlansMoved (now (s .entry)) pr (now (f .entry)) (now (h .entry)) (Op.Bind a b) a r ⌝ }
+    ensures { λ r. ⌜ PlansMoved (now (s .entry)) p (now (f .entry)) (now (h .entry)) (Op.Bind a b) a r ⌝ }
 {
-    bind_word(index, h, inner_of(s, pr, a), word_at(f, b))
+    bind_word(index, p.name, h, inner_of(s, p.start, a), word_at(f, b))
 }
 
 // The element of the array of a filled cell, x, by the index in another, y: kinds, right, size.
@@ -211,7 +216,7 @@ fn element_spot(f: &[u64], h: &[u64], b: u8, c: u8, right: u8) -> Spot
 pub fn fetch_guarded(
     s: &[u8],
     index: &Index,
-    pr: u32,
+    p: Scope,
     f: &[u64],
     h: &[u64],
     a: u8,
@@ -220,12 +225,12 @@ pub fn fetch_guarded(
 ) -> Moved
     requires { ⌜ Ready (now s) (now index) ⌝ }
     requires { ⌜ (b < length (now f)) × (c < length (now f)) ⌝ }
-    ensures { λ r. ⌜ PlansMoved (now (s .entry)) pr (now (f .entry)) (now (h .entry)) (Op.Fetch a b c) a r ⌝ }
+    ensures { λ r. ⌜ PlansMoved (now (s .entry)) p (now (f .entry)) (now (h .entry)) (Op.Fetch a b c) a r ⌝ }
 {
     match element_spot(f, h, b, c, 1) {
         Spot::At(o, i) => {
             let w = read(h, (o as usize) + 1 + (i as usize));
-            bind_word(index, h, inner_of(s, pr, a), w)
+            bind_word(index, p.name, h, inner_of(s, p.start, a), w)
         }
         Spot::Halt(k) => Moved::Halt(k),
     }
@@ -244,21 +249,22 @@ fn stored_at(o: u32, i: u32, m: Moved) -> Stored
 
 pub fn store_guarded(index: &Index, f: &[u64], h: &[u64], a: u8, b: u8, c: u8) -> Stored
     requires { ⌜ (a < length (now f)) × ((b < length (now f)) × (c < length (now f))) ⌝ }
-    ensures { λ r. ⌜ ((s : List ℕ) (pr : ℕ) → Ready s (now (index .entry)) → PlansStored s pr (now (f .entry)) (now (h .entry)) (Op.Store a b c) r) ⌝ }
+    ensures { λ r. ⌜ ((s : List ℕ) → Ready s (now (index .entry)) → PlansStore s (now (f .entry)) (now (h .entry)) (Op.Store a b c) r) ⌝ }
 {
     match element_spot(f, h, a, b, 2) {
         Spot::At(o, i) => {
-            let element = kind_in(read(h, o as usize));
-            stored_at(o, i, bind_word(index, h, element, word_at(f, c)))
+            let head = read(h, o as usize);
+            let element = bind_word(index, object_name(head), h, kind_in(head), word_at(f, c));
+            stored_at(o, i, element)
         }
         Spot::Halt(k) => Stored::Halt(k),
     }
 }
 
-pub fn size_guarded(s: &[u8], index: &Index, pr: u32, f: &[u64], h: &[u64], a: u8, b: u8) -> Number
+pub fn size_guarded(s: &[u8], index: &Index, p: Scope, f: &[u64], h: &[u64], a: u8, b: u8) -> Number
     requires { ⌜ Ready (now s) (now index) ⌝ }
     requires { ⌜ b < length (now f) ⌝ }
-    ensures { λ r. ⌜ PlansNumber (now (s .entry)) pr (now (f .entry)) (now (h .entry)) (Op.Size a b) a r ⌝ }
+    ensures { λ r. ⌜ PlansNumber (now (s .entry)) p (now (f .entry)) (now (h .entry)) (Op.Size a b) a r ⌝ }
 {
     let Cell::Filled(x) = cell_of(word_at(f, b)) else {
         return Number::Halt(13);
@@ -266,7 +272,7 @@ pub fn size_guarded(s: &[u8], index: &Index, pr: u32, f: &[u64], h: &[u64], a: u
     let head = read(h, name_of(x) as usize);
     if (tag_of(x) == 2) & (tag_of(head) == 3) {
         if has_right(3, low_of(x)) {
-            return give(s, index, pr, a, size_of(head));
+            return give(s, index, p, a, size_of(head));
         }
         return Number::Halt(19);
     }
@@ -305,7 +311,7 @@ fn slot_spot(f: &[u64], h: &[u64], t: u8, b: u8, k: u16) -> Spot
 pub fn get_guarded(
     s: &[u8],
     index: &Index,
-    pr: u32,
+    p: Scope,
     f: &[u64],
     h: &[u64],
     a: u8,
@@ -314,12 +320,12 @@ pub fn get_guarded(
 ) -> Moved
     requires { ⌜ Ready (now s) (now index) ⌝ }
     requires { ⌜ b < length (now f) ⌝ }
-    ensures { λ r. ⌜ PlansMoved (now (s .entry)) pr (now (f .entry)) (now (h .entry)) (Op.GetSlot a b k) a r ⌝ }
+    ensures { λ r. ⌜ PlansMoved (now (s .entry)) p (now (f .entry)) (now (h .entry)) (Op.GetSlot a b k) a r ⌝ }
 {
-    match slot_spot(f, h, field(s, pr, 2), b, k) {
+    match slot_spot(f, h, field(s, p.head, 2), b, k) {
         Spot::At(o, i) => {
             let w = read(h, (o as usize) + 1 + (i as usize));
-            bind_word(index, h, inner_of(s, pr, a), w)
+            bind_word(index, p.name, h, inner_of(s, p.start, a), w)
         }
         Spot::Halt(n) => Moved::Halt(n),
     }
@@ -328,7 +334,7 @@ pub fn get_guarded(
 pub fn set_slot_guarded(
     s: &[u8],
     index: &Index,
-    pr: u32,
+    p: Scope,
     f: &[u64],
     h: &[u64],
     a: u8,
@@ -337,58 +343,58 @@ pub fn set_slot_guarded(
 ) -> Stored
     requires { ⌜ Ready (now s) (now index) ⌝ }
     requires { ⌜ (a < length (now f)) × (b < length (now f)) ⌝ }
-    ensures { λ r. ⌜ PlansStored (now (s .entry)) pr (now (f .entry)) (now (h .entry)) (Op.SetSlot a b k) r ⌝ }
+    ensures { λ r. ⌜ PlansStored (now (s .entry)) p (now (f .entry)) (now (h .entry)) (Op.SetSlot a b k) r ⌝ }
 {
-    let owner = field(s, pr, 2);
+    let owner = field(s, p.head, 2);
     match slot_spot(f, h, owner, a, k) {
         Spot::At(o, i) => stored_at(
             o,
             i,
-            bind_word(index, h, slot_of(s, owner, k), word_at(f, b)),
+            bind_word(index, p.name, h, slot_of(s, owner, k), word_at(f, b)),
         ),
         Spot::Halt(n) => Stored::Halt(n),
     }
 }
 
 // The size of a new array for variable a, from variable b, before the room for it is tested.
-pub fn sized(s: &[u8], index: &Index, pr: u32, f: &[u64], a: u8, b: u8) -> Number
+pub fn sized(s: &[u8], index: &Index, p: Scope, f: &[u64], a: u8, b: u8) -> Number
     requires { ⌜ Ready (now s) (now index) ⌝ }
     requires { ⌜ b < length (now f) ⌝ }
-    ensures { λ r. ⌜ ((g : Program) (v : View watched) (h : List ℕ) → Sees watched (qualOf (now (s .entry))) v (now (f .entry)) h → number-as watched r ≡ size-for g v (innerIn (now (s .entry)) pr a) b) ⌝ }
+    ensures { λ r. ⌜ ((g : Program) (v : View watched) (h : List ℕ) → Sees watched (qualOf (now (s .entry))) v (now (f .entry)) h → number-as watched r ≡ size-for g v (innerAs (now (s .entry)) p a) b) ⌝ }
 {
     let n = integer_in(f, b);
     let Number::Is(_) = n else {
         return n;
     };
-    if is_array(index, inner_of(s, pr, a)) {
+    if is_array(index, inner_of(s, p.start, a)) {
         return n;
     }
     Number::Halt(18)
 }
 
-// The number of the element, and the rights, of the declared type of variable a.
-pub fn declared_element(s: &[u8], index: &Index, pr: u32, a: u8) -> u8
+// The number of the element, ?R unread, and the rights, of the declared type of variable a.
+pub fn declared_element(s: &[u8], index: &Index, p: Scope, a: u8) -> u8
     requires { ⌜ Ready (now s) (now index) ⌝ }
-    ensures { λ r. ⌜ qualOf (now (s .entry)) r ≡ element (innerIn (now (s .entry)) pr a) ⌝ }
+    ensures { λ r. ⌜ generic.read (named-as (p .name)) (qualOf (now (s .entry)) r) ≡ element (innerAs (now (s .entry)) p a) ⌝ }
 {
-    element_of(index, inner_of(s, pr, a))
+    element_of(index, inner_of(s, p.start, a))
 }
 
-pub fn declared_rights(s: &[u8], index: &Index, pr: u32, a: u8) -> u32
+pub fn declared_rights(s: &[u8], index: &Index, p: Scope, a: u8) -> u32
     requires { ⌜ Ready (now s) (now index) ⌝ }
-    ensures { λ r. ⌜ r ≡ rights (innerIn (now (s .entry)) pr a) ⌝ }
+    ensures { λ r. ⌜ r ≡ rights (innerAs (now (s .entry)) p a) ⌝ }
 {
-    rights_of(index, inner_of(s, pr, a))
+    rights_as(index, p.name, inner_of(s, p.start, a))
 }
 
 // A new array with all its rights, bound to variable a: 0, or the number of the stop.
-pub fn array_made_as(s: &[u8], index: &Index, pr: u32, a: u8) -> u8
+pub fn array_made_as(s: &[u8], index: &Index, p: Scope, a: u8) -> u8
     requires { ⌜ Ready (now s) (now index) ⌝ }
-    ensures { λ r. ⌜ MakesArray (innerIn (now (s .entry)) pr a) r ⌝ }
+    ensures { λ r. ⌜ MakesArray (innerAs (now (s .entry)) p a) r ⌝ }
 {
-    let q = inner_of(s, pr, a);
+    let q = inner_of(s, p.start, a);
     if is_array(index, q) {
-        if is_within(rights_of(index, q), 14) {
+        if is_within(rights_as(index, p.name, q), 14) {
             return 0;
         }
         return 19;
@@ -397,14 +403,14 @@ pub fn array_made_as(s: &[u8], index: &Index, pr: u32, a: u8) -> u8
 }
 
 // A new record of the owner's type with all its rights, bound to variable a: 0, or the number of the stop.
-pub fn record_made_as(s: &[u8], index: &Index, pr: u32, a: u8) -> u8
+pub fn record_made_as(s: &[u8], index: &Index, p: Scope, a: u8) -> u8
     requires { ⌜ Ready (now s) (now index) ⌝ }
-    ensures { λ r. ⌜ MakesRecord (now (s .entry)) (innerIn (now (s .entry)) pr a) (ownerAt (now (s .entry)) pr) r ⌝ }
+    ensures { λ r. ⌜ MakesRecord (now (s .entry)) (innerAs (now (s .entry)) p a) (ownerAt (now (s .entry)) (p .head)) r ⌝ }
 {
-    let q = inner_of(s, pr, a);
-    let owner = field(s, pr, 2);
-    if is_owned(index, owner, q) {
-        if has_none_above(byte(s, type_at(owner), 2), rights_of(index, q)) {
+    let q = inner_of(s, p.start, a);
+    let owner = field(s, p.head, 2);
+    if is_owned(index, p.name, owner, q) {
+        if has_none_above(byte(s, type_at(owner), 2), rights_as(index, p.name, q)) {
             return 0;
         }
         return 19;

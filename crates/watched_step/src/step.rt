@@ -1,6 +1,8 @@
 // One instruction.
+use frames::set_in;
 use index::Index;
-use index::procedures::place_in;
+use index::procedures::Scope;
+use index::procedures::frame_scope;
 use model::Operation;
 use sheet::fetch::operation_whole;
 use watched_calls::call;
@@ -28,14 +30,14 @@ ghost use Rattle.sheet.specs.Decode.{operationAt};
 ghost use Rattle.writers.specs.Memory.{Sane};
 ghost use Rattle.frames.specs.Performs.{Loaded, Performs};
 ghost use Rattle.frames.specs.Fetch.{Fetchable, CodeOf, place-in};
-ghost use Rattle.watched_calls.specs.Calls.{PlaceOf};
+ghost use Rattle.watched_calls.specs.Calls.{ScopeHere};
 
-// The same with the place of the running procedure's PR.
+// The same in the scope of the running frame.
 fn step_at(
     s: &[u8],
     index: &Index,
     code: &[u8],
-    pr: u32,
+    p: Scope,
     input: &[u32],
     memory: &mut [u64],
     output: &mut [u32],
@@ -45,28 +47,28 @@ fn step_at(
     requires { ⌜ Sane (length (now memory)) r ⌝ }
     requires { ⌜ Fetchable (now s) r ⌝ }
     requires { ⌜ CodeOf (now s) r (now code) ⌝ }
-    requires { ⌜ PlaceOf r pr ⌝ }
+    requires { ⌜ ScopeHere (now s) (now memory) r p ⌝ }
     ensures { λ o. ⌜ Performs watched (now (s .entry)) (now (input .entry)) (now (memory .entry)) (now (memory .exit)) (now (output .entry)) (now (output .exit)) r o (operationAt (now (s .entry)) (place-in r)) ⌝ }
 {
     let operation = operation_whole(code, 8 * r.next);
     match operation {
-        Operation::Set(a, k) => set(s, index, pr, memory, r, a, k),
-        Operation::Add(a, b, c) => add(s, index, pr, memory, r, a, b, c),
-        Operation::Subtract(a, b, c) => subtract(s, index, pr, memory, r, a, b, c),
-        Operation::Less(a, b, c) => less(s, index, pr, memory, r, a, b, c),
+        Operation::Set(a, k) => set(s, index, p, memory, r, a, k),
+        Operation::Add(a, b, c) => add(s, index, p, memory, r, a, b, c),
+        Operation::Subtract(a, b, c) => subtract(s, index, p, memory, r, a, b, c),
+        Operation::Less(a, b, c) => less(s, index, p, memory, r, a, b, c),
         Operation::JumpZero(a, k) => jump_zero(memory, r, a, k),
-        Operation::Bind(a, b) => bind(s, index, pr, memory, r, a, b),
-        Operation::Take(a) => take(s, index, pr, input, memory, r, a),
+        Operation::Bind(a, b) => bind(s, index, p, memory, r, a, b),
+        Operation::Take(a) => take(s, index, p, input, memory, r, a),
         Operation::Put(a) => put(memory, output, r, a),
-        Operation::NewArray(a, b) => new_array(s, index, pr, memory, r, a, b),
-        Operation::Fetch(a, b, c) => fetch(s, index, pr, memory, r, a, b, c),
+        Operation::NewArray(a, b) => new_array(s, index, p, memory, r, a, b),
+        Operation::Fetch(a, b, c) => fetch(s, index, p, memory, r, a, b, c),
         Operation::Store(a, b, c) => store(index, memory, r, a, b, c),
-        Operation::Size(a, b) => size(s, index, pr, memory, r, a, b),
-        Operation::NewRecord(a) => new_record(s, index, pr, memory, r, a),
-        Operation::GetSlot(a, b, k) => get_slot(s, index, pr, memory, r, a, b, k),
-        Operation::SetSlot(a, b, k) => set_slot(s, index, pr, memory, r, a, b, k),
-        Operation::Call(a, b, k) => call(s, index, memory, r, a, b, k),
-        Operation::Return(a) => give_back(s, index, pr, memory, r, a),
+        Operation::Size(a, b) => size(s, index, p, memory, r, a, b),
+        Operation::NewRecord(a) => new_record(s, index, p, memory, r, a),
+        Operation::GetSlot(a, b, k) => get_slot(s, index, p, memory, r, a, b, k),
+        Operation::SetSlot(a, b, k) => set_slot(s, index, p, memory, r, a, b, k),
+        Operation::Call(a, b, k) => call(s, index, p, memory, r, a, b, k),
+        Operation::Return(a) => give_back(s, index, p, memory, r, a),
     }
 }
 
@@ -90,7 +92,7 @@ pub fn guarded_step(
         s,
         index,
         code,
-        place_in(r.procedure),
+        frame_scope(s, r.procedure, set_in(memory, r)),
         input,
         memory,
         output,

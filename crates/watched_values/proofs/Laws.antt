@@ -17,9 +17,10 @@ use Rattle.model.specs.Machine.{Cell, filled, word, View, Effect, view, plan, f
 use Rattle.model.specs.Program.{Program}
 use Rattle.model.specs.declared.Operation.{Operation}
 use Rattle.model.specs.declared.Operation.the-variants as Op
-use Rattle.sheet.specs.Layout.{procedureAt}
 use Rattle.sheet.specs.Meaning.{programOf}
+use Rattle.index.specs.declared.procedures.Scope.{Scope}
 use Rattle.words.specs.Answers.{halted, given}
+use Rattle.binding.specs.Binds.{InScope}
 use Rattle.watched_plan.proofs.Laws.{gives-integer, gives-misfit}
 use Rattle.writers.specs.declared.Registers.{Registers}
 use Rattle.writers.specs.declared.Stepped.{Stepped}
@@ -27,21 +28,19 @@ use Rattle.writers.specs.Memory.{Given}
 use Rattle.writers.specs.Steps.{Does, take-effect}
 use Rattle.writers.proofs.View.{next-input-is}
 use Rattle.frames.specs.Performs.{Performs}
-use Rattle.frames.proofs.Performs.{runs}
-use Rattle.watched_calls.specs.Calls.{PlaceOf}
-use Rattle.watched_calls.proofs.Laws.{at-place, performs-exactly}
+use Rattle.watched_calls.specs.Calls.{ScopeHere}
+use Rattle.watched_calls.proofs.Laws.{in-scope, performs-exactly}
 
 module _ (s input words words′ before out : List ℕ) (r : Registers) (o : Stepped) (op : Operation) (e : List ℕ → Res (Effect watched))
     (does : (c : Given) → c .sheet ≡ s → Does watched c words words′ before out r o (e (c .sheet))) where
-  -- a plan that leans on the running procedure and the next input word
-  pub performs-taking : (pr : ℕ) → PlaceOf r pr
-      → ((v : View watched) → procedureAt s (v .procedure) ≡ pr → first-of (drop (r .taken) input) ≡ v .next-input → e s ≡ plan watched (programOf s) v op)
+  -- a plan that leans on the running frame's scope and the next input word
+  pub performs-taking : {p : Scope} → ScopeHere s words r p
+      → ((v : View watched) → InScope s v p → first-of (drop (r .taken) input) ≡ v .next-input → e s ≡ plan watched (programOf s) v op)
       → Performs watched s input words words′ before out r o op
-  performs-taking pr A planned =
+  performs-taking here planned =
       performs-exactly s input words words′ before out r o op e does
       (λ c t q i S.
-      let v = view (length words) (length before) t in
-      planned v (at-place s r pr v A (runs watched c s words before r t q S))
+      planned (view (length words) (length before) t) (in-scope here c before t q S)
       (ap (λ (l : List ℕ). first-of (drop (r .taken) l)) (sym i) ∙ next-input-is watched c words before r t S))
 
 -- ---- a take

@@ -1,6 +1,7 @@
-// The operations of the watched machine on values, on input and on output: what each asks for (crate watched_plan), done (crate writers). pr is the place of
-// the running procedure's PR.
+// The operations of the watched machine on values, on input and on output: what each asks for (crate watched_plan), done (crate writers). p is the scope of
+// the running frame.
 use index::Index;
+use index::procedures::Scope;
 use watched_plan::add_guarded;
 use watched_plan::bind_guarded;
 use watched_plan::integer_in;
@@ -27,12 +28,12 @@ ghost use Rattle.watched_plan.specs.Plans.{PlansMoved};
 ghost use Rattle.form.specs.Named.{Named};
 ghost use Rattle.writers.specs.Memory.{Sane, variables-in, frame-part, object-part};
 ghost use Rattle.frames.specs.Performs.{Performs, PerformsInside};
-ghost use Rattle.watched_calls.specs.Calls.{PlaceOf};
+ghost use Rattle.watched_calls.specs.Calls.{ScopeHere};
 
 pub fn set(
     s: &[u8],
     index: &Index,
-    pr: u32,
+    p: Scope,
     memory: &mut [u64],
     r: Registers,
     a: u8,
@@ -42,16 +43,16 @@ pub fn set(
     requires { ⌜ Sane (length (now memory)) r ⌝ }
     requires { ⌜ r .next < 1000 ⌝ }
     requires { ⌜ Named (variables-in r) (Op.Set a k) ⌝ }
-    requires { ⌜ PlaceOf r pr ⌝ }
+    requires { ⌜ ScopeHere (now s) (now memory) r p ⌝ }
     ensures { λ o. ⌜ PerformsInside watched (now (s .entry)) (now (memory .entry)) (now (memory .exit)) r o (Op.Set a k) ⌝ }
 {
-    give_number(memory, r, a, set_guarded(s, index, pr, a, k))
+    give_number(memory, r, a, set_guarded(s, index, p, a, k))
 }
 
 pub fn add(
     s: &[u8],
     index: &Index,
-    pr: u32,
+    p: Scope,
     memory: &mut [u64],
     r: Registers,
     a: u8,
@@ -62,19 +63,19 @@ pub fn add(
     requires { ⌜ Sane (length (now memory)) r ⌝ }
     requires { ⌜ r .next < 1000 ⌝ }
     requires { ⌜ Named (variables-in r) (Op.Add a b c) ⌝ }
-    requires { ⌜ PlaceOf r pr ⌝ }
+    requires { ⌜ ScopeHere (now s) (now memory) r p ⌝ }
     ensures { λ o. ⌜ PerformsInside watched (now (s .entry)) (now (memory .entry)) (now (memory .exit)) r o (Op.Add a b c) ⌝ }
 {
     let base = r.base;
     let end = frame_end(r);
-    let n = add_guarded(s, index, pr, &memory[base..end], a, b, c);
+    let n = add_guarded(s, index, p, &memory[base..end], a, b, c);
     give_number(memory, r, a, n)
 }
 
 pub fn subtract(
     s: &[u8],
     index: &Index,
-    pr: u32,
+    p: Scope,
     memory: &mut [u64],
     r: Registers,
     a: u8,
@@ -85,19 +86,19 @@ pub fn subtract(
     requires { ⌜ Sane (length (now memory)) r ⌝ }
     requires { ⌜ r .next < 1000 ⌝ }
     requires { ⌜ Named (variables-in r) (Op.Subtract a b c) ⌝ }
-    requires { ⌜ PlaceOf r pr ⌝ }
+    requires { ⌜ ScopeHere (now s) (now memory) r p ⌝ }
     ensures { λ o. ⌜ PerformsInside watched (now (s .entry)) (now (memory .entry)) (now (memory .exit)) r o (Op.Subtract a b c) ⌝ }
 {
     let base = r.base;
     let end = frame_end(r);
-    let n = subtract_guarded(s, index, pr, &memory[base..end], a, b, c);
+    let n = subtract_guarded(s, index, p, &memory[base..end], a, b, c);
     give_number(memory, r, a, n)
 }
 
 pub fn less(
     s: &[u8],
     index: &Index,
-    pr: u32,
+    p: Scope,
     memory: &mut [u64],
     r: Registers,
     a: u8,
@@ -108,12 +109,12 @@ pub fn less(
     requires { ⌜ Sane (length (now memory)) r ⌝ }
     requires { ⌜ r .next < 1000 ⌝ }
     requires { ⌜ Named (variables-in r) (Op.Less a b c) ⌝ }
-    requires { ⌜ PlaceOf r pr ⌝ }
+    requires { ⌜ ScopeHere (now s) (now memory) r p ⌝ }
     ensures { λ o. ⌜ PerformsInside watched (now (s .entry)) (now (memory .entry)) (now (memory .exit)) r o (Op.Less a b c) ⌝ }
 {
     let base = r.base;
     let end = frame_end(r);
-    let n = less_guarded(s, index, pr, &memory[base..end], a, b, c);
+    let n = less_guarded(s, index, p, &memory[base..end], a, b, c);
     give_number(memory, r, a, n)
 }
 
@@ -129,22 +130,22 @@ pub fn jump_zero(memory: &[u64], r: Registers, a: u8, k: u16) -> Stepped
 }
 
 // What is read of the running frame's part of the memory and of the objects' part.
-fn bind_in(s: &[u8], index: &Index, pr: u32, memory: &[u64], r: Registers, a: u8, b: u8) -> Moved
+fn bind_in(s: &[u8], index: &Index, p: Scope, memory: &[u64], r: Registers, a: u8, b: u8) -> Moved
     requires { ⌜ Ready (now s) (now index) ⌝ }
     requires { ⌜ Sane (length (now memory)) r ⌝ }
     requires { ⌜ b < variables-in r ⌝ }
-    ensures { λ m. ⌜ PlansMoved (now (s .entry)) pr (frame-part r (now (memory .entry))) (object-part r (now (memory .entry))) (Op.Bind a b) a m ⌝ }
+    ensures { λ m. ⌜ PlansMoved (now (s .entry)) p (frame-part r (now (memory .entry))) (object-part r (now (memory .entry))) (Op.Bind a b) a m ⌝ }
 {
     let base = r.base;
     let end = frame_end(r);
     let used = r.used;
-    bind_guarded(s, index, pr, &memory[base..end], &memory[..used], a, b)
+    bind_guarded(s, index, p, &memory[base..end], &memory[..used], a, b)
 }
 
 pub fn bind(
     s: &[u8],
     index: &Index,
-    pr: u32,
+    p: Scope,
     memory: &mut [u64],
     r: Registers,
     a: u8,
@@ -154,17 +155,17 @@ pub fn bind(
     requires { ⌜ Sane (length (now memory)) r ⌝ }
     requires { ⌜ r .next < 1000 ⌝ }
     requires { ⌜ Named (variables-in r) (Op.Bind a b) ⌝ }
-    requires { ⌜ PlaceOf r pr ⌝ }
+    requires { ⌜ ScopeHere (now s) (now memory) r p ⌝ }
     ensures { λ o. ⌜ PerformsInside watched (now (s .entry)) (now (memory .entry)) (now (memory .exit)) r o (Op.Bind a b) ⌝ }
 {
-    let m = bind_in(s, index, pr, memory, r, a, b);
+    let m = bind_in(s, index, p, memory, r, a, b);
     give_moved(memory, r, a, m)
 }
 
 pub fn take(
     s: &[u8],
     index: &Index,
-    pr: u32,
+    p: Scope,
     input: &[u32],
     memory: &mut [u64],
     r: Registers,
@@ -174,10 +175,10 @@ pub fn take(
     requires { ⌜ Sane (length (now memory)) r ⌝ }
     requires { ⌜ r .next < 1000 ⌝ }
     requires { ⌜ Named (variables-in r) (Op.Take a) ⌝ }
-    requires { ⌜ PlaceOf r pr ⌝ }
+    requires { ⌜ ScopeHere (now s) (now memory) r p ⌝ }
     ensures { λ o. ⌜ ((out : List ℕ) → Performs watched (now (s .entry)) (now (input .entry)) (now (memory .entry)) (now (memory .exit)) out out r o (Op.Take a)) ⌝ }
 {
-    if (input.len() <= r.taken) | takes_integer(s, index, pr, a) {
+    if (input.len() <= r.taken) | takes_integer(s, index, p, a) {
         return take_input(input, memory, r, a);
     }
     Stepped::Halt(18)

@@ -1,5 +1,5 @@
 -- A word's parts are those that it was packed from, what each tag makes of a word, and how a list of words is seen as slots.
-use Prim.Native.Nat.{ℕ, zero, suc, _+_, _*_, _/_, _%_, _^_, _<_}
+use Prim.Native.Nat.{ℕ, zero, suc, _+_, _-_, _*_, _/_, _%_, _^_, _≤_, _<_}
 use native.Mathlib.Omega.{arith}
 use mathlib.Core.Path.{_≡_, refl, sym, ap, _∙_}
 use mathlib.Core.Bool.{Bool, true, false, cond}
@@ -9,10 +9,11 @@ use mathlib.Core.Option.{none, some}
 use lib.Dec.{eqb}
 use lib.ListN.{getD, set, List·getD-map}
 use borrow.Author.Tests.{eqb-true, eqb-false, ne-eqb}
-use Rattle.model.specs.Qualified.{Qual}
-use Rattle.model.specs.Modes.{Mode, ElementInfo, TypeInfo, carried, element-info, type-info}
-use Rattle.model.specs.Machine.{word, object, Cell, empty, filled, array-head, record-head}
-use Rattle.words.specs.Word.{low, tag, payload, pack, size-of, info-of, back-kept, back-next, number-of, variables-of, formals-of, first-of, procedure-word, IsProcedure, Slot, cell, head, back, procedure, slot-in, as-cell, as-head}
+use Rattle.model.specs.Qualified.{Qual, declared}
+use Rattle.model.specs.Generic.{read}
+use Rattle.model.specs.Modes.{Mode, ElementInfo, TypeInfo, SettledSet, settled-set, carried, element-info, type-info}
+use Rattle.model.specs.Machine.{word, object, Cell, empty, filled, array-head, record-head, flag}
+use Rattle.words.specs.Word.{low, tag, payload, pack, size-of, info-of, settled-base, back-kept, back-next, number-of, variables-of, formals-of, bounded-of, first-of, procedure-word, IsProcedure, Slot, cell, head, back, procedure, slot-in, as-cell, as-head}
 use Rattle.words.specs.Answer.{read-as}
 use Rattle.words.specs.Sees.{head-size}
 use Rattle.words.specs.Answers.{IsCell}
@@ -54,7 +55,7 @@ module _ (m : Mode) (qual : ℕ → Qual) (w : ℕ) where
   unfolding slot-in
   slot-object e = rw (ne-eqb w 0 (tagged w 1 e), e)
 
-  pub slot-array : tag w ≡ 3 → slot-in m qual w ≡ head (array-head (element-info m (qual (info-of w))) (size-of w))
+  pub slot-array : tag w ≡ 3 → slot-in m qual w ≡ head (array-head (element-info m (read (declared (settled-base w) (low w)) (qual (info-of w)))) (size-of w))
   unfolding slot-in
   slot-array e = rw (ne-eqb w 0 (tagged w 2 e), e)
 
@@ -62,11 +63,11 @@ module _ (m : Mode) (qual : ℕ → Qual) (w : ℕ) where
   unfolding slot-in
   slot-record e = rw (ne-eqb w 0 (tagged w 3 e), e)
 
-  pub slot-back : tag w ≡ 5 → slot-in m qual w ≡ back (back-next w) (back-kept w)
+  pub slot-back : tag w ≡ 5 → slot-in m qual w ≡ back (back-next w) (back-kept w) (settled-set m (low w))
   unfolding slot-in
   slot-back e = rw (ne-eqb w 0 (tagged w 4 e), e)
 
-  slot-procedure : tag w ≡ 6 → slot-in m qual w ≡ procedure (number-of w) (variables-of w) (first-of w)
+  slot-procedure : tag w ≡ 6 → slot-in m qual w ≡ procedure (number-of w) (variables-of w) (first-of w) (bounded-of w)
   unfolding slot-in
   slot-procedure e = rw (ne-eqb w 0 (tagged w 5 e), e)
 
@@ -141,10 +142,10 @@ module _ (m : Mode) (qual : ℕ → Qual) (w : ℕ) where
   pub record-word : {t : TypeInfo m} {n : ℕ} → as-head (slot-in m qual w) ≡ record-head t n → n ≡ size-of w
   record-word is = size-word (ap head-size is)
 
-  pub back-word : {i a : ℕ} → slot-in m qual w ≡ back i a → (i ≡ back-next w) × (a ≡ back-kept w)
-  back-word {i} {a} e = by (reading w)
+  pub back-word : {i a : ℕ} {z : SettledSet m} → slot-in m qual w ≡ back i a z → (i ≡ back-next w) × (a ≡ back-kept w) × (z ≡ settled-set m (low w))
+  back-word {i} {a} {z} e = by (reading w)
     where
-      by : Reading w → (i ≡ back-next w) × (a ≡ back-kept w)
+      by : Reading w → (i ≡ back-next w) × (a ≡ back-kept w) × (z ≡ settled-set m (low w))
       by (a-blank z) =
           let k : slot-in m qual w ≡ cell empty = rw (z, slot-zero m qual) in
           absurd (let z : _≡_ {A = ℕ} 0 1 = cc in omega arith)
@@ -153,14 +154,15 @@ module _ (m : Mode) (qual : ℕ → Qual) (w : ℕ) where
       by (an-array t) = let k = slot-array m qual w t in absurd (let z : _≡_ {A = ℕ} 0 1 = cc in omega arith)
       by (a-record t) = let k = slot-record m qual w t in absurd (let z : _≡_ {A = ℕ} 0 1 = cc in omega arith)
       by (a-back t) =
-          let k : back i a ≡ back (back-next w) (back-kept w) = sym e ∙ slot-back m qual w t in
-          (cc, cc)
+          let k : back i a z ≡ back (back-next w) (back-kept w) (settled-set m (low w)) = sym e ∙ slot-back m qual w t in
+          (cc, cc, cc)
       by (a-procedure t) = let k = t m qual in absurd (let z : _≡_ {A = ℕ} 0 1 = cc in omega arith)
 
-  pub procedure-told : {p v f : ℕ} → slot-in m qual w ≡ procedure p v f → IsProcedure w × (p ≡ number-of w) × (v ≡ variables-of w) × (f ≡ first-of w)
-  procedure-told {p} {v} {f} e = by (reading w)
+  pub procedure-told : {p v f : ℕ} {g : Bool} → slot-in m qual w ≡ procedure p v f g
+      → IsProcedure w × (p ≡ number-of w) × (v ≡ variables-of w) × (f ≡ first-of w) × (g ≡ bounded-of w)
+  procedure-told {p} {v} {f} {g} e = by (reading w)
     where
-      by : Reading w → IsProcedure w × (p ≡ number-of w) × (v ≡ variables-of w) × (f ≡ first-of w)
+      by : Reading w → IsProcedure w × (p ≡ number-of w) × (v ≡ variables-of w) × (f ≡ first-of w) × (g ≡ bounded-of w)
       by (a-blank z) =
           let k : slot-in m qual w ≡ cell empty = rw (z, slot-zero m qual) in
           absurd (let z : _≡_ {A = ℕ} 0 1 = cc in omega arith)
@@ -170,8 +172,8 @@ module _ (m : Mode) (qual : ℕ → Qual) (w : ℕ) where
       by (a-record t) = let k = slot-record m qual w t in absurd (let z : _≡_ {A = ℕ} 0 1 = cc in omega arith)
       by (a-back t) = let k = slot-back m qual w t in absurd (let z : _≡_ {A = ℕ} 0 1 = cc in omega arith)
       by (a-procedure t) =
-          let k : procedure p v f ≡ procedure (number-of w) (variables-of w) (first-of w) = sym e ∙ t m qual in
-          (t, cc, cc, cc)
+          let k : procedure p v f g ≡ procedure (number-of w) (variables-of w) (first-of w) (bounded-of w) = sym e ∙ t m qual in
+          (t, cc, cc, cc, cc)
 
 -- ---- what the two machines, and all maps of element numbers, have in common
 
@@ -229,13 +231,17 @@ module _ (m : Mode) (qual : ℕ → Qual) where
   object-packed a r h =
       slot-object m qual _ (tag-pack 2 a r (omega arith) h) ∙ rw (payload-pack 2 a r (omega arith) h, low-pack 2 a r (omega arith) h)
 
-  -- a head of kind k (the element's number, or the type's) and size n
-  pub array-packed : (k n : ℕ) → k < 2 ^ 8 → n < 2 ^ 16 → slot-in m qual (pack 3 (k * 2 ^ 16 + n) 0) ≡ head (array-head (element-info m (qual k)) n)
-  array-packed k n b h =
-      let size : (k * 2 ^ 16 + n) % 2 ^ 16 ≡ n = omega arith in
-      let over : (k * 2 ^ 16 + n) / 2 ^ 16 ≡ k = omega arith in
-      let kind : k % 2 ^ 8 ≡ k = omega arith in
-      slot-array m qual _ (tag-pack 3 _ 0 (omega arith) (omega arith)) ∙ rw (payload-pack 3 (k * 2 ^ 16 + n) 0 (omega arith) (omega arith), size, over, kind)
+  -- a head of kind k (the element's number, or the type's) and size n; ?R of an array's element has base b and set r
+  pub array-packed : (k n b r : ℕ) → k < 2 ^ 8 → n < 2 ^ 16 → 2 ≤ b → b < 34 → r < 2 ^ 32
+      → slot-in m qual (pack 3 (((b - 2) * 2 ^ 8 + k) * 2 ^ 16 + n) r) ≡ head (array-head (element-info m (read (declared b r) (qual k))) n)
+  array-packed k n b r k-fits n-fits least most r-fits =
+      let all = ((b - 2) * 2 ^ 8 + k) * 2 ^ 16 + n in
+      let size : all % 2 ^ 16 ≡ n = omega arith in
+      let over : all / 2 ^ 16 ≡ (b - 2) * 2 ^ 8 + k = omega arith in
+      let kind : ((b - 2) * 2 ^ 8 + k) % 2 ^ 8 ≡ k = omega arith in
+      let high : all / 2 ^ 24 ≡ b - 2 = omega arith in
+      let base : 2 + (b - 2) % 2 ^ 5 ≡ b = omega arith in
+      slot-array m qual _ (tag-pack 3 _ r (omega arith) r-fits) ∙ rw (payload-pack 3 all r (omega arith) r-fits, low-pack 3 all r (omega arith) r-fits, size, over, kind, high, base)
 
   pub record-packed : (k n : ℕ) → k < 2 ^ 8 → n < 2 ^ 16 → slot-in m qual (pack 4 (k * 2 ^ 16 + n) 0) ≡ head (record-head (type-info m k) n)
   record-packed k n b h =
@@ -244,39 +250,53 @@ module _ (m : Mode) (qual : ℕ → Qual) where
       let kind : k % 2 ^ 8 ≡ k = omega arith in
       slot-record m qual _ (tag-pack 4 _ 0 (omega arith) (omega arith)) ∙ rw (payload-pack 4 (k * 2 ^ 16 + n) 0 (omega arith) (omega arith), size, over, kind)
 
-  pub back-packed : (i a : ℕ) → a < 2 ^ 8 → slot-in m qual (pack 5 (i * 2 ^ 14 + a) 0) ≡ back i a
-  back-packed i a h =
+  pub back-packed : (i a r : ℕ) → a < 2 ^ 8 → r < 2 ^ 32 → slot-in m qual (pack 5 (i * 2 ^ 14 + a) r) ≡ back i a (settled-set m r)
+  back-packed i a r h r-fits =
       let all = i * 2 ^ 14 + a in
       let kept : all % 2 ^ 8 ≡ a = omega arith in
       let next : all / 2 ^ 14 ≡ i = omega arith in
-      slot-back m qual _ (tag-pack 5 _ 0 (omega arith) (omega arith)) ∙ rw (payload-pack 5 all 0 (omega arith) (omega arith), kept, next)
+      slot-back m qual _ (tag-pack 5 _ r (omega arith) r-fits) ∙ rw (payload-pack 5 all r (omega arith) r-fits, low-pack 5 all r (omega arith) r-fits, kept, next)
 
 -- the word of a procedure
-module _ (p v f i : ℕ) (p-fits : p < 2 ^ 6) (v-fits : v < 2 ^ 8) (f-fits : f < 2 ^ 8) (i-fits : i < 2 ^ 32) where
-  counts : payload (procedure-word p v f i) ≡ (f * 2 ^ 6 + p) * 2 ^ 8 + v
+flag-fits : (g : Bool) → flag g < 2
+unfolding flag
+flag-fits true = omega arith
+flag-fits false = omega arith
+
+eqb-flag : (g : Bool) → eqb (flag g) 1 ≡ g
+unfolding flag
+eqb-flag true = refl
+eqb-flag false = refl
+
+module _ (p v f : ℕ) (g : Bool) (i : ℕ) (p-fits : p < 2 ^ 6) (v-fits : v < 2 ^ 8) (f-fits : f < 2 ^ 8) (i-fits : i < 2 ^ 32) where
+  counts : payload (procedure-word p v f g i) ≡ ((flag g * 2 ^ 8 + f) * 2 ^ 6 + p) * 2 ^ 8 + v
   counts = payload-pack 6 _ i (omega arith) i-fits
 
-  pub procedure-is : IsProcedure (procedure-word p v f i)
+  pub procedure-is : IsProcedure (procedure-word p v f g i)
   procedure-is m qual = slot-procedure m qual _ (tag-pack 6 _ i (omega arith) i-fits)
 
-  pub number-is : number-of (procedure-word p v f i) ≡ p
+  pub number-is : number-of (procedure-word p v f g i) ≡ p
   number-is =
-      let over : ((f * 2 ^ 6 + p) * 2 ^ 8 + v) / 2 ^ 8 ≡ f * 2 ^ 6 + p = omega arith in
-      let low : (f * 2 ^ 6 + p) % 2 ^ 6 ≡ p = omega arith in
-      rw (counts, over, low)
+      let here : (((flag g * 2 ^ 8 + f) * 2 ^ 6 + p) * 2 ^ 8 + v) / 2 ^ 8 % 2 ^ 6 ≡ p = omega arith in
+      rw (counts, here)
 
-  pub variables-is : variables-of (procedure-word p v f i) ≡ v
+  pub variables-is : variables-of (procedure-word p v f g i) ≡ v
   variables-is =
-      let low : ((f * 2 ^ 6 + p) * 2 ^ 8 + v) % 2 ^ 8 ≡ v = omega arith in
-      rw (counts, low)
+      let here : (((flag g * 2 ^ 8 + f) * 2 ^ 6 + p) * 2 ^ 8 + v) % 2 ^ 8 ≡ v = omega arith in
+      rw (counts, here)
 
-  pub formals-is : formals-of (procedure-word p v f i) ≡ f
+  pub formals-is : formals-of (procedure-word p v f g i) ≡ f
   formals-is =
-      let over : ((f * 2 ^ 6 + p) * 2 ^ 8 + v) / 2 ^ 14 ≡ f = omega arith in
-      let low : f % 2 ^ 8 ≡ f = omega arith in
-      rw (counts, over, low)
+      let here : (((flag g * 2 ^ 8 + f) * 2 ^ 6 + p) * 2 ^ 8 + v) / 2 ^ 14 % 2 ^ 8 ≡ f = omega arith in
+      rw (counts, here)
 
-  pub first-is : first-of (procedure-word p v f i) ≡ i
+  pub bounded-is : bounded-of (procedure-word p v f g i) ≡ g
+  bounded-is =
+      let fits = flag-fits g in
+      let here : (((flag g * 2 ^ 8 + f) * 2 ^ 6 + p) * 2 ^ 8 + v) / 2 ^ 22 % 2 ≡ flag g = omega arith in
+      rw (counts, here, eqb-flag g)
+
+  pub first-is : first-of (procedure-word p v f g i) ≡ i
   first-is = low-pack 6 _ i (omega arith) i-fits
 
 -- ---- a list of words seen as slots

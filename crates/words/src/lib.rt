@@ -1,11 +1,12 @@
 // One word of the memory: what it stands for, and how it is read and written.
 ghost use mathlib.Core.Path.{_≡_};
-ghost use Prim.Native.Nat.{ℕ, _+_, _<_, _^_};
+ghost use Prim.Native.Nat.{ℕ, _+_, _<_, _≤_, _^_};
 ghost use lib.ListN.{length, getD, set, replicate};
-ghost use Rattle.model.specs.Qualified.{Qual};
-ghost use Rattle.model.specs.Modes.{Mode, carried, element-info, type-info};
-ghost use Rattle.model.specs.Machine.{word, object, filled, array-head, record-head};
-ghost use Rattle.words.specs.Word.{cell, head, back, low, tag, payload, size-of, info-of, back-kept, back-next, number-of, variables-of, formals-of, first-of, procedure-word, slot-in};
+ghost use Rattle.model.specs.Qualified.{Qual, declared};
+ghost use Rattle.model.specs.Generic as generic;
+ghost use Rattle.model.specs.Modes.{Mode, settled-set, carried, element-info, type-info};
+ghost use Rattle.model.specs.Machine.{word, object, filled, array-head, record-head, flag};
+ghost use Rattle.words.specs.Word.{cell, head, back, low, tag, payload, size-of, info-of, settled-base, back-kept, back-next, number-of, variables-of, formals-of, bounded-of, first-of, procedure-word, slot-in};
 ghost use Rattle.words.specs.Answer.{read-as};
 
 // What a variable, a cell of an array or a slot of a record holds: a filled one by its word.
@@ -97,6 +98,13 @@ pub fn kind_in(w: u64) -> u8
     (w / 34359738368 / 65536 % 256) as u8
 }
 
+// The base that ?R of an array's element has, in the head of the array.
+pub fn settled_base(w: u64) -> u8
+    ensures { λ n. ⌜ n ≡ settled-base w ⌝ }
+{
+    (2 + w / 34359738368 / 16777216 % 32) as u8
+}
+
 // Where a frame that waits goes back: the variable that its call keeps, its next instruction.
 pub fn back_kept(w: u64) -> u8
     ensures { λ n. ⌜ n ≡ back-kept w ⌝ }
@@ -129,6 +137,13 @@ pub fn formals_in(w: u64) -> u8
     (w / 34359738368 / 16384 % 256) as u8
 }
 
+// Whether it has a GN.
+pub fn is_bounded_in(w: u64) -> bool
+    ensures { λ r. ⌜ r ≡ bounded-of w ⌝ }
+{
+    w / 34359738368 / 4194304 % 2 == 1
+}
+
 pub fn first_in(w: u64) -> u32
     ensures { λ n. ⌜ n ≡ first-of w ⌝ }
 {
@@ -149,11 +164,14 @@ pub fn object_word(a: u32, rights: u32) -> u64
     ((a as u64) * 8 + 2) * 4294967296 + (rights as u64)
 }
 
-pub fn array_word(n: u32, element: u8) -> u64
+// The element has ?R with a base and a set.
+pub fn array_word(n: u32, element: u8, base: u8, set: u32) -> u64
     requires { ⌜ n < 2 ^ 16 ⌝ }
-    ensures { λ w. ⌜ ((m : Mode) (q : ℕ → Qual) → slot-in m q w ≡ head (array-head (element-info m (q element)) n)) ⌝ }
+    requires { ⌜ (2 ≤ base) × (base < 34) ⌝ }
+    ensures { λ w. ⌜ ((m : Mode) (q : ℕ → Qual) → slot-in m q w ≡ head (array-head (element-info m (generic.read (declared base set) (q element))) n)) ⌝ }
 {
-    (((element as u64) * 65536 + (n as u64)) * 8 + 3) * 4294967296
+    let kind = ((base - 2) as u64) * 256 + (element as u64);
+    ((kind * 65536 + (n as u64)) * 8 + 3) * 4294967296 + (set as u64)
 }
 
 pub fn record_word(n: u32, kind: u8) -> u64
@@ -163,18 +181,30 @@ pub fn record_word(n: u32, kind: u8) -> u64
     (((kind as u64) * 65536 + (n as u64)) * 8 + 4) * 4294967296
 }
 
-pub fn back_word(next: u32, kept: u8) -> u64
+pub fn back_word(next: u32, kept: u8, set: u32) -> u64
     requires { ⌜ next < 2 ^ 15 ⌝ }
-    ensures { λ w. ⌜ ((m : Mode) (q : ℕ → Qual) → slot-in m q w ≡ back next kept) ⌝ }
+    ensures { λ w. ⌜ ((m : Mode) (q : ℕ → Qual) → slot-in m q w ≡ back next kept (settled-set m set)) ⌝ }
 {
-    (((next as u64) * 16384 + (kept as u64)) * 8 + 5) * 4294967296
+    (((next as u64) * 16384 + (kept as u64)) * 8 + 5) * 4294967296 + (set as u64)
 }
 
-pub fn procedure_word(number: u8, variables: u8, formals: u8, first: u32) -> u64
-    requires { ⌜ number < 2 ^ 6 ⌝ }
-    ensures { λ w. ⌜ w ≡ procedure-word number variables formals first ⌝ }
+// Whether a procedure has a GN, as a bit.
+fn flag_of(bounded: bool) -> u64
+    ensures { λ n. ⌜ n ≡ flag bounded ⌝ }
+    ensures { λ n. ⌜ n < 2 ⌝ }
 {
-    let counts = ((formals as u64) * 64 + (number as u64)) * 256 + (variables as u64);
+    if bounded {
+        return 1;
+    }
+    0
+}
+
+pub fn procedure_word(number: u8, variables: u8, formals: u8, bounded: bool, first: u32) -> u64
+    requires { ⌜ number < 2 ^ 6 ⌝ }
+    ensures { λ w. ⌜ w ≡ procedure-word number variables formals bounded first ⌝ }
+{
+    let counts = ((flag_of(bounded) * 256 + (formals as u64)) * 64 + (number as u64)) * 256
+        + (variables as u64);
     (counts * 8 + 6) * 4294967296 + (first as u64)
 }
 

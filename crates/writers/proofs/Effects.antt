@@ -13,7 +13,7 @@ use lib.ListN.{length, set, take, drop, replicate, length-set, length-append, le
 use lib.Seq.{drop-drop, drop-cons, set-at, take-at, take-set-lt, take-suc-set, drop-set-lt, set-append-left, length-take-le}
 use Rattle.model.specs.Outcome.{Stop, stop-number, blank, past-end, input-ended, output-full, memory-full, wrong-kind, missing-right, Res, ok, stop, stuck, _>>=_}
 use Rattle.model.specs.Qualified.{Qual}
-use Rattle.model.specs.Modes.{Mode, plain, watched, Carried, ElementInfo, TypeInfo, amiss}
+use Rattle.model.specs.Modes.{Mode, plain, watched, SettledSet, Carried, ElementInfo, TypeInfo, amiss}
 use Rattle.model.specs.Machine as M
 use Rattle.model.specs.Machine.{Cell, empty, filled, object, Object, array-of, record-of, cells-of, head-of, find, update, Frame, frame, State, state, apply, rest-of, object-units}
 use Rattle.sheet.specs.Meaning.{qualOf}
@@ -103,9 +103,9 @@ does-stop m c words out r x t S = stopped-after m c words out r t S (stop-number
 -- ---- the gap
 
 -- what stands in it is of no account
-pub gap-kept : {m : Mode} {c : Given} {words out : List ℕ} {r : Registers} {p i : ℕ} {vs : List (Cell m)} {fs : List (Frame m)} {os : List (Object m)}
-    {input put : List ℕ} → Stands m c words out r p i vs fs os input put → (words′ : List ℕ) → GapOnly words words′ r
-    → Stands m c words′ out r p i vs fs os input put
+pub gap-kept : {m : Mode} {c : Given} {words out : List ℕ} {r : Registers} {p i : ℕ} {z : SettledSet m} {vs : List (Cell m)} {fs : List (Frame m)} {os : List (Object m)}
+    {input put : List ℕ} → Stands m c words out r p i z vs fs os input put → (words′ : List ℕ) → GapOnly words words′ r
+    → Stands m c words′ out r p i z vs fs os input put
 gap-kept {m} {c} {words} {r = r} S words′ G =
     let slot = slot-in m (qualOf (c .sheet)) in
     record {
@@ -113,6 +113,7 @@ gap-kept {m} {c} {words} {r = r} S words′ G =
       procedure = S .procedure;
       next = S .next;
       first = S .first;
+      bounded = S .bounded;
       variables = S .variables;
       sane = rw (G .long) (S .sane);
       running = S .running;
@@ -127,23 +128,24 @@ gap-kept {m} {c} {words} {r = r} S words′ G =
 
 pub gap-stands : (m : Mode) (c : Given) (words words′ out : List ℕ) (r : Registers) → GapOnly words words′ r
     → (t : State m) → StandsFor m c words out r t → StandsFor m c words′ out r t
-gap-stands m c words words′ out r G (state (frame p i vs) fs os input put) S = gap-kept S words′ G
+gap-stands m c words words′ out r G (state (frame p i z vs) fs os input put) S = gap-kept S words′ G
 
 -- ---- the parts of a state that a step changes
 
-module _ {m : Mode} {c : Given} {words out : List ℕ} {r : Registers} {p i : ℕ} {vs : List (Cell m)} {fs : List (Frame m)} {os : List (Object m)}
-    {input put : List ℕ} (S : Stands m c words out r p i vs fs os input put) where
+module _ {m : Mode} {c : Given} {words out : List ℕ} {r : Registers} {p i : ℕ} {z : SettledSet m} {vs : List (Cell m)} {fs : List (Frame m)} {os : List (Object m)}
+    {input put : List ℕ} (S : Stands m c words out r p i z vs fs os input put) where
   -- the next instruction, variables and objects
   pub goes-on : (words′ : List ℕ) (next j used : ℕ) (vs′ : List (Cell m)) (os′ : List (Object m))
       → next ≡ j → length words′ ≡ length words → used ≤ r .base → length vs′ ≡ length vs
-      → take used (slots m c words′) ≡ flat-objects os′ → drop (r .base) (slots m c words′) ≡ map cell vs′ ++ flat-frames (c .sheet) fs
-      → Stands m c words′ out (onward r next used (r .taken) (r .put)) p j vs′ fs os′ input put
+      → take used (slots m c words′) ≡ flat-objects os′ → drop (r .base) (slots m c words′) ≡ map cell vs′ ++ flat-frames (c .sheet) z fs
+      → Stands m c words′ out (onward r next used (r .taken) (r .put)) p j z vs′ fs os′ input put
   goes-on words′ next j used vs′ os′ at long room many objects frames =
       record {
         is-procedure = S .is-procedure;
         procedure = S .procedure;
         next = at;
         first = S .first;
+        bounded = S .bounded;
         variables = S .variables ∙ sym many;
         sane =
             record {
@@ -162,13 +164,14 @@ module _ {m : Mode} {c : Given} {words out : List ℕ} {r : Registers} {p i : �
       }
 
   -- one input word fewer
-  pub took : Stands m c words out (onward r (r .next) (r .used) (r .taken + 1) (r .put)) p i vs fs os (rest-of input) put
+  pub took : Stands m c words out (onward r (r .next) (r .used) (r .taken + 1) (r .put)) p i z vs fs os (rest-of input) put
   took =
       record {
         is-procedure = S .is-procedure;
         procedure = S .procedure;
         next = S .next;
         first = S .first;
+        bounded = S .bounded;
         variables = S .variables;
         sane = record { room = S .sane .room; frame = S .sane .frame; small = S .sane .small };
         running = S .running;
@@ -190,7 +193,7 @@ module _ {m : Mode} {c : Given} {words out : List ℕ} {r : Registers} {p i : �
 
   -- one output word more
   pub put-one : (x : ℕ) → r .put < length out
-      → Stands m c words (set out (r .put) x) (onward r (r .next) (r .used) (r .taken) (r .put + 1)) p i vs fs os input (put ++ (x ∷ []))
+      → Stands m c words (set out (r .put) x) (onward r (r .next) (r .used) (r .taken) (r .put + 1)) p i z vs fs os input (put ++ (x ∷ []))
   put-one x h =
       let e = S .put-words in
       let l : length out ≡ length put + (length (c .output) - length put) = ap length (S .output-is) ∙ rw (length-append, length-drop) in
@@ -201,6 +204,7 @@ module _ {m : Mode} {c : Given} {words out : List ℕ} {r : Registers} {p i : �
         procedure = S .procedure;
         next = S .next;
         first = S .first;
+        bounded = S .bounded;
         variables = S .variables;
         sane = record { room = S .sane .room; frame = S .sane .frame; small = S .sane .small };
         running = S .running;
@@ -235,48 +239,48 @@ puts f words words′ r a w x sane named is q =
       frame = rw (q, ← is) (set-frame f words (r .base) a w);
     }
 
-module _ {m : Mode} {c : Given} {words out : List ℕ} {r : Registers} {p i : ℕ} {vs : List (Cell m)} {fs : List (Frame m)} {os : List (Object m)}
-    {input put : List ℕ} (S : Stands m c words out r p i vs fs os input put) where
+module _ {m : Mode} {c : Given} {words out : List ℕ} {r : Registers} {p i : ℕ} {z : SettledSet m} {vs : List (Cell m)} {fs : List (Frame m)} {os : List (Object m)}
+    {input put : List ℕ} (S : Stands m c words out r p i z vs fs os input put) where
   pub wrote : (words′ : List ℕ) (a : ℕ) (d : Cell m) → Put (slot-in m (qualOf (c .sheet))) words words′ r a (cell d)
-      → Stands m c words′ out (at-next r (r .next + 1)) p (suc i) (set vs a d) fs os input put
+      → Stands m c words′ out (at-next r (r .next + 1)) p (suc i) z (set vs a d) fs os input put
   wrote words′ a d P =
       goes-on S words′ (r .next + 1) (suc i) (r .used) (set vs a d) os (add-one (r .next) ∙ ap suc (S .next)) (P .long) (S .sane .room)
-      (length-set vs a d) (P .objects ∙ S .objects) (P .frame ∙ rw (S .frames) (set-variable vs (flat-frames (c .sheet) fs) a d (rw (S .variables) at (P .named))))
+      (length-set vs a d) (P .objects ∙ S .objects) (P .frame ∙ rw (S .frames) (set-variable vs (flat-frames (c .sheet) z fs) a d (rw (S .variables) at (P .named))))
 
   -- to another instruction
-  pub went : (next j : ℕ) → next ≡ j → Stands m c words out (at-next r next) p j vs fs os input put
+  pub went : (next j : ℕ) → next ≡ j → Stands m c words out (at-next r next) p j z vs fs os input put
   went next j e = goes-on S words next j (r .used) vs os e refl (S .sane .room) refl (S .objects) (S .frames)
 
 pub does-write : (m : Mode) (c : Given) (words words′ out : List ℕ) (r : Registers) (a : ℕ) (d : Cell m) → Put (slot-in m (qualOf (c .sheet))) words words′ r a (cell d)
     → Does m c words words′ out out r (Go (at-next r (r .next + 1))) (ok (M.write a d))
 unfolding apply _>>=_
-does-write m c words words′ out r a d P (state (frame p i vs) fs os input put) S = (refl, wrote S words′ a d P)
+does-write m c words words′ out r a d P (state (frame p i z vs) fs os input put) S = (refl, wrote S words′ a d P)
 
 pub does-take : (m : Mode) (c : Given) (words words′ out : List ℕ) (r : Registers) (a : ℕ) (d : Cell m) → Put (slot-in m (qualOf (c .sheet))) words words′ r a (cell d)
     → Does m c words words′ out out r (Enter (onward r (r .next + 1) (r .used) (r .taken + 1) (r .put))) (ok (M.take a d))
 unfolding apply _>>=_
-does-take m c words words′ out r a d P (state (frame p i vs) fs os input put) S = took (wrote S words′ a d P)
+does-take m c words words′ out r a d P (state (frame p i z vs) fs os input put) S = took (wrote S words′ a d P)
 
 pub does-skip : (m : Mode) (c : Given) (words out : List ℕ) (r : Registers)
     → Does m c words words out out r (Go (at-next r (r .next + 1))) (ok M.skip)
 unfolding apply _>>=_
-does-skip m c words out r (state (frame p i vs) fs os input put) S = (refl, went S (r .next + 1) (suc i) (add-one (r .next) ∙ ap suc (S .next)))
+does-skip m c words out r (state (frame p i z vs) fs os input put) S = (refl, went S (r .next + 1) (suc i) (add-one (r .next) ∙ ap suc (S .next)))
 
 pub does-jump : (m : Mode) (c : Given) (words out : List ℕ) (r : Registers) (k : ℕ)
     → Does m c words words out out r (Go (at-next r k)) (ok (M.jump k))
 unfolding apply _>>=_
-does-jump m c words out r k (state (frame p i vs) fs os input put) S = (refl, went S k k refl)
+does-jump m c words out r k (state (frame p i z vs) fs os input put) S = (refl, went S k k refl)
 
 pub does-put : (m : Mode) (c : Given) (words out : List ℕ) (r : Registers) (x : ℕ) → r .put < length out
     → Does m c words words out (set out (r .put) x) r (Enter (onward r (r .next + 1) (r .used) (r .taken) (r .put + 1))) (ok (M.put x))
 unfolding apply _>>=_
-does-put m c words out r x h (state (frame p i vs) fs os input put) S =
+does-put m c words out r x h (state (frame p i z vs) fs os input put) S =
     put-one (went S (r .next + 1) (suc i) (add-one (r .next) ∙ ap suc (S .next))) x h
 
 -- ---- a cell of an object is written
 
-module _ {m : Mode} {c : Given} {words out : List ℕ} {r : Registers} {p i : ℕ} {vs : List (Cell m)} {fs : List (Frame m)} {os : List (Object m)}
-    {input put : List ℕ} (S : Stands m c words out r p i vs fs os input put) where
+module _ {m : Mode} {c : Given} {words out : List ℕ} {r : Registers} {p i : ℕ} {z : SettledSet m} {vs : List (Cell m)} {fs : List (Frame m)} {os : List (Object m)}
+    {input put : List ℕ} (S : Stands m c words out r p i z vs fs os input put) where
   -- an object with a head in the objects' part is one of the state's, of that size
   pub there : (a j : ℕ) → InObject (object-part r words) a j → (o : Object m) × ((find os a ≡ some o) × (j < length (cells-of o)))
   there a j I = go (find os a) refl
@@ -294,7 +298,7 @@ module _ {m : Mode} {c : Given} {words out : List ℕ} {r : Registers} {p i : �
 
   pub stored-at : (words′ : List ℕ) (a j w : ℕ) (d : Cell m) → slot-in m (qualOf (c .sheet)) w ≡ cell d → InObject (object-part r words) a j
       → words′ ≡ set (object-part r words) (a + 1 + j) w ++ drop (r .used) words
-      → Stands m c words′ out (at-next r (r .next + 1)) p (suc i) vs fs (update os a j d) input put
+      → Stands m c words′ out (at-next r (r .next + 1)) p (suc i) z vs fs (update os a j d) input put
   stored-at words′ a j w d is I e =
       let o = there a j I in
       let f = found-fits os a (o .0) (o .1 .0) in
@@ -318,7 +322,7 @@ pub does-store : (m : Mode) (c : Given) (words words′ out : List ℕ) (r : Reg
     → words′ ≡ set (object-part r words) (a + 1 + j) w ++ drop (r .used) words
     → Does m c words words′ out out r (Go (at-next r (r .next + 1))) (ok (M.store a j d))
 unfolding apply _>>=_
-does-store m c words words′ out r a j w d is I e (state (frame p i vs) fs os input put) S = (refl, stored-at S words′ a j w d is I e)
+does-store m c words words′ out r a j w d is I e (state (frame p i z vs) fs os input put) S = (refl, stored-at S words′ a j w d is I e)
 
 -- ---- a new object
 
@@ -390,18 +394,18 @@ allots m q words zeros words′ r a w n v sane inside room cleared e =
       frame = P .frame ∙ ap (λ (x : List (Slot m)). set x a (slot-in m q v)) (laid-frames words zeros (r .used) w n fits cleared (slot-in m q) (r .base) room);
     }
 
-module _ {m : Mode} {c : Given} {words out : List ℕ} {r : Registers} {p i : ℕ} {vs : List (Cell m)} {fs : List (Frame m)} {os : List (Object m)}
-    {input put : List ℕ} (S : Stands m c words out r p i vs fs os input put) where
+module _ {m : Mode} {c : Given} {words out : List ℕ} {r : Registers} {p i : ℕ} {z : SettledSet m} {vs : List (Cell m)} {fs : List (Frame m)} {os : List (Object m)}
+    {input put : List ℕ} (S : Stands m c words out r p i z vs fs os input put) where
   pub made : (words′ : List ℕ) (a w n v : ℕ) (o : Object m) (k : Carried m) → r .used + (n + 1) ≤ r .base
       → slot-in m (qualOf (c .sheet)) w ≡ head (head-of (some o)) → slot-in m (qualOf (c .sheet)) v ≡ cell (filled (object (r .used)) k)
       → cells-of o ≡ replicate n empty → Allotted m (qualOf (c .sheet)) words words′ r a w n v
-      → Stands m c words′ out (onward r (r .next + 1) (r .used + (n + 1)) (r .taken) (r .put)) p (suc i)
+      → Stands m c words′ out (onward r (r .next + 1) (r .used + (n + 1)) (r .taken) (r .put)) p (suc i) z
       (set vs a (filled (object (object-units os)) k)) fs (os ++ (o ∷ [])) input put
   made words′ a w n v o k room is named new A =
       goes-on S words′ (r .next + 1) (suc i) (r .used + (n + 1)) (set vs a (filled (object (object-units os)) k)) (os ++ (o ∷ []))
       (add-one (r .next) ∙ ap suc (S .next)) (A .long) room (length-set vs a (filled (object (object-units os)) k))
       (A .objects ∙ rw (S .objects, is, flat-snoc os o, new, map-replicate))
-      (A .frame ∙ rw (named, S .frames, used-is S) (set-variable vs (flat-frames (c .sheet) fs) a (filled (object (object-units os)) k) (rw (S .variables) at (A .named))))
+      (A .frame ∙ rw (named, S .frames, used-is S) (set-variable vs (flat-frames (c .sheet) z fs) a (filled (object (object-units os)) k) (rw (S .variables) at (A .named))))
 
 -- an object with that head and that name, in either machine
 module _ (m : Mode) (c : Given) (words words′ out : List ℕ) (r : Registers) (a w n v : ℕ) (k : Carried m) (room : r .used + (n + 1) ≤ r .base)
@@ -409,11 +413,11 @@ module _ (m : Mode) (c : Given) (words words′ out : List ℕ) (r : Registers) 
   pub does-array : (e : ElementInfo m) → slot-in m (qualOf (c .sheet)) w ≡ head (M.array-head e n)
       → Does m c words words′ out out r (Enter (onward r (r .next + 1) (r .used + (n + 1)) (r .taken) (r .put))) (ok (M.new-array a e n k))
   unfolding apply _>>=_
-  does-array e is (state (frame p i vs) fs os input put) S =
+  does-array e is (state (frame p i z vs) fs os input put) S =
       made S words′ a w n v (array-of e (replicate n empty)) k room (rw length-replicate is) named refl A
 
   pub does-record : (t : TypeInfo m) → slot-in m (qualOf (c .sheet)) w ≡ head (M.record-head t n)
       → Does m c words words′ out out r (Enter (onward r (r .next + 1) (r .used + (n + 1)) (r .taken) (r .put))) (ok (M.new-record a t n k))
   unfolding apply _>>=_
-  does-record t is (state (frame p i vs) fs os input put) S =
+  does-record t is (state (frame p i z vs) fs os input put) S =
       made S words′ a w n v (record-of t (replicate n empty)) k room (rw length-replicate is) named refl A

@@ -10,7 +10,7 @@ use borrow.Author.Tests.{ltb-true, ltb-false}
 use lib.Dec.{ltb}
 use lib.ListN.{length, getD, set, length-set, length-append, length-map, List·getD-append, List·getD-map}
 use lib.Seq.{getD-append-add, set-append-left}
-use Rattle.model.specs.Modes.{Mode}
+use Rattle.model.specs.Modes.{Mode, SettledSet}
 use Rattle.model.specs.Machine.{Cell, empty, Object, array-of, record-of, cells-of, with-cells, head-of, find, update, Frame, frame, object-units, frame-units}
 use Rattle.words.specs.Word.{cell, head, as-head}
 use Rattle.words.specs.Sees.{head-size}
@@ -113,10 +113,10 @@ unfolding flat-objects object-units
 length-objects [] = refl
 length-objects (o ∷ os) = rw (length-append, length-map, length-objects os) (omega arith)
 
-pub length-frames : {m : Mode} (s : List ℕ) (fs : List (Frame m)) → length (flat-frames s fs) ≡ frame-units fs + 2
+pub length-frames : {m : Mode} (s : List ℕ) (z : SettledSet m) (fs : List (Frame m)) → length (flat-frames s z fs) ≡ frame-units fs + 2
 unfolding flat-frames frame-units
-length-frames s [] = refl
-length-frames s (frame p i vs ∷ fs) = rw (length-append, length-map, length-frames s fs) (omega arith)
+length-frames s z [] = refl
+length-frames s z (frame p i y vs ∷ fs) = rw (length-append, length-map, length-frames s y fs) (omega arith)
 
 -- an object that is found lies within the slots
 pub found-fits : {m : Mode} (os : List (Object m)) (a : ℕ) (o : Object m) → find os a ≡ some o → suc (a + length (cells-of o)) ≤ length (flat-objects os)

@@ -233,7 +233,7 @@ pub fn give_array(memory: &mut [u64], r: Registers, a: u8, n: Number) -> Stepped
         Number::Is(x) => {
             if (x as usize) < r.base - r.used {
                 let name = object_word(r.used as u32, 0);
-                return Stepped::Enter(allot(memory, r, a, array_word(x, 0), x, name));
+                return Stepped::Enter(allot(memory, r, a, array_word(x, 0, 2, 0), x, name));
             }
             Stepped::Halt(17)
         }

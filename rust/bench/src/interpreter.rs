@@ -1,7 +1,7 @@
 //! A safe call of the plain C interpreter.
 
 use reference::machine::MAX_MEMORY;
-use reference::{check, Verdict};
+use reference::{check, parse, Verdict};
 
 /// The interpreter in C.
 pub type Interpreter = unsafe extern "C" fn(
@@ -36,12 +36,15 @@ macro_rules! interpreter {
 }
 pub(crate) use interpreter;
 
-/// A sheet that the interpreter may be given.
+/// A sheet that the interpreter may be given: accepted, and without a rights name. It knows document 01's layout alone, for to
+/// look for a GN record at every jump would make it a slower yardstick.
 pub struct Accepted<'a>(&'a [u8]);
 
 impl<'a> Accepted<'a> {
     pub fn new(sheet: &'a [u8]) -> Option<Self> {
-        (check(sheet) == Verdict::Accepted).then_some(Accepted(sheet))
+        let program = parse(sheet).ok()?;
+        let known = program.procedures.iter().all(|p| p.bound.is_none());
+        (known && check(sheet) == Verdict::Accepted).then_some(Accepted(sheet))
     }
 
     /// Like [`wennathig::run_into`].
@@ -90,7 +93,9 @@ mod tests {
             let Outcome::Stopped { .. } = expected else {
                 continue;
             };
-            let sheet = Accepted::new(&run.sheet).expect("the sheet is run");
+            let Some(sheet) = Accepted::new(&run.sheet) else {
+                continue;
+            };
             let (mut memory, mut output) = (vec![7; run.memory_words], run.output.clone());
             let mut reply = [7; 5];
             let (input, fuel) = (&run.input, run.fuel);

@@ -22,6 +22,7 @@ mod progress;
 mod quote;
 mod reads;
 mod run;
+mod settling;
 mod sheets;
 mod show;
 mod source;

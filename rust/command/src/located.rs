@@ -34,6 +34,7 @@ impl Located {
         let spans = if spans.is_empty() { vec![span] } else { spans };
         located.line = Some((span.line, spans));
         if let At::Procedure(procedure)
+        | At::Name(procedure)
         | At::Variable(procedure, _)
         | At::Instruction(procedure, _) = entry.at
         {

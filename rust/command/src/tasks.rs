@@ -134,7 +134,7 @@ pub const OF_RUNS: &[Known] = &[
         &["--watch"],
         &[
             "runs on the watched machine, which tests every kind and right, and runs",
-            "also what check refuses for 6 to 9",
+            "also what check refuses for 6 to 9, 20 and 21",
         ],
     ),
     alone(

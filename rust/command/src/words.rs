@@ -1,7 +1,7 @@
-//! The numbers of document 01 with their words and meanings.
+//! The numbers of documents 01 and 02 with their words and meanings.
 
 /// The word and the meaning of each number, 1 being the first.
-const WORDS: [(&str, &str); 19] = [
+const WORDS: [(&str, &str); 21] = [
     ("overlong", "more than 32,768 bytes"),
     ("torn", "a record is cut short, or bytes are left over"),
     ("stray mark", "not the mark that is due"),
@@ -21,6 +21,8 @@ const WORDS: [(&str, &str); 19] = [
     ("bench full", "the units exceed the words of memory lent"),
     ("mixed sample", "a value of the wrong kind"),
     ("unlicensed", "a value does not carry the right needed"),
+    ("unsettled", "no formal uses ?R, or two actuals differ"),
+    ("short", "the settled set lacks a least right"),
 ];
 
 /// The word and the meaning of a number, if it has them.

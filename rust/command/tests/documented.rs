@@ -249,7 +249,9 @@ fn answering(number: usize) -> (Vec<String>, Vec<u8>) {
         16 => (sample("stop-report.ws", "run --report 2"), none),
         17 => (sample("stop-memory.ws", "run --memory 20"), none),
         18 => (sample("stop-kind.ws", "run --watch"), none),
-        _ => (sample("stop-right.ws", "run --watch"), none),
+        19 => (sample("stop-right.ws", "run --watch"), none),
+        20 => (sample("unsettled.ws", "check"), none),
+        _ => (sample("short.ws", "check"), none),
     }
 }
 
@@ -275,7 +277,7 @@ fn rows(page: &str) -> Vec<(usize, String)> {
 
 #[test]
 fn the_manual_page_has_the_numbers_as_the_program_says_them() {
-    let due: Vec<(usize, String)> = (1..=19).map(|number| (number, words(number))).collect();
+    let due: Vec<(usize, String)> = (1..=21).map(|number| (number, words(number))).collect();
     assert_eq!(rows(&page("man/wennathig.1")), due);
 }
 
@@ -289,7 +291,7 @@ fn adds_to(said: &str, words: &str) -> bool {
 fn the_page_of_the_checking_program_has_the_same_numbers() {
     let rows = rows(&page("man/wennathig-check.1"));
     let numbers: Vec<usize> = rows.iter().map(|(number, _)| *number).collect();
-    assert_eq!(numbers, (1..=9).collect::<Vec<_>>());
+    assert_eq!(numbers, (1..=9).chain(20..=21).collect::<Vec<_>>());
     for (number, said) in rows {
         let due = words(number);
         assert!(
@@ -323,7 +325,7 @@ fn the_header_has_the_same_numbers() {
     });
     let entries: Vec<(usize, String)> = entries.collect();
     let found: Vec<usize> = entries.iter().map(|(number, _)| *number).collect();
-    assert_eq!(found, (0..=19).collect::<Vec<_>>());
+    assert_eq!(found, (0..=21).collect::<Vec<_>>());
     for (number, said) in entries.into_iter().skip(1) {
         let due = words(number);
         assert!(
@@ -338,7 +340,7 @@ fn the_header_has_the_same_numbers() {
 #[test]
 fn the_rules_have_the_same_numbers() {
     let rules = page("docs/RULES.md");
-    for number in 1..=19 {
+    for number in 1..=21 {
         let due = words(number);
         let (word, _) = due.split_once(':').expect("a word and a meaning");
         let start = format!("\n### {number} {word}\n\n`{due}`. ");

@@ -222,9 +222,42 @@ fn layout() -> Vec<Case> {
     ]
 }
 
+/// A procedure with the rights name and these lines, and two that it can
+/// call.
+fn in_named(head: &str, lines: &str) -> String {
+    let others = "procedure amend for ?R >= call{read,amend}\n formal own: ?R\n return\n\
+        procedure both for ?R >= call{} gives ?R\n formal one, two: tray[?R]{}\n variable own: ?R\n return own\n\
+        procedure idle for ?R >= call{}\n return\n";
+    format!("{TYPES}procedure main\n return\n{others}procedure p for ?R >= call{{read}}{head}\n{lines}\n return\n")
+}
+
+#[rustfmt::skip]
+fn rights_names() -> Vec<Case> {
+    const ONLY: &str = "only ?R goes into ?R";
+    let own = |line: &str| in_named(" of call", &format!("  formal given: ?R\n  variable all: tray[?R]{{fetch}}\n{VARIABLES}\n {line}"));
+    vec![
+        case(own("bind given <- both"), 9, "both", &["needs ?R                (given)", "has   call{read,amend}  (both)", ONLY]),
+        case(own("fetch given <- boths[n]"), 9, "boths", &["needs ?R                (given)", "has   call{read,amend}  (an element of boths)", ONLY]),
+        case(own("newrecord given"), 9, "given", &["needs ?R  (given)", "has   a new record of call", ONLY]),
+        case(own("bind given <- horse"), 8, "horse", &["needs ?R           (given)", "has   horse{read}  (horse)", "needs ?R of call, has horse"]),
+        case(own("bind both <- given"), 9, "given", &["needs call{read,amend}  (both)", "has   ?R                (given)", "needs amend, and of ?R no more than read is certain"]),
+        case(own("getslot n <- given.length"), 9, "given", &["needs call{open}", "has   ?R  (given)", "needs open, and of ?R no more than read is certain"]),
+        case(own("bind calls <- all"), 8, "all", &["needs tray[call{read}]{fetch,store,size}  (calls)", "has   tray[?R]{fetch}                     (all)", "the elements of trays must be equal, not more and not less: needs call{read}, has ?R"]),
+        case(own("call amend(reads)"), 21, "reads", &["settled to call{read}, but amend needs at least call{read,amend}", "lacks amend"]),
+        case(own("call amend(given)"), 21, "given", &["settled to the ?R of p, of which call{read} is all that is certain, but amend needs at least call{read,amend}", "lacks amend"]),
+        case(own("call amend(horse)"), 8, "horse", &["needs call{read,amend}  (what amend needs as own)", "has   horse{read}       (horse)", "needs call, has horse"]),
+        case(own("call horse <- both(calls, boths)"), 20, "calls boths", &["calls settles ?R to call{read}, boths to call{read,amend}"]),
+        case(own("call horse <- both(stored, fetched)"), 8, "both", &["needs horse{read}  (horse)", "has   call{read}   (the result of both)", "needs horse, has call"]),
+        case(own("call idle()"), 20, "idle", &["no formal of idle uses ?R, so that no call can settle it"]),
+        case(in_named("", "  formal one: tray[?R]{}\n  variable two: tray[call{read}]{}\n  variable kept: ?R\n call kept <- both(one, two)"), 20, "one two", &["one settles ?R to the ?R of p, two to call{read}"]),
+        case(in_named(" of call", "  formal given: ?R as call{open}"), 7, "?R call{open}", &["needs  ?R", "inside call{open}", "?R is never amplified: a formal that needs ?R or is ?R inside has it as both"]),
+        case(in_named(" of call", "  formal given: call{read} as ?R"), 7, "call{read} ?R", &["needs  call{read}", "inside ?R", "?R is never amplified: a formal that needs ?R or is ?R inside has it as both"]),
+    ]
+}
+
 #[test]
 fn explanations_mark_the_part_and_say_what_is_missing() {
-    let all = [movements(), operands(), records(), layout()];
+    let all = [movements(), operands(), records(), layout(), rights_names()];
     for case in all.into_iter().flatten() {
         let found = said(case.text.as_bytes());
         let shown: String = case.text.chars().take(2_000).collect();
@@ -265,7 +298,7 @@ fn every_flaw_is_explained_on_generated_sheets() {
             assert!(!found.marked.is_empty(), "{flaw:?} {seed}");
             let needs = found.lines.iter().any(|line| line.contains("needs "));
             assert!(
-                needs || breach.number == 6,
+                needs || matches!(breach.number, 5 | 6 | 20),
                 "{flaw:?} {seed}: {:?}",
                 found.lines
             );

@@ -79,6 +79,16 @@ fn with_procedure(what: &str, count: u64) -> Option<String> {
             let formals = list(count, |i| format!("formal f{i}: integer"), "\n");
             format!("{SMALLEST}procedure p\n{formals}\nreturn")
         }
+        "rights names of a procedure; main has none" if count > 1 => {
+            let names = "GN 2 0\n".repeat(count as usize);
+            let (slots, end) = (" 255".repeat(8), "IN 17 255 255 255 0\n");
+            let head = "PR 0 0 0 255 1\n";
+            format!("raw\nHD 1 1 0 2\nTY 0 0{slots}\n{head}{end}{head}{names}{end}")
+        }
+        "rights names of a procedure; main has none" => {
+            let name = ["", " for ?R >= call{}"][count as usize];
+            format!("type call\n{SMALLEST}procedure p{name}\nreturn")
+        }
         "variables of a procedure, formals among them" => {
             let variables = list(count, |i| format!("variable v{i}: integer"), "\n");
             format!("procedure main\n{variables}\nreturn")
@@ -144,7 +154,7 @@ fn what_a_sheet_has_is_limited_as_the_table_says() {
             refused_outside(&within(from - 1), outside);
         }
     }
-    assert_eq!(tried, 11, "rows of which texts can have more and less");
+    assert_eq!(tried, 12, "rows of which texts can have more and less");
 }
 
 /// The limits of a row by the beginning of its first cell.

@@ -33,7 +33,7 @@ fn each_text_does_what_its_head_says() {
 
 /// Each number, with its word and its section.
 fn sections() -> Vec<(usize, &'static str, &'static str)> {
-    let part = between(PAGE, "\n## The numbers 1 to 19\n", "\n## ");
+    let part = between(PAGE, "\n## The numbers 1 to 21\n", "\n## ");
     let sections = part.split("\n### ").skip(1).map(|section| {
         let (title, rest) = section.split_once('\n').expect("a heading has a line");
         let (number, word) = title.split_once(' ').expect("a number and a word");
@@ -56,13 +56,13 @@ fn is_right(text: &str) -> bool {
 }
 
 /// The numbers whose sections say how to be rid of them.
-const CURES: [usize; 7] = [6, 7, 8, 9, 13, 18, 19];
+const CURES: [usize; 9] = [6, 7, 8, 9, 13, 18, 19, 20, 21];
 
 #[test]
 fn each_number_has_a_wrong_and_a_right_text() {
     let sections = sections();
     let numbers: Vec<usize> = sections.iter().map(|section| section.0).collect();
-    assert_eq!(numbers, (1..=19).collect::<Vec<_>>());
+    assert_eq!(numbers, (1..=21).collect::<Vec<_>>());
     for (number, _, section) in sections {
         if number == 1 {
             // No small text is so long: two commands, which scripts/check-commands runs.
@@ -115,7 +115,7 @@ fn no_line_of_a_wrong_text_can_be_left_out() {
 
 #[test]
 fn the_table_of_numbers_says_who_gives_which() {
-    let part = between(PAGE, "\n## The numbers 1 to 19\n", "\n### ");
+    let part = between(PAGE, "\n## The numbers 1 to 21\n", "\n### ");
     let rows = rows(part);
     let halves = rows.iter().flat_map(|row| [&row[..5], &row[6..]]);
     let mut found = Vec::new();
@@ -124,7 +124,12 @@ fn the_table_of_numbers_says_who_gives_which() {
             panic!("{half:?}")
         };
         let number: usize = between(linked, "[", "]").parse().expect(linked);
-        let gives = [number <= 9, number <= 17, number <= 5 || number >= 10];
+        let refuses = number <= 9 || number >= 20;
+        let gives = [
+            refuses,
+            refuses || number <= 17,
+            number <= 5 || (10..=19).contains(&number),
+        ];
         let due = gives.map(|gives| if gives { "×" } else { "" });
         assert_eq!(by, due, "{number}");
         found.push((number, *word));

@@ -311,3 +311,94 @@ fn a_reason_is_left_out_where_it_would_take_too_long() {
                     to make so many steps again\n";
     assert!(stop("12500000").ends_with(left_out));
 }
+
+/// Two trays, of which the second is made in a frame with a rights name, and
+/// what is done with them.
+fn with_names(lines: &str) -> String {
+    format!(
+        "type call{{read,amend}} (length: integer)
+procedure main
+    variable n: integer
+    variable calls: tray[call{{read}}]{{fetch,store,size}}
+    variable drafts: tray[call{{read,amend}}]{{fetch,store,size}}
+    variable call: call{{read}}
+    variable draft: call{{read,amend}}
+    set n := 1
+    newtray calls[n]
+{lines}
+    return
+procedure new_like for ?R >= call{{read}} gives tray[?R]{{fetch,store,size}}
+    formal like: tray[?R]{{fetch}}
+    variable made: tray[?R]{{fetch,store,size}}
+    variable n: integer
+    set n := 2
+    newtray made[n]
+    call both(like, made)
+    return made
+procedure both for ?R >= call{{}}
+    formal one, two: tray[?R]{{fetch}}
+    return
+procedure amend for ?R >= call{{read,amend}}
+    formal all: tray[?R]{{fetch}}
+    return
+procedure new_call of call gives call{{read,amend}}
+    variable made: call{{open,read,amend}}
+    newrecord made
+    return made
+"
+    )
+}
+
+/// What a watched run prints after its head, all lines in one.
+fn watched(lines: &str, options: &[&str]) -> String {
+    let text = with_names(lines);
+    let output = wennathig(&[&["watch", "-"], options].concat(), text.as_bytes());
+    assert_eq!(status(&output), 0, "{output:?}");
+    stdout(&output)
+}
+
+#[test]
+fn a_frame_tells_what_its_rights_name_is_settled_to() {
+    let said = watched("    call calls <- new_like(calls)", &["--trace"]);
+    let tray = "object 0 tray[call{read}]{fetch} (was tray[call{read}]{fetch,store,size})";
+    for due in [
+        &format!("  opens new_like for ?R = call{{read}}: like = {tray}\n"),
+        "  made = object 1 tray[call{read}]{fetch,store,size}, new tray of 2\n",
+        "  opens both for ?R = call{read}: one = object 0 tray[call{read}]{fetch}, two = object 1 tray[call{read}]{fetch} (was",
+        "  back in main: calls = object 1 tray[call{read}]{fetch,store,size}\n",
+        "\nstopped 11 done",
+    ] {
+        assert!(said.contains(due), "{due}\n{said}");
+    }
+}
+
+#[test]
+fn a_call_that_settles_wrongly_tells_what() {
+    for (lines, stop, due) in [
+        (
+            "    call both(calls, drafts)",
+            18,
+            "  calls settles ?R to call{read}, drafts to call{read,amend}\n",
+        ),
+        (
+            "    call amend(calls)",
+            19,
+            "  settled to call{read}, but amend needs at least call{read,amend}\n  lacks amend\n",
+        ),
+        // What was made under ?R keeps its set: a draft loses amend on its way in.
+        (
+            "    call calls <- new_like(calls)\n    bind drafts <- calls",
+            18,
+            "  the elements of trays must be equal, not more and not less: needs call{read,amend}, has call{read}\n",
+        ),
+        (
+            "    call calls <- new_like(calls)\n    set n := 0\n    call draft <- new_call()\n    store calls[n] <- draft\n    fetch draft <- calls[n]",
+            19,
+            "  needs   call{read,amend}  (draft)\n  carries call{read}        (calls[0], object 2)\n  lacks   amend\n",
+        ),
+    ] {
+        let said = watched(lines, &[]);
+        let stopped = format!("stopped {stop} ");
+        assert!(said.contains(&stopped) && said.ends_with(due), "{due}\n{said}");
+    }
+}

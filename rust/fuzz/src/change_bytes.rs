@@ -202,6 +202,8 @@ fn recount(sheet: &mut [u8]) {
                 sheet[place + 6..place + 8].fill(0);
                 procedure = Some(place);
             }
+            // A GN is not counted: it is due where it stands.
+            RecordKind::Bound => {}
             RecordKind::Variable => procedure.into_iter().for_each(|at| count(sheet, at + 4)),
             RecordKind::Instruction => procedure
                 .into_iter()

@@ -38,8 +38,8 @@ impl Event {
     pub fn due() -> Vec<Event> {
         let mut all = Vec::from([Kind::Text, Kind::Bytes, Kind::Program].map(Event::Round));
         all.extend([false, true].map(Event::Text));
-        all.extend((0..=9).map(Event::Check));
-        all.extend((1..=17).map(Event::Run));
+        all.extend((0..=9).chain([20, 21]).map(Event::Check));
+        all.extend((1..=17).chain([20, 21]).map(Event::Run));
         all.extend((1..=5).chain(10..=19).map(Event::Watch));
         for task in [Task::Check, Task::Run] {
             all.extend((0..=2).map(|status| Event::Program(task, status)));

@@ -6,7 +6,10 @@
 
 use crate::body::Writer;
 use crate::random::Random;
-use crate::records::{QualifiedRecord, TypeRecord, VariableRecord, ARRAY_ALL, NONE, OPEN};
+use crate::reading::Scope;
+use crate::records::{
+    BoundRecord, QualifiedRecord, TypeRecord, VariableRecord, ARRAY_ALL, NONE, OPEN,
+};
 use crate::sheet::{Procedure, Sheet, SheetBuilder};
 use crate::typing::Typing;
 
@@ -41,9 +44,11 @@ pub fn accepted_within(random: &mut Random, room: Room) -> Sheet {
         random,
         sheet: SheetBuilder::new().build(),
         typing: Typing::of(&[]),
+        generic: None,
     };
     author.declare_types(room.types);
     author.declare_qualified(room.qualified);
+    author.declare_generics(room.qualified);
     author.fill_slots();
     author.declare_procedures(room.procedures);
     author.add_variables();
@@ -56,6 +61,8 @@ struct Author<'a> {
     random: &'a mut Random,
     sheet: Sheet,
     typing: Typing,
+    /// The bound that some qualified types are made for.
+    generic: Option<BoundRecord>,
 }
 
 impl Author<'_> {
@@ -78,15 +85,49 @@ impl Author<'_> {
     fn declare_qualified(&mut self, largest: usize) {
         for _ in 0..self.count(18, largest, 40) {
             let record = self.qualified();
-            self.sheet.qualified.push(record);
-            self.typing.push(record);
+            self.add(record);
         }
+    }
+
+    /// ?R and two sets of rights on its base, each alone, in an array and in
+    /// an array of arrays.
+    fn declare_generics(&mut self, largest: usize) {
+        let full = self.typing.count() + 9 > largest;
+        if full || self.sheet.types.is_empty() || self.random.one_in(3) {
+            return;
+        }
+        let of = self.random.below(self.sheet.types.len());
+        let (base, named) = (of as u8 + 2, self.named_rights(of));
+        let low = self.random.word() as u16 & named;
+        let more = low | self.random.word() as u16 & named;
+        let least = low & self.random.word() as u16;
+        self.generic = Some(BoundRecord { base, least });
+        let sets = [low, more].map(|rights| QualifiedRecord::record(base, rights));
+        for leaf in [QualifiedRecord::GENERIC, sets[0], sets[1]] {
+            self.add(leaf);
+            for _ in 0..2 {
+                let element = self.typing.count() as u8 - 1;
+                self.add(QualifiedRecord::array(element, ARRAY_ALL));
+            }
+        }
+    }
+
+    fn add(&mut self, record: QualifiedRecord) {
+        self.sheet.qualified.push(record);
+        self.typing.push(record);
+    }
+
+    /// The named rights of a declared type.
+    fn named_rights(&self, of: usize) -> u16 {
+        let count = u32::from(self.sheet.types[of].named_rights);
+        ((1u32 << (count + 1)) - 2) as u16
     }
 
     fn qualified(&mut self) -> QualifiedRecord {
         let closed = self.typing.closed();
         let element = self.random.pick(&closed);
         match (self.random.below(10), element) {
+            (1, _) if self.random.one_in(4) => QualifiedRecord::GENERIC,
             (2 | 3, Some(original)) => self.twin(original),
             (4..=6, Some(element)) => QualifiedRecord::array(element, self.array_rights()),
             (7.., _) if !self.sheet.types.is_empty() => self.record(),
@@ -104,8 +145,7 @@ impl Author<'_> {
 
     fn record(&mut self) -> QualifiedRecord {
         let of = self.random.below(self.sheet.types.len());
-        let named_rights = u32::from(self.sheet.types[of].named_rights);
-        let mut named = self.random.word() as u16 & ((1u32 << (named_rights + 1)) - 2) as u16;
+        let mut named = self.random.word() as u16 & self.named_rights(of);
         if self.random.one_in(3) {
             named |= OPEN;
         }
@@ -129,14 +169,14 @@ impl Author<'_> {
     }
 
     fn fill_slots(&mut self) {
-        let closed = self.typing.closed();
-        if closed.is_empty() {
+        let plain = self.typing.plain();
+        if plain.is_empty() {
             return;
         }
         for number in 0..self.sheet.types.len() {
             let count = self.count(4, 8, 5);
             let slots: Vec<u8> = (0..count)
-                .filter_map(|_| self.random.pick(&closed))
+                .filter_map(|_| self.random.pick(&plain))
                 .collect();
             let named_rights = self.sheet.types[number].named_rights;
             self.sheet.types[number] = TypeRecord::new(named_rights, &slots);
@@ -147,15 +187,51 @@ impl Author<'_> {
         self.sheet.procedures.push(Procedure::main());
         for _ in 0..self.count(4, largest - 1, 100) {
             let owner = self.owner();
-            let result = self.result();
-            let mut procedure = Procedure::new(owner, result);
-            for _ in 0..self.count(3, 8, 20) {
-                if let Some(VariableRecord { inner, need }) = self.formal(owner) {
+            let bound = self.bound();
+            let mut procedure = Procedure::new(owner, self.result(bound));
+            procedure.bound = bound;
+            for number in 0..self.count(3, 8, 20) {
+                let formal = match number {
+                    0 => self.generic_formal(bound),
+                    _ => None,
+                };
+                let formal = formal.or_else(|| self.formal(owner, bound));
+                if let Some(VariableRecord { inner, need }) = formal {
                     procedure = procedure.formal(inner, need);
                 }
             }
             self.sheet.procedures.push(procedure);
         }
+    }
+
+    /// Often a rights name, mostly the one that types are made for.
+    fn bound(&mut self) -> Option<BoundRecord> {
+        if self.sheet.types.is_empty() || self.random.one_in(2) {
+            return None;
+        }
+        let of = self.random.below(self.sheet.types.len());
+        let some = self.random.word() as u16 & self.random.word() as u16;
+        let any = BoundRecord {
+            base: of as u8 + 2,
+            least: some & self.named_rights(of),
+        };
+        match self.random.one_in(4) {
+            true => Some(any),
+            false => self.generic.map(|bound| BoundRecord {
+                least: bound.least & (some | self.random.word() as u16),
+                ..bound
+            }),
+        }
+    }
+
+    /// A formal that settles the rights name.
+    fn generic_formal(&mut self, bound: Option<BoundRecord>) -> Option<VariableRecord> {
+        bound?;
+        let all = self.typing.all();
+        let users: Vec<u8> = all.filter(|&n| self.typing.uses_generic(n)).collect();
+        let inner = self.random.pick(&users)?;
+        let need = self.equal_to(inner);
+        Some(VariableRecord { inner, need })
     }
 
     fn owner(&mut self) -> u8 {
@@ -166,8 +242,11 @@ impl Author<'_> {
         }
     }
 
-    fn result(&mut self) -> u8 {
-        let closed = self.typing.closed();
+    fn result(&mut self, bound: Option<BoundRecord>) -> u8 {
+        let closed = match bound {
+            Some(_) => self.typing.closed(),
+            None => self.typing.plain(),
+        };
         if self.random.one_in(3) {
             NONE
         } else {
@@ -177,8 +256,8 @@ impl Author<'_> {
 
     /// A formal: amplified if its type is the owner's, else with need equal to
     /// inner.
-    fn formal(&mut self, owner: u8) -> Option<VariableRecord> {
-        let inner = self.inner(owner)?;
+    fn formal(&mut self, owner: u8, bound: Option<BoundRecord>) -> Option<VariableRecord> {
+        let inner = self.inner(owner, bound)?;
         if owner < 2 || self.typing.get(inner).base != owner {
             let need = self.equal_to(inner);
             return Some(VariableRecord { inner, need });
@@ -193,8 +272,11 @@ impl Author<'_> {
     }
 
     /// A type that a variable may have inside a procedure of the owner.
-    fn inner(&mut self, owner: u8) -> Option<u8> {
-        let all: Vec<u8> = self.typing.all().collect();
+    fn inner(&mut self, owner: u8, bound: Option<BoundRecord>) -> Option<u8> {
+        let all = self.typing.all();
+        let all: Vec<u8> = all
+            .filter(|&n| bound.is_some() || !self.typing.uses_generic(n))
+            .collect();
         let owned = |number: u8| owner >= 2 && self.typing.get(number).base == owner;
         let mine: Vec<u8> = all.iter().copied().filter(|&n| owned(n)).collect();
         if self.random.one_in(3) && !mine.is_empty() {
@@ -207,7 +289,7 @@ impl Author<'_> {
 
     fn add_variables(&mut self) {
         for number in 0..self.sheet.procedures.len() {
-            let head = self.sheet.procedures[number].head.clone();
+            let Procedure { head, bound, .. } = self.sheet.procedures[number].clone();
             let mut inners = Vec::new();
             // A return must have something to give back.
             if head.result != NONE {
@@ -216,9 +298,9 @@ impl Author<'_> {
             let integers = self.typing.all().filter(|&n| self.typing.is_integer(n));
             let integers: Vec<u8> = integers.collect();
             inners.extend(self.random.pick(&integers));
-            inners.extend(self.call_block());
+            inners.extend(self.call_block(bound).unwrap_or_default());
             for _ in 0..self.count(8, MAX_VARIABLES, 40) {
-                inners.extend(self.inner(head.owner));
+                inners.extend(self.inner(head.owner, bound));
             }
             inners.truncate(MAX_VARIABLES - usize::from(head.formals));
             let procedure = &mut self.sheet.procedures[number];
@@ -230,17 +312,23 @@ impl Author<'_> {
     }
 
     /// Variables that some procedure can be called with, and one for its
-    /// result.
-    fn call_block(&mut self) -> Vec<u8> {
+    /// result, in a procedure with the bound or without one.
+    fn call_block(&mut self, bound: Option<BoundRecord>) -> Option<Vec<u8>> {
         let callee = self.random.below(self.sheet.procedures.len());
         let callee = self.sheet.procedures[callee].clone();
-        let formals = usize::from(callee.head.formals);
-        let needs = callee.variables[..formals].iter().map(|v| v.need);
-        let mut block: Vec<u8> = needs.map(|need| self.equal_to(need)).collect();
-        if callee.head.result != NONE {
-            block.push(self.equal_to(callee.head.result));
+        let typing = &self.typing;
+        let scope = Scope { typing, bound };
+        let generic = match callee.bound {
+            None => None,
+            Some(bound) => Some(self.random.pick(&scope.choices(bound))?),
+        };
+        let needs = callee.formals().iter().map(|formal| formal.need);
+        let mut block = Vec::new();
+        for declared in needs.chain(callee.result()) {
+            let spelled = typing.spelled(declared, generic);
+            block.push(self.random.pick(&scope.read_as(&spelled))?);
         }
-        block
+        Some(block)
     }
 
     fn write_bodies(&mut self, largest: usize) {

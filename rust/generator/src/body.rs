@@ -5,9 +5,10 @@ use crate::operations::{
     put, set, set_slot, size, store, subtract, take,
 };
 use crate::random::Random;
+use crate::reading::{Scope, Spelled};
 use crate::records::{InstructionRecord, TypeRecord, FETCH, NONE, OPEN, SIZE, STORE};
 use crate::sheet::Procedure;
-use crate::typing::Typing;
+use crate::typing::{Movement, Typing};
 
 /// Writes the instructions of one procedure.
 pub struct Writer<'a> {
@@ -97,29 +98,48 @@ impl Writer<'_> {
     fn call(&mut self) -> Option<InstructionRecord> {
         let number = self.random.below(self.procedures.len());
         let callee = &self.procedures[number];
-        let first = match callee.head.formals {
-            0 => NONE,
-            formals => self.first_actual(&callee.variables[..usize::from(formals)])?,
-        };
-        let kept = if callee.head.result == NONE || self.random.one_in(4) {
-            NONE
-        } else {
-            self.receiver(callee.head.result)?
+        let (first, result) = self.actuals(callee)?;
+        let kept = match result {
+            Some(result) if !self.random.one_in(4) => self.keeper(&result)?,
+            _ => NONE,
         };
         Some(call(kept, first, number as u16))
     }
 
-    /// The first of consecutive variables that meet the needs.
-    fn first_actual(&mut self, formals: &[crate::records::VariableRecord]) -> Option<u8> {
+    /// The first of consecutive variables with which the procedure can be
+    /// called, and what its result is then.
+    fn actuals(&mut self, callee: &Procedure) -> Option<(u8, Option<Spelled>)> {
+        let scope = self.scope();
+        let formals = callee.formals().len();
+        if formals == 0 {
+            return scope.call(callee, &[]).map(|result| (NONE, result));
+        }
         let variables = &self.procedure().variables;
-        let meet = |first: &usize| {
-            let actuals = &variables[*first..*first + formals.len()];
-            let mut pairs = actuals.iter().zip(formals);
-            pairs.all(|(actual, formal)| self.typing.fits(actual.inner, formal.need))
-        };
-        let last = (variables.len() + 1).checked_sub(formals.len())?;
-        let firsts: Vec<usize> = (0..last).filter(meet).collect();
-        self.random.pick(&firsts).map(|first| first as u8)
+        let inners: Vec<u8> = variables.iter().map(|variable| variable.inner).collect();
+        let calls: Vec<(u8, Option<Spelled>)> = inners
+            .windows(formals)
+            .zip(0..)
+            .filter_map(|(actuals, first)| scope.call(callee, actuals).map(|call| (first, call)))
+            .collect();
+        let numbers: Vec<usize> = (0..calls.len()).collect();
+        self.random.pick(&numbers).map(|at| calls[at].clone())
+    }
+
+    /// A variable that can keep a result.
+    fn keeper(&mut self, result: &Spelled) -> Option<u8> {
+        let bound = self.procedure().bound;
+        self.variable(|typing, inner| {
+            let kept = Scope { typing, bound }.spelled(inner);
+            result.movement(&kept) == Movement::Fits
+        })
+    }
+
+    /// The types as the procedure reads them.
+    fn scope(&self) -> Scope<'_> {
+        Scope {
+            typing: self.typing,
+            bound: self.procedure().bound,
+        }
     }
 
     fn leaving(&mut self) -> InstructionRecord {
@@ -168,10 +188,12 @@ impl Writer<'_> {
     }
 
     fn receiver(&mut self, source: u8) -> Option<u8> {
-        self.variable(|typing, inner| typing.fits(source, inner))
+        let bound = self.procedure().bound;
+        self.variable(|typing, inner| Scope { typing, bound }.fits(source, inner))
     }
 
     fn giver(&mut self, destination: u8) -> Option<u8> {
-        self.variable(|typing, inner| typing.fits(inner, destination))
+        let bound = self.procedure().bound;
+        self.variable(|typing, inner| Scope { typing, bound }.fits(inner, destination))
     }
 }

@@ -27,10 +27,14 @@ pub fn random_bytes(random: &mut Random) -> Vec<u8> {
         }
     }
     for _ in 0..random.below(12) {
-        let kind = RecordKind::ALL[random.between(3, 5)];
+        let kind = RecordKind::ALL[random.between(3, 6)];
         marked_record(random, kind, &mut bytes);
     }
     bytes
+}
+
+fn any_kind(random: &mut Random) -> RecordKind {
+    RecordKind::ALL[random.below(RecordKind::ALL.len())]
 }
 
 /// A record with its mark and fields that are often in range.
@@ -59,7 +63,7 @@ pub fn damaged(random: &mut Random, sheet: &Sheet) -> Vec<u8> {
 }
 
 fn change(random: &mut Random, sheet: &Sheet, bytes: &mut Vec<u8>) {
-    match random.below(12) {
+    match random.below(13) {
         0 => flip_bits(random, bytes),
         1 => cut(random, sheet, bytes),
         2 => extend(random, bytes),
@@ -67,6 +71,7 @@ fn change(random: &mut Random, sheet: &Sheet, bytes: &mut Vec<u8>) {
         4 => exchange_mark(random, sheet, bytes),
         5 => drop_record(random, sheet, bytes),
         6 => repeat_record(random, sheet, bytes),
+        7 => insert_bound(random, sheet, bytes),
         _ => set_field(random, sheet, bytes),
     }
 }
@@ -99,7 +104,7 @@ fn extend(random: &mut Random, bytes: &mut Vec<u8>) {
             bytes.resize(length, random.byte());
         }
         1..=8 => {
-            let kind = RecordKind::ALL[random.below(6)];
+            let kind = any_kind(random);
             marked_record(random, kind, bytes);
         }
         _ => {
@@ -121,7 +126,7 @@ fn replace_bytes(random: &mut Random, bytes: &mut [u8]) {
 
 /// A record of a random kind, with its place in the undamaged sheet.
 fn some_record(random: &mut Random, sheet: &Sheet) -> (usize, RecordKind) {
-    let kind = RecordKind::ALL[random.below(6)];
+    let kind = any_kind(random);
     let places = sheet.places();
     let of_kind: Vec<usize> = places
         .iter()
@@ -138,7 +143,7 @@ fn exchange_mark(random: &mut Random, sheet: &Sheet, bytes: &mut [u8]) {
     let (place, _) = some_record(random, sheet);
     let mark = match random.below(4) {
         0 => [random.byte(), random.byte()],
-        _ => RecordKind::ALL[random.below(6)].mark(),
+        _ => any_kind(random).mark(),
     };
     for (byte, new) in bytes.iter_mut().skip(place).zip(mark) {
         *byte = new;
@@ -158,9 +163,28 @@ fn repeat_record(random: &mut Random, sheet: &Sheet, bytes: &mut Vec<u8>) {
     bytes.splice(end..end, again);
 }
 
+/// A GN after a PR, be it main's or one that has a GN, or after another
+/// record, where none is due.
+fn insert_bound(random: &mut Random, sheet: &Sheet, bytes: &mut Vec<u8>) {
+    let places = sheet.places();
+    let after_head = !random.one_in(4);
+    let heads = places
+        .iter()
+        .filter(|(at, _)| !after_head || at.kind() == RecordKind::Procedure);
+    let heads: Vec<usize> = heads.map(|(at, place)| place + at.kind().size()).collect();
+    if let Some(place) = random.pick(&heads) {
+        let mut record = RecordKind::Bound.mark().to_vec();
+        record.push(random.between(1, sheet.types.len() + 2) as u8);
+        record.extend([random.byte() & 2, 0]);
+        record.truncate(random.between(4, 8));
+        let place = place.min(bytes.len());
+        bytes.splice(place..place, record);
+    }
+}
+
 /// Sets a field near one of its limits.
 fn set_field(random: &mut Random, sheet: &Sheet, bytes: &mut [u8]) {
-    let kind = RecordKind::ALL[random.below(6)];
+    let kind = any_kind(random);
     let places = sheet.places();
     let of_kind: Vec<_> = places.iter().filter(|(at, _)| at.kind() == kind).collect();
     let Some((at, place)) = random.pick(&of_kind) else {

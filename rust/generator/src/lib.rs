@@ -24,6 +24,7 @@ pub mod limits;
 pub mod loops;
 pub mod operations;
 pub mod random;
+pub mod reading;
 pub mod records;
 pub mod runs;
 pub mod sheet;

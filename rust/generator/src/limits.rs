@@ -56,23 +56,29 @@ pub fn fields(sheet: &Sheet, at: At) -> Vec<Field> {
         }
         At::Qualified(number) => vec![
             byte(2, &[0, 1, types + 2, 255]),
-            rights(sheet, number),
+            rights(sheet, usize::from(sheet.qualified[number].base)),
             byte(5, &[0, number, qualified, 255]),
         ],
         At::Procedure(number) => procedure_fields(sheet, &sheet.procedures[number]),
+        At::Bound(number) => {
+            let bound = sheet.procedures[number].bound;
+            let base = bound.map_or(0, |bound| usize::from(bound.base));
+            vec![byte(2, &[0, 2, types + 1, 255]), rights(sheet, base)]
+        }
         At::Variable(..) => vec![byte(2, &[0, qualified, 255]), byte(3, &[0, qualified, 255])],
         At::Instruction(number, _) => instruction_fields(sheet, &sheet.procedures[number]),
     }
 }
 
-/// No right, every single right, and all rights up to and beyond the last.
-fn rights(sheet: &Sheet, number: usize) -> Field {
-    let base = usize::from(sheet.qualified[number].base);
+/// No right, every single right, and all rights up to and beyond the last, of
+/// a base.
+fn rights(sheet: &Sheet, base: usize) -> Field {
     let declared = base.checked_sub(2).and_then(|of| sheet.types.get(of));
     let last = declared.map_or(3, |declared| u32::from(declared.named_rights));
     let mut values = vec![0, ARRAY_ALL, ARRAY_ALL | 1, u16::MAX];
     values.extend((0..16).map(|right| 1 << right));
     values.push(((1u32 << (last + 1)) - 1) as u16);
+    values.push(((1u32 << (last + 1)) - 2) as u16);
     values.push(((1u32 << (last + 2)) - 1) as u16);
     Field {
         offset: 3,

@@ -1,10 +1,13 @@
-//! The six kinds of record, with their fields as they stand in a sheet.
+//! The seven kinds of record, with their fields as they stand in a sheet.
 //!
 //! Nothing here keeps a field in range: sheets that must be refused are
 //! written with the same structures.
 
 /// The byte that says that a field names nothing.
 pub const NONE: u8 = 255;
+
+/// The base of a QT that stands for the rights name of a procedure.
+pub const GENERIC: u8 = 255;
 
 /// Rights of an array, as bits of a QT record.
 pub const FETCH: u16 = 1 << 1;
@@ -21,16 +24,19 @@ pub enum RecordKind {
     Type,
     Qualified,
     Procedure,
+    /// A GN, which only some procedures have.
+    Bound,
     Variable,
     Instruction,
 }
 
 impl RecordKind {
-    pub const ALL: [RecordKind; 6] = [
+    pub const ALL: [RecordKind; 7] = [
         RecordKind::Header,
         RecordKind::Type,
         RecordKind::Qualified,
         RecordKind::Procedure,
+        RecordKind::Bound,
         RecordKind::Variable,
         RecordKind::Instruction,
     ];
@@ -41,6 +47,7 @@ impl RecordKind {
             RecordKind::Type => *b"TY",
             RecordKind::Qualified => *b"QT",
             RecordKind::Procedure => *b"PR",
+            RecordKind::Bound => *b"GN",
             RecordKind::Variable => *b"VR",
             RecordKind::Instruction => *b"IN",
         }
@@ -52,6 +59,7 @@ impl RecordKind {
             RecordKind::Header | RecordKind::Qualified => 6,
             RecordKind::Type => 12,
             RecordKind::Procedure | RecordKind::Instruction => 8,
+            RecordKind::Bound => 5,
             RecordKind::Variable => 4,
         }
     }
@@ -115,6 +123,13 @@ impl QualifiedRecord {
         element: NONE,
     };
 
+    /// "?R" in document 02.
+    pub const GENERIC: QualifiedRecord = QualifiedRecord {
+        base: GENERIC,
+        rights: 0,
+        element: NONE,
+    };
+
     pub fn array(element: u8, rights: u16) -> Self {
         QualifiedRecord {
             base: 1,
@@ -153,6 +168,21 @@ impl ProcedureRecord {
         out.extend(RecordKind::Procedure.mark());
         out.extend([self.owner, self.formals, self.variables, self.result]);
         out.extend(self.instructions.to_le_bytes());
+    }
+}
+
+/// A GN: the rights name of a procedure has a base and a least set.
+#[derive(Clone, Copy, Debug, PartialEq)]
+pub struct BoundRecord {
+    pub base: u8,
+    pub least: u16,
+}
+
+impl BoundRecord {
+    pub fn encode(&self, out: &mut Vec<u8>) {
+        out.extend(RecordKind::Bound.mark());
+        out.push(self.base);
+        out.extend(self.least.to_le_bytes());
     }
 }
 

@@ -1,8 +1,8 @@
 //! A whole sheet as records, its bytes, and the places of its records.
 
 use crate::records::{
-    Header, InstructionRecord, ProcedureRecord, QualifiedRecord, RecordKind, TypeRecord,
-    VariableRecord, NONE,
+    BoundRecord, Header, InstructionRecord, ProcedureRecord, QualifiedRecord, RecordKind,
+    TypeRecord, VariableRecord, NONE,
 };
 
 #[derive(Clone, Debug, PartialEq)]
@@ -13,10 +13,11 @@ pub struct Sheet {
     pub procedures: Vec<Procedure>,
 }
 
-/// A PR record with the VR and IN records that follow it.
+/// A PR record with the GN, VR and IN records that follow it.
 #[derive(Clone, Debug, PartialEq)]
 pub struct Procedure {
     pub head: ProcedureRecord,
+    pub bound: Option<BoundRecord>,
     pub variables: Vec<VariableRecord>,
     pub instructions: Vec<InstructionRecord>,
 }
@@ -28,6 +29,8 @@ pub enum At {
     Type(usize),
     Qualified(usize),
     Procedure(usize),
+    /// The GN of a procedure that has one.
+    Bound(usize),
     Variable(usize, usize),
     Instruction(usize, usize),
 }
@@ -39,6 +42,7 @@ impl At {
             At::Type(_) => RecordKind::Type,
             At::Qualified(_) => RecordKind::Qualified,
             At::Procedure(_) => RecordKind::Procedure,
+            At::Bound(_) => RecordKind::Bound,
             At::Variable(..) => RecordKind::Variable,
             At::Instruction(..) => RecordKind::Instruction,
         }
@@ -67,6 +71,9 @@ impl Sheet {
             .for_each(|record| record.encode(&mut out));
         for procedure in &self.procedures {
             procedure.head.encode(&mut out);
+            if let Some(bound) = &procedure.bound {
+                bound.encode(&mut out);
+            }
             for variable in &procedure.variables {
                 variable.encode(&mut out);
             }
@@ -84,6 +91,7 @@ impl Sheet {
         all.extend((0..self.qualified.len()).map(At::Qualified));
         for (number, procedure) in self.procedures.iter().enumerate() {
             all.push(At::Procedure(number));
+            all.extend(procedure.bound.map(|_| At::Bound(number)));
             all.extend((0..procedure.variables.len()).map(|i| At::Variable(number, i)));
             all.extend((0..procedure.instructions.len()).map(|i| At::Instruction(number, i)));
         }
@@ -166,6 +174,11 @@ impl SheetBuilder {
         self.qualified(QualifiedRecord::record(base, rights))
     }
 
+    /// ?R.
+    pub fn generic(self) -> Self {
+        self.qualified(QualifiedRecord::GENERIC)
+    }
+
     pub fn procedure(mut self, procedure: Procedure) -> Self {
         self.sheet.procedures.push(procedure);
         self
@@ -194,6 +207,7 @@ impl Procedure {
                 result,
                 instructions: 0,
             },
+            bound: None,
             variables: Vec::new(),
             instructions: Vec::new(),
         }
@@ -201,6 +215,21 @@ impl Procedure {
 
     pub fn main() -> Self {
         Procedure::new(0, NONE)
+    }
+
+    pub fn formals(&self) -> &[VariableRecord] {
+        &self.variables[..usize::from(self.head.formals)]
+    }
+
+    /// The type of the result, if there is one.
+    pub fn result(&self) -> Option<u8> {
+        Some(self.head.result).filter(|&result| result != NONE)
+    }
+
+    /// Declares a rights name.
+    pub fn bound(mut self, base: u8, least: u16) -> Self {
+        self.bound = Some(BoundRecord { base, least });
+        self
     }
 
     /// Adds a formal; all formals are to be added before other variables.

@@ -25,23 +25,26 @@ pub fn showcase() -> Sheet {
         .array(4, ARRAY_ALL) // 6
         .record(3, 1 << 15) // 7
         .record(2, READ) // 8, twin of 1
+        .generic() // 9
+        .array(9, ARRAY_ALL) // 10
         .procedure(main_procedure())
         .procedure(new_call())
         .procedure(read_call())
+        .procedure(through_array())
         .build()
 }
 
 /// Arithmetic, arrays, and calls whose results are kept and dropped.
 fn main_procedure() -> Procedure {
     Procedure::main()
-        .variables(&[0, 0, 0, 2, 4, 5, 6, 8])
+        .variables(&[0, 0, 0, 2, 4, 5, 6, 8, 1, 4])
         .body(&[
             take(0),
             set(1, 1),
             add(2, 0, 1),
             subtract(2, 2, 1),
             less(0, 1, 2),
-            jump_if_zero(0, 17),
+            jump_if_zero(0, 20),
             call(3, NONE, 1),
             new_array(4, 2),
             store(4, 1, 3),
@@ -53,6 +56,9 @@ fn main_procedure() -> Procedure {
             call(0, 7, 2),
             call(NONE, 3, 2),
             put(0),
+            bind(8, 7),
+            bind(9, 4),
+            call(7, 8, 3),
             leave(),
         ])
 }
@@ -74,4 +80,14 @@ fn read_call() -> Procedure {
         .formal(3, 8)
         .variables(&[0, 4, 7])
         .body(&[get_slot(2, 0, 1), get_slot(1, 0, 0), give_back(1)])
+}
+
+/// Puts something into an array under any rights, and gives it back.
+fn through_array() -> Procedure {
+    Procedure::new(0, 9)
+        .bound(2, READ)
+        .formal(9, 9)
+        .formal(10, 10)
+        .variables(&[0, 9])
+        .body(&[set(2, 0), store(1, 2, 0), fetch(3, 1, 2), give_back(3)])
 }

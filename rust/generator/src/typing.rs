@@ -4,7 +4,7 @@
 //! last; the second engine compares structures instead, so that a slip in
 //! one of the two shows.
 
-use crate::records::{QualifiedRecord, OPEN};
+use crate::records::{QualifiedRecord, GENERIC, OPEN};
 
 /// What a movement from one qualified type to another comes to.
 #[derive(Clone, Copy, Debug, PartialEq, Eq)]
@@ -19,6 +19,8 @@ pub enum Movement {
 pub struct Typing {
     records: Vec<QualifiedRecord>,
     classes: Vec<usize>,
+    /// Whether ?R stands in each, itself or as an element at any depth.
+    generic: Vec<bool>,
 }
 
 impl Typing {
@@ -26,6 +28,7 @@ impl Typing {
         let mut typing = Typing {
             records: Vec::new(),
             classes: Vec::new(),
+            generic: Vec::new(),
         };
         for &record in records {
             typing.push(record);
@@ -36,8 +39,11 @@ impl Typing {
     pub fn push(&mut self, record: QualifiedRecord) {
         let key = self.key(&record);
         let same = self.records.iter().position(|other| self.key(other) == key);
+        let element = self.generic.get(usize::from(record.element));
+        let generic = record.base == GENERIC || element.copied().unwrap_or(false);
         self.classes.push(same.unwrap_or(self.records.len()));
         self.records.push(record);
+        self.generic.push(generic);
     }
 
     /// What two equal types have in common.
@@ -90,8 +96,19 @@ impl Typing {
         record.base == 1 && record.rights & rights == rights
     }
 
+    pub fn uses_generic(&self, number: u8) -> bool {
+        self.generic[usize::from(number)]
+    }
+
     pub fn has_open(&self, number: u8) -> bool {
         self.get(number).rights & OPEN != 0
+    }
+
+    /// The types that may stand everywhere: neither open nor ?R.
+    pub fn plain(&self) -> Vec<u8> {
+        let mut plain = self.closed();
+        plain.retain(|&number| !self.uses_generic(number));
+        plain
     }
 
     /// The types that may stand where open may not.

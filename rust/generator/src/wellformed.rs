@@ -3,9 +3,10 @@
 use crate::accepted::accepted;
 use crate::random::Random;
 use crate::records::{
-    InstructionRecord, QualifiedRecord, TypeRecord, VariableRecord, ARRAY_ALL, NONE, OPEN,
+    BoundRecord, InstructionRecord, QualifiedRecord, VariableRecord, ARRAY_ALL, GENERIC, NONE, OPEN,
 };
 use crate::sheet::{At, Procedure, Sheet, SheetBuilder};
+use crate::typing::Typing;
 
 /// Either fields drawn at random within the layout, or an accepted sheet with
 /// a few fields drawn anew.
@@ -41,27 +42,26 @@ impl<'a> Chance<'a> {
 
     fn sheet(mut self) -> Sheet {
         let types = self.random.below(4);
-        let qualified = self.random.below(7);
+        let qualified = self.random.below(8);
         let procedures = self.random.between(1, 4);
-        let mut builder = SheetBuilder::new();
         let named_rights: Vec<u8> = (0..types).map(|_| self.random.below(16) as u8).collect();
+        let mut typing = Typing::of(&[]);
+        for number in 0..qualified {
+            typing.push(self.qualified(&named_rights, number));
+        }
+        let mut builder = SheetBuilder::new();
         for &named in &named_rights {
-            let slots = if qualified == 0 {
-                0
-            } else {
-                self.random.below(9)
-            };
-            let slots: Vec<u8> = (0..slots)
-                .map(|_| self.random.below(qualified) as u8)
+            let slots: Vec<u8> = (0..self.random.below(9))
+                .filter_map(|_| self.named(&typing, None))
                 .collect();
             builder = builder.record_type(named, &slots);
         }
-        for number in 0..qualified {
-            builder = builder.qualified(self.qualified(&named_rights, number));
-        }
+        builder = typing
+            .all()
+            .fold(builder, |builder, n| builder.qualified(typing.get(n)));
         let mut sheet = builder.build();
         sheet.procedures = (0..procedures)
-            .map(|number| self.procedure(types, qualified, number == 0))
+            .map(|number| self.procedure(&named_rights, &typing, number == 0))
             .collect();
         for number in 0..procedures {
             let body = self.body(&sheet, number);
@@ -78,6 +78,7 @@ impl<'a> Chance<'a> {
                 let rights = self.random.word() as u16 & ARRAY_ALL;
                 QualifiedRecord::array(self.random.below(number) as u8, rights)
             }
+            0 | 1 if self.random.one_in(3) => QualifiedRecord::GENERIC,
             0 | 1 => QualifiedRecord::INTEGER,
             _ => {
                 let mask = (1u32 << (u32::from(named_rights[base - 2]) + 1)) - 1;
@@ -90,29 +91,50 @@ impl<'a> Chance<'a> {
         }
     }
 
-    fn procedure(&mut self, types: usize, qualified: usize, is_main: bool) -> Procedure {
+    /// A type that may be named with the bound or without one.
+    fn named(&mut self, typing: &Typing, bound: Option<BoundRecord>) -> Option<u8> {
+        let all: Vec<u8> = typing
+            .all()
+            .filter(|&number| bound.is_some() || !typing.uses_generic(number))
+            .collect();
+        self.random.pick(&all)
+    }
+
+    /// A rights name on one of the types.
+    fn bound(&mut self, named_rights: &[u8]) -> Option<BoundRecord> {
+        let numbers: Vec<usize> = (0..named_rights.len()).collect();
+        let of = self.random.pick(&numbers)?;
+        let base = of as u8 + 2;
+        let least = chance_least(self.random, named_rights[of]);
+        self.random.one_in(2).then_some(BoundRecord { base, least })
+    }
+
+    fn procedure(&mut self, named_rights: &[u8], typing: &Typing, is_main: bool) -> Procedure {
         let mut procedure = Procedure::main();
         if !is_main {
-            let owner = self.random.below(types + 1) as u8;
+            let owner = self.random.below(named_rights.len() + 1) as u8;
             procedure.head.owner = if owner == 0 { 0 } else { owner + 1 };
+            procedure.bound = self.bound(named_rights);
         }
-        if qualified == 0 {
-            return procedure;
-        }
+        let bound = procedure.bound;
         if !is_main && self.random.one_in(2) {
-            procedure.head.result = self.random.below(qualified) as u8;
+            procedure.head.result = self.named(typing, bound).unwrap_or(NONE);
         }
         let formals = if is_main { 0 } else { self.random.below(4) };
         for _ in 0..formals {
-            let inner = self.random.below(qualified) as u8;
+            let drawn = [self.named(typing, bound), self.named(typing, bound)];
+            let [Some(inner), Some(other)] = drawn else {
+                break;
+            };
             let need = match self.random.one_in(self.unequal_rarity) {
-                true => self.random.below(qualified) as u8,
+                true => other,
                 false => inner,
             };
             procedure = procedure.formal(inner, need);
         }
         for _ in 0..self.random.below(5) {
-            procedure = procedure.variable(self.random.below(qualified) as u8);
+            let inner = self.named(typing, bound);
+            procedure = procedure.variables(inner.as_slice());
         }
         procedure
     }
@@ -178,49 +200,83 @@ fn first_actual(random: &mut Random, sheet: &Sheet, callee: usize, variables: us
     }
 }
 
-/// Draws one field of the sheet anew, within the layout.
+/// A least set: few of the named rights.
+fn chance_least(random: &mut Random, named_rights: u8) -> u16 {
+    let named = ((1u32 << (u32::from(named_rights) + 1)) - 2) as u16;
+    random.word() as u16 & random.word() as u16 & named
+}
+
+/// Draws one field of the sheet anew, within the layout: ?R stays out of slots
+/// and of procedures without a GN.
 pub fn redraw(random: &mut Random, sheet: &mut Sheet) {
     let records = sheet.records();
-    let qualified = sheet.qualified.len();
-    let any = |random: &mut Random| random.below(qualified.max(1)) as u8;
-    match records[random.below(records.len())] {
-        At::Header => {}
-        At::Type(number) => redraw_slot(random, &mut sheet.types[number], qualified),
-        At::Qualified(number) => redraw_qualified(random, sheet, number),
-        At::Procedure(0) => {}
-        At::Procedure(number) => {
-            let none = qualified == 0 || random.one_in(4);
-            sheet.procedures[number].head.result = if none { NONE } else { any(random) };
-        }
-        At::Variable(number, variable) => {
-            let VariableRecord { inner, need } = &mut sheet.procedures[number].variables[variable];
-            if *need != NONE && random.one_in(2) {
-                *need = any(random);
-            } else {
-                *inner = any(random);
+    let typing = Typing::of(&sheet.qualified);
+    let at = records[random.below(records.len())];
+    let bound = match at {
+        At::Procedure(number) | At::Variable(number, _) => sheet.procedures[number].bound,
+        _ => None,
+    };
+    let named = typing.all();
+    let named: Vec<u8> = named
+        .filter(|&number| bound.is_some() || !typing.uses_generic(number))
+        .collect();
+    let drawn = random.pick(&named);
+    match (at, drawn) {
+        (At::Type(number), Some(drawn)) => {
+            let record = &mut sheet.types[number];
+            if record.slot_count > 0 {
+                let slot = random.below(usize::from(record.slot_count));
+                record.slots[slot] = drawn;
             }
         }
-        At::Instruction(number, position) => redraw_instruction(random, sheet, number, position),
+        (At::Qualified(number), _) => redraw_qualified(random, sheet, &typing, number),
+        (At::Procedure(number), drawn) if number > 0 => {
+            let none = random.one_in(4);
+            let result = drawn.filter(|_| !none).unwrap_or(NONE);
+            sheet.procedures[number].head.result = result;
+        }
+        (At::Bound(number), _) => redraw_bound(random, sheet, number),
+        (At::Variable(number, variable), Some(drawn)) => {
+            let record = &mut sheet.procedures[number].variables[variable];
+            redraw_variable(random, record, drawn);
+        }
+        (At::Instruction(number, position), _) => {
+            redraw_instruction(random, sheet, number, position)
+        }
+        _ => {}
     }
 }
 
-fn redraw_slot(random: &mut Random, record: &mut TypeRecord, qualified: usize) {
-    if record.slot_count > 0 {
-        let slot = random.below(usize::from(record.slot_count));
-        record.slots[slot] = random.below(qualified) as u8;
+fn redraw_variable(random: &mut Random, record: &mut VariableRecord, drawn: u8) {
+    match record.need != NONE && random.one_in(2) {
+        true => record.need = drawn,
+        false => record.inner = drawn,
     }
 }
 
-fn redraw_qualified(random: &mut Random, sheet: &mut Sheet, number: usize) {
+/// The base or the least set of a rights name.
+fn redraw_bound(random: &mut Random, sheet: &mut Sheet, number: usize) {
+    let of = random.below(sheet.types.len());
+    let named_rights = sheet.types[of].named_rights;
+    let base = of as u8 + 2;
+    let least = chance_least(random, named_rights);
+    sheet.procedures[number].bound = Some(BoundRecord { base, least });
+}
+
+/// Rights or an element; where ?R stood one stands again.
+fn redraw_qualified(random: &mut Random, sheet: &mut Sheet, typing: &Typing, number: usize) {
     let record = sheet.qualified[number];
     let mask = match record.base {
-        0 => 0,
+        0 | GENERIC => 0,
         1 => u32::from(ARRAY_ALL),
         of => (1u32 << (u32::from(sheet.types[usize::from(of) - 2].named_rights) + 1)) - 1,
     };
     let target = &mut sheet.qualified[number];
     if record.base == 1 && random.one_in(2) {
-        target.element = random.below(number) as u8;
+        let uses = typing.uses_generic(number as u8);
+        let elements = (0..number as u8).filter(|&n| typing.uses_generic(n) == uses);
+        let elements: Vec<u8> = elements.collect();
+        target.element = random.pick(&elements).unwrap_or(record.element);
     } else {
         target.rights = random.word() as u16 & mask as u16;
     }

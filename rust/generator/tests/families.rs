@@ -4,7 +4,8 @@ use generator::accepted::accepted;
 use generator::breach::Flaw;
 use generator::damage::damaged;
 use generator::large::{two_deep_arrays, two_unequal_arrays, SHEETS};
-use generator::runs::families::{MISDECLARED, RUNNABLE, TRIALS};
+use generator::records::RecordKind;
+use generator::runs::families::{MISDECLARED, RUNNABLE, SETTLING, TRIALS};
 use generator::showcase::showcase;
 use generator::wellformed::wellformed;
 use generator::Random;
@@ -134,9 +135,11 @@ fn deep_arrays_are_compared_to_their_innermost_elements() {
 }
 
 #[test]
-fn showcase_has_every_code() {
+fn showcase_has_every_record_and_every_code() {
     let sheet = showcase();
     assert_eq!(check(&sheet.encode()), Verdict::Accepted);
+    let kinds: Vec<RecordKind> = sheet.records().iter().map(|at| at.kind()).collect();
+    assert!(RecordKind::ALL.iter().all(|kind| kinds.contains(kind)));
     let instructions = sheet.procedures.iter().flat_map(|p| &p.instructions);
     let codes: Vec<u8> = instructions.map(|record| record.code).collect();
     assert!((1..=17).all(|code| codes.contains(&code)));
@@ -152,7 +155,7 @@ fn runnable_sheets_are_accepted() {
 
 #[test]
 fn trials_and_misdeclared_sheets_parse_and_most_are_refused() {
-    for family in [TRIALS, MISDECLARED] {
+    for family in [TRIALS, MISDECLARED, SETTLING] {
         let mut refused = 0;
         for seed in 0..5_000 {
             let sheet = family.sheet(seed).encode();

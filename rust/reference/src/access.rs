@@ -1,6 +1,12 @@
-//! The access rules: refusals 6 to 9, record by record in sheet order.
+//! The access rules: refusals 6 to 9, 20 and 21, record by record in sheet
+//! order. Where open stands and whether need and inner agree is asked of the
+//! types as they stand; instructions read ?R as their procedure's own.
+
+// A fault is made once in a check, and tells all that its rule looked at.
+#![allow(clippy::result_large_err)]
 
 use crate::fault::{Broken, Detail, Due, End, Fault, Form, Holder, Site};
+use crate::generic::{self, Read, Reading, Type};
 use crate::program::{Instruction, Kind, Operation, Procedure, Program, Rights, Variable};
 use crate::refusal::{Reason, Refusal};
 
@@ -62,7 +68,7 @@ impl Rules<'_> {
         if let Some(need) = need {
             closed(self.program, need, Holder::Need, place)?;
         }
-        let owned = self.has_owner_type(inner);
+        let owned = self.is_owned(inner);
         if !owned {
             closed(self.program, inner, Holder::Inner, place)?;
         }
@@ -70,8 +76,8 @@ impl Rules<'_> {
             return Ok(());
         };
         let agrees = match owned {
-            true => self.has_owner_type(need),
-            false => self.program.equal(need, inner),
+            true => self.is_owned(need),
+            false => self.program.equal(Read::unread(need), Read::unread(inner)),
         };
         if !agrees {
             let detail = Detail::Need { need, inner, owned };
@@ -145,8 +151,7 @@ impl Rules<'_> {
 
     fn record_operation(&self, operation: &Operation) -> Result<(), Broken> {
         match *operation {
-            // A new record has all rights, so that only its type can differ.
-            Operation::NewRecord { to } => self.owner_type(to),
+            Operation::NewRecord { to } => self.new_record(to),
             Operation::GetSlot { to, record, slot } => {
                 self.owner_type(record)?;
                 self.right(record, Rights::OPEN)?;
@@ -161,7 +166,21 @@ impl Rules<'_> {
         }
     }
 
-    /// Actuals move to needs in their order; a kept result comes last.
+    /// A new record has all rights, so that only its type can differ; but
+    /// nothing except ?R reaches ?R.
+    fn new_record(&self, to: usize) -> Result<(), Broken> {
+        self.owner_type(to)?;
+        match self.type_of(to).form {
+            generic::Form::Generic { .. } => {
+                let detail = Detail::NewGeneric { variable: to };
+                Err(Broken::new(Reason::MissingRight, detail))
+            }
+            _ => Ok(()),
+        }
+    }
+
+    /// Actuals move to needs in their order; a kept result comes last. Needs
+    /// and result are read with what the call settles.
     fn call(
         &self,
         kept: Option<usize>,
@@ -169,85 +188,115 @@ impl Rules<'_> {
         first_actual: Option<usize>,
     ) -> Result<(), Broken> {
         let callee = &self.program.procedures[procedure];
+        let actuals = first_actual.into_iter().flat_map(|first| first..);
+        let actuals = actuals.take(callee.formals);
+        let reading = self.settle(procedure, actuals.clone())?;
         if kept.is_some() && callee.result.is_none() {
             return Err(form(Form::NothingToKeep { procedure }));
         }
-        let actuals = first_actual.into_iter().flat_map(|first| first..);
         let needs = callee.variables.iter().filter_map(|formal| formal.need);
-        for (formal, (actual, need)) in actuals.zip(needs).enumerate() {
+        for (formal, (actual, qualified)) in actuals.zip(needs).enumerate() {
             let to = Site {
                 end: End::Need { procedure, formal },
-                qualified: need,
+                declared: Read { qualified, reading },
             };
             self.movement(self.site(actual), to)?;
         }
         match (callee.result, kept) {
             (Some(result), Some(to)) => {
-                self.movement(result_site(procedure, result), self.site(to))
+                self.movement(result_site(procedure, result, reading), self.site(to))
             }
             _ => Ok(()),
         }
+    }
+
+    /// What ?R of the procedure called is settled to: 20, then 21.
+    fn settle(
+        &self,
+        procedure: usize,
+        actuals: impl Iterator<Item = usize>,
+    ) -> Result<Reading, Broken> {
+        let callee = &self.program.procedures[procedure];
+        let actuals = actuals.map(|actual| self.site(actual).declared);
+        let settled = self.program.settled(callee, actuals);
+        if settled.is_unsettled() {
+            let differing = settled.differing();
+            let detail = Detail::Unsettled {
+                procedure,
+                differing,
+            };
+            return Err(Broken::new(Reason::Unsettled, detail));
+        }
+        if settled.is_short() {
+            let settled = settled.reading;
+            let detail = Detail::Short { procedure, settled };
+            return Err(Broken::new(Reason::Short, detail));
+        }
+        Ok(settled.reading)
     }
 
     fn return_value(&self, value: Option<usize>) -> Result<(), Broken> {
         match (value, self.procedure.result) {
             (None, None) => Ok(()),
             (Some(value), Some(result)) => {
-                self.movement(self.site(value), result_site(self.number, result))
+                let result = result_site(self.number, result, self.procedure.own());
+                self.movement(self.site(value), result)
             }
             (None, Some(_)) => Err(form(Form::NothingReturned)),
             (Some(_), None) => Err(form(Form::TooMuchReturned)),
         }
     }
 
-    fn inner(&self, variable: usize) -> usize {
-        self.procedure.variables[variable].inner
-    }
-
-    fn kind(&self, variable: usize) -> Kind {
-        self.program.qualified[self.inner(variable)].kind
-    }
-
+    /// The type of a variable, with ?R as the procedure's own.
     fn site(&self, variable: usize) -> Site {
         Site {
             end: End::Variable(variable),
-            qualified: self.inner(variable),
+            declared: Read {
+                qualified: self.procedure.variables[variable].inner,
+                reading: self.procedure.own(),
+            },
         }
     }
 
+    fn type_of(&self, variable: usize) -> Type {
+        self.program.read(self.site(variable).declared)
+    }
+
     fn movement(&self, from: Site, to: Site) -> Result<(), Broken> {
-        let outcome = self.program.movement(from.qualified, to.qualified);
+        let outcome = self.program.movement(from.declared, to.declared);
         outcome.map_err(|reason| Broken::new(reason, Detail::Movement { from, to }))
     }
 
     fn integer(&self, variable: usize) -> Result<(), Broken> {
-        match self.kind(variable) {
-            Kind::Integer => Ok(()),
+        match self.type_of(variable).form {
+            generic::Form::Integer => Ok(()),
             _ => Err(wrong_kind(variable, Due::Integer)),
         }
     }
 
     /// The element of an array variable.
     fn element(&self, variable: usize) -> Result<Site, Broken> {
-        match self.kind(variable) {
-            Kind::Array { element } => Ok(Site {
+        match self.type_of(variable).form {
+            generic::Form::Array { element } => Ok(Site {
                 end: End::Element { array: variable },
-                qualified: element,
+                declared: element,
             }),
             _ => Err(wrong_kind(variable, Due::Array)),
         }
     }
 
+    /// The variable is of the owner's type; ?R is of its bound's base.
     fn owner_type(&self, variable: usize) -> Result<(), Broken> {
-        if self.has_owner_type(self.inner(variable)) {
+        let declared = self.type_of(variable).form.declared();
+        if declared.is_some() && declared == self.procedure.owner {
             Ok(())
         } else {
             Err(wrong_kind(variable, Due::Owner))
         }
     }
 
-    /// Whether the procedure has an owner and it is the base.
-    fn has_owner_type(&self, qualified: usize) -> bool {
+    /// Whether a type, as it stands, is the owner's: ?R is never amplified.
+    fn is_owned(&self, qualified: usize) -> bool {
         match (self.program.qualified[qualified].kind, self.procedure.owner) {
             (Kind::Record { of }, Some(owner)) => of == owner,
             _ => false,
@@ -255,8 +304,7 @@ impl Rules<'_> {
     }
 
     fn right(&self, variable: usize, right: usize) -> Result<(), Broken> {
-        let qualified = &self.program.qualified[self.inner(variable)];
-        if qualified.rights.contains(right) {
+        if self.type_of(variable).rights.contains(right) {
             Ok(())
         } else {
             let detail = Detail::Right { variable, right };
@@ -270,7 +318,7 @@ impl Rules<'_> {
         let owner = owner.ok_or_else(|| wrong_kind(record, Due::Owner))?;
         Ok(Site {
             end: End::Slot { record, slot },
-            qualified: self.program.types[owner].slots[slot],
+            declared: Read::unread(self.program.types[owner].slots[slot]),
         })
     }
 }
@@ -283,9 +331,9 @@ fn form(form: Form) -> Broken {
     Broken::new(Reason::WrongKind, Detail::Form(form))
 }
 
-fn result_site(procedure: usize, qualified: usize) -> Site {
+fn result_site(procedure: usize, qualified: usize, reading: Reading) -> Site {
     Site {
         end: End::Result { procedure },
-        qualified,
+        declared: Read { qualified, reading },
     }
 }

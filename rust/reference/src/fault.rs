@@ -1,5 +1,6 @@
 //! What an access rule refuses, told in full, for those who explain it.
 
+use crate::generic::{Read, Reading};
 use crate::refusal::{Reason, Refusal};
 
 /// A refusal with what its rule looked at.
@@ -23,12 +24,22 @@ pub enum Detail {
         inner: usize,
         owned: bool,
     },
+    /// 20: the two formals of the procedure called whose actuals settle its
+    /// rights name differently; None where no formal uses the name.
+    Unsettled {
+        procedure: usize,
+        differing: Option<[usize; 2]>,
+    },
+    /// 21: what the rights name of the procedure called is settled to.
+    Short { procedure: usize, settled: Reading },
     /// 8: a result is lacking, or one too many.
     Form(Form),
     /// 8: a variable is not of the kind due.
     Kind { variable: usize, due: Due },
     /// 9: a variable lacks the right due.
     Right { variable: usize, right: usize },
+    /// 9: a new record is no ?R, though it is of its base.
+    NewGeneric { variable: usize },
     /// 8 or 9: a value does not fit where it goes.
     Movement { from: Site, to: Site },
 }
@@ -61,11 +72,12 @@ pub enum Due {
     Owner,
 }
 
-/// Where a value comes from or goes, and its qualified type.
+/// Where a value comes from or goes, and its qualified type as it is read
+/// there.
 #[derive(Clone, Copy, Debug, PartialEq, Eq)]
 pub struct Site {
     pub end: End,
-    pub qualified: usize,
+    pub declared: Read,
 }
 
 #[derive(Clone, Copy, Debug, PartialEq, Eq)]

@@ -6,6 +6,7 @@
 //! the record cannot be seen.
 
 use crate::decode::{decode, Fields, Scope};
+use crate::generic::Bound;
 use crate::program::{
     Instruction, Kind, Operation, Procedure, Program, QualifiedType, RecordType, Rights, Variable,
 };
@@ -23,8 +24,9 @@ pub const MAX_INSTRUCTIONS: usize = 1000;
 /// The byte that says that a field names nothing.
 pub const NONE: u8 = 255;
 
-/// Reads all records and sees that no byte is left over.
-pub(crate) fn read(sheet: &[u8]) -> Result<Program, Refusal> {
+/// Reads all records and sees that no byte is left over; the pass for calls is
+/// still to come.
+pub fn read(sheet: &[u8]) -> Result<Program, Refusal> {
     let mut reader = Reader { sheet, place: 0 };
     let counts = read_header(&mut reader)?;
     let mut program = Program {
@@ -69,6 +71,11 @@ impl Reader<'_> {
         }
         self.place += N;
         Ok((place, bytes))
+    }
+
+    /// Whether the mark stands where the next record is due.
+    fn at_mark(&self, mark: &[u8; 2]) -> bool {
+        self.sheet[self.place..].starts_with(mark)
     }
 }
 
@@ -128,10 +135,11 @@ fn read_qualified(reader: &mut Reader, program: &Program) -> Result<QualifiedTyp
     let kind = match usize::from(base) {
         0 => Kind::Integer,
         1 => Kind::Array { element },
+        255 => Kind::Generic,
         base => Kind::Record { of: base - 2 },
     };
     let rights_fit = match kind {
-        Kind::Integer => rights.members().next().is_none(),
+        Kind::Integer | Kind::Generic => rights.members().next().is_none(),
         Kind::Array { .. } => rights
             .members()
             .all(|right| (Rights::FETCH..=Rights::SIZE).contains(&right)),
@@ -166,6 +174,7 @@ struct ProcedureHead {
 
 fn read_procedure(reader: &mut Reader, program: &Program) -> Result<Procedure, Refusal> {
     let head = read_procedure_head(reader, program)?;
+    let bound = read_bound(reader, program)?;
     let mut variables = Vec::new();
     for number in 0..head.variables {
         let is_formal = number < head.formals;
@@ -186,9 +195,28 @@ fn read_procedure(reader: &mut Reader, program: &Program) -> Result<Procedure, R
         owner: head.owner,
         formals: head.formals,
         result: head.result,
+        bound,
         variables,
         instructions,
     })
+}
+
+/// "A procedure but main may declare one rights name by a GN record after its
+/// PR": a GN is due if its mark stands there, and never a second one.
+fn read_bound(reader: &mut Reader, program: &Program) -> Result<Option<Bound>, Refusal> {
+    let is_main = program.procedures.is_empty();
+    if is_main || !reader.at_mark(b"GN") {
+        return Ok(None);
+    }
+    let (place, [_, _, base, low, high]) = reader.record(b"GN")?;
+    let least = Rights::from_bits(u16::from_le_bytes([low, high]));
+    let of = usize::from(base).checked_sub(2);
+    let of = of.filter(|&of| of < program.types.len());
+    let of = of.ok_or(Refusal::new(Reason::OutOfRange, place))?;
+    // Open is not a named right.
+    let named = 1..=program.types[of].named_rights;
+    in_range(least.members().all(|right| named.contains(&right)), place)?;
+    Ok(Some(Bound { place, of, least }))
 }
 
 fn read_procedure_head(reader: &mut Reader, program: &Program) -> Result<ProcedureHead, Refusal> {

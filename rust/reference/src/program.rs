@@ -4,6 +4,8 @@
 //! in the vectors below. Type 2 of document 01, the first declared one, has
 //! index 0 in [`Program::types`].
 
+use crate::generic::Bound;
+
 /// Everything that the records of a sheet say.
 #[derive(Clone, Debug, PartialEq)]
 pub struct Program {
@@ -42,6 +44,8 @@ pub enum Kind {
     Record {
         of: usize,
     },
+    /// "?R" in document 02: what the bound of a procedure stands for.
+    Generic,
 }
 
 /// A set of rights: entry i says whether right i is in it.
@@ -70,6 +74,12 @@ impl Rights {
         self.0[right]
     }
 
+    /// The set without one right.
+    pub fn without(mut self, right: usize) -> Self {
+        self.0[right] = false;
+        self
+    }
+
     /// Whether every right of the other set is in this one.
     pub fn includes(&self, other: &Rights) -> bool {
         other.members().all(|right| self.contains(right))
@@ -89,6 +99,8 @@ pub struct Procedure {
     /// How many of the variables, from the first, are formals.
     pub formals: usize,
     pub result: Option<usize>,
+    /// What the procedure declares of its rights name, if it has one.
+    pub bound: Option<Bound>,
     pub variables: Vec<Variable>,
     pub instructions: Vec<Instruction>,
 }

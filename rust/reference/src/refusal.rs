@@ -1,7 +1,7 @@
 //! Why and where a sheet is refused.
 
-/// The reasons for a refusal, with the numbers of document 01. A check gives
-/// all but the last.
+/// The reasons for a refusal, with the numbers of documents 01 and 02. A check
+/// gives all but 10.
 #[derive(Clone, Copy, Debug, PartialEq, Eq)]
 pub enum Reason {
     /// "overlong": more than 32,768 bytes.
@@ -24,6 +24,11 @@ pub enum Reason {
     MissingRight = 9,
     /// "big bench": a memory of more than 65,536 words.
     MemoryTooLarge = 10,
+    /// "unsettled": no formal uses the rights name of the procedure called, or
+    /// two actuals settle it differently.
+    Unsettled = 20,
+    /// "short": the settled set lacks a least right.
+    Short = 21,
 }
 
 /// A reason together with the byte at which the refused record starts.

@@ -1,6 +1,6 @@
 //! Generated sheets on both machines, step by step, and what has come up.
 
-use generator::runs::families::{Family, ANY_ACCEPTED, MISDECLARED, RUNNABLE, TRIALS};
+use generator::runs::families::{Family, ANY_ACCEPTED, MISDECLARED, RUNNABLE, SETTLING, TRIALS};
 use generator::runs::stops::{
     accepted_orders, accepted_sites, wellformed_orders, wellformed_sites, Coverage,
 };
@@ -11,9 +11,9 @@ use reference::{run, watch, Program, Stop};
 use std::thread;
 
 /// Families and how many seeds of each are run.
-type Families = [(Family, u64); 2];
-const ACCEPTED: Families = [(RUNNABLE, 4_500), (ANY_ACCEPTED, 1_000)];
-const WELLFORMED: Families = [(TRIALS, 17_000), (MISDECLARED, 4_000)];
+type Families = [(Family, u64)];
+const ACCEPTED: &Families = &[(RUNNABLE, 4_500), (ANY_ACCEPTED, 1_000)];
+const WELLFORMED: &Families = &[(TRIALS, 17_000), (MISDECLARED, 4_000), (SETTLING, 3_000)];
 
 /// What check says about the sheet of a run.
 #[derive(Clone, Copy, Debug, PartialEq)]
@@ -110,7 +110,7 @@ fn runs(families: &Families) -> Coverage {
 
 #[test]
 fn accepted_runs_have_nothing_to_object_to() {
-    let whole = runs(&ACCEPTED);
+    let whole = runs(ACCEPTED);
     assert!(whole.runs >= 50_000, "{}", whole.runs);
     let faults = whole.faults(&accepted_sites(), &accepted_orders());
     assert!(faults.is_empty(), "{}", faults.join("\n"));
@@ -118,7 +118,7 @@ fn accepted_runs_have_nothing_to_object_to() {
 
 #[test]
 fn watched_runs_come_to_every_stop_in_every_order() {
-    let whole = runs(&WELLFORMED);
+    let whole = runs(WELLFORMED);
     assert!(whole.runs >= 100_000, "{}", whole.runs);
     let faults = whole.faults(&wellformed_sites(), &wellformed_orders());
     assert!(faults.is_empty(), "{}", faults.join("\n"));

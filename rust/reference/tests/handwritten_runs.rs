@@ -47,7 +47,7 @@ fn replies_mean_what_they_come_from() {
         }
     }
     assert_eq!(Outcome::from_reply(0, [0; 5]), None);
-    assert_eq!(Outcome::from_reply(20, [0; 5]), None);
+    assert_eq!(Outcome::from_reply(22, [0; 5]), None);
     assert_eq!(Outcome::from_reply(11, [1, 0, 0, 0, 0]), None);
     assert_eq!(Outcome::from_reply(10, [0, 1, 0, 0, 0]), None);
 }

@@ -1,6 +1,7 @@
 //! The program that a sheet is read into. A check alone would not see two
 //! operations exchanged, but a machine would.
 
+use reference::generic::{Form, Read};
 use reference::{parse, Kind, Operation, Program, Rights};
 
 /// Type 2 has two slots; QT 0 is an integer, QT 1 an array of it with all
@@ -52,6 +53,39 @@ fn records() {
         procedure.instructions[0].place,
     ];
     assert_eq!(places, [72, 76]);
+}
+
+/// Procedure 1 has a GN on type 2 with the least set {15}; QT 0 is ?R, QT 1
+/// an array of it.
+#[test]
+fn rights_names() {
+    let mut sheet = b"HD\x01\x01\x02\x02".to_vec();
+    sheet.extend(b"TY\x0f\x00\xff\xff\xff\xff\xff\xff\xff\xff");
+    sheet.extend(b"QT\xff\x00\x00\xffQT\x01\x0e\x00\x00");
+    sheet.extend(b"PR\x00\x00\x00\xff\x01\x00IN\x11\xff\xff\xff\x00\x00");
+    sheet.extend(b"PR\x00\x01\x01\xff\x01\x00GN\x02\x00\x80VR\x01\x01");
+    sheet.extend(b"IN\x11\xff\xff\xff\x00\x00");
+    let program = parse(&sheet).expect("the layout is right");
+    let procedure = &program.procedures[1];
+    let bound = procedure.bound.expect("there is a GN");
+    assert_eq!((bound.place, bound.of), (54, 0));
+    assert!(bound.least.members().eq([15]));
+    assert_eq!(procedure.variables[0].place, 59);
+    assert_eq!(program.qualified[0].kind, Kind::Generic);
+    assert!(program.procedures[0].bound.is_none());
+    let set = Rights::from_bits(6);
+    let element = Read {
+        qualified: 0,
+        reading: procedure.instance(set),
+    };
+    let read = program.read(element);
+    assert_eq!((read.form, read.rights), (Form::Record { of: 0 }, set));
+    let read = program.read(Read {
+        reading: procedure.own(),
+        ..element
+    });
+    let own = Form::Generic { of: Some(0) };
+    assert_eq!((read.form, read.rights), (own, bound.least));
 }
 
 /// The operation of the fields, followed by a return.

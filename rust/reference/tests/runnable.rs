@@ -4,6 +4,7 @@
 use generator::runs::plenty;
 use generator::runs::program::runnable;
 use generator::Random;
+use reference::generic::Read;
 use reference::machine::watched::{Frame, Machine, Value};
 use reference::machine::{self, Stop};
 use reference::{Kind, Operation, Place, Program};
@@ -54,10 +55,10 @@ impl View<'_> {
             }
             Operation::NewArray { to, size } => {
                 seen.add("array of size 0", self.integer(size) == Some(0));
-                let inner = self.program.procedures[place.procedure].variables[to].inner;
-                seen.add("array of arrays", self.is_nested(inner));
+                self.observe_made(to, seen);
             }
-            Operation::Fetch { array, index, .. } | Operation::Store { array, index, .. } => {
+            Operation::Store { array, index, .. } | Operation::Fetch { array, index, .. } => {
+                self.observe_outside(operation, array, seen);
                 let index = self.integer(index).map(|index| index as usize);
                 if let (Some(index), Some(size)) = (index, self.size(array)) {
                     seen.add("index at the end", index == size);
@@ -69,10 +70,89 @@ impl View<'_> {
                 seen.add("slot of a formal", record < formals);
             }
             Operation::Call {
-                result, procedure, ..
-            } => self.observe_call(result, procedure, seen),
+                result,
+                procedure,
+                first_actual,
+            } => {
+                self.observe_call(result, procedure, seen);
+                let declared = first_actual.into_iter().flat_map(|first| first..);
+                let declared = declared.map(|actual| self.declared(actual));
+                self.observe_settling(result, procedure, declared, seen);
+            }
             _ => {}
         }
+    }
+
+    fn observe_made(&self, to: usize, seen: &mut Seen) {
+        let inner = self.declared(to).qualified;
+        let (nested, generic) = (self.is_nested(inner), self.program.uses_generic(inner));
+        seen.add("array of arrays", nested);
+        seen.add("array made under ?R", generic);
+        seen.add("array of arrays made under ?R", nested && generic);
+    }
+
+    /// A variable's declared type, ?R read as the frame does.
+    fn declared(&self, variable: usize) -> Read {
+        let procedure = &self.program.procedures[self.frame.procedure];
+        Read {
+            qualified: procedure.variables[variable].inner,
+            reading: procedure.instance(self.frame.set),
+        }
+    }
+
+    /// An array that was made under ?R is used where there is none.
+    fn observe_outside(&self, operation: Operation, array: usize, seen: &mut Seen) {
+        let Some(Value::Object(object)) = self.frame.variables[array].map(|held| held.value) else {
+            return;
+        };
+        let made = match self.machine.state().objects[object].kind {
+            Kind::Array { element } => self.program.uses_generic(element),
+            _ => false,
+        };
+        let outside = made
+            && self.program.procedures[self.frame.procedure]
+                .bound
+                .is_none();
+        let stored = matches!(operation, Operation::Store { .. });
+        seen.add(
+            "stored outside to an array made under ?R",
+            outside && stored,
+        );
+        seen.add(
+            "fetched outside from an array made under ?R",
+            outside && !stored,
+        );
+    }
+
+    fn observe_settling(
+        &self,
+        result: Option<usize>,
+        procedure: usize,
+        declared: impl Iterator<Item = Read>,
+        seen: &mut Seen,
+    ) {
+        let callee = &self.program.procedures[procedure];
+        let Some(bound) = callee.bound else {
+            return;
+        };
+        let caller = &self.program.procedures[self.frame.procedure];
+        let settled = self.program.settled(callee, declared.take(callee.formals));
+        seen.add("settled by one actual", settled.found.len() == 1);
+        seen.add("settled by two actuals", settled.found.len() >= 2);
+        let more = settled.reading.rights() != bound.least;
+        seen.add("settled to more than the least set", more);
+        let own = caller.bound.filter(|own| own.of == bound.of);
+        let passed = own.is_some_and(|own| own.instance(self.frame.set) == settled.reading);
+        let least = own.is_some_and(|own| own.least == bound.least);
+        let itself = self.frame.procedure == procedure;
+        seen.add("?R passed on, same least set", passed && least && !itself);
+        seen.add("?R passed on, other least set", passed && !least);
+        seen.add("?R passed on to itself", passed && itself);
+        let given = callee.result.filter(|_| result.is_some());
+        let kind = given.map(|given| self.program.qualified[given].kind);
+        seen.add("a result of ?R kept", kind == Some(Kind::Generic));
+        let array = given.is_some_and(|given| self.program.uses_generic(given));
+        seen.add("an array of ?R kept", array && kind != Some(Kind::Generic));
     }
 
     fn is_nested(&self, qualified: usize) -> bool {
@@ -134,33 +214,47 @@ fn observe_run(seed: u64, seen: &mut Seen) -> Stop {
     }
 }
 
+/// All that must come up.
+const NAMES: [&str; 25] = [
+    "jump back",
+    "0 − 1",
+    "array of size 0",
+    "array of arrays",
+    "index at the end",
+    "index past the end",
+    "slot of a formal",
+    "main called",
+    "recursion",
+    "result kept",
+    "result dropped",
+    "rights added",
+    "rights taken",
+    "array made under ?R",
+    "array of arrays made under ?R",
+    "stored outside to an array made under ?R",
+    "fetched outside from an array made under ?R",
+    "settled by one actual",
+    "settled by two actuals",
+    "settled to more than the least set",
+    "?R passed on, same least set",
+    "?R passed on, other least set",
+    "?R passed on to itself",
+    "a result of ?R kept",
+    "an array of ?R kept",
+];
+
 #[test]
 fn runnable_sheets_do_what_they_are_made_for() {
     let mut seen = Seen::default();
     let mut stops: BTreeMap<Stop, usize> = BTreeMap::new();
-    let sheets = 1_500;
+    let sheets = 2_500;
     for seed in 0..sheets {
         *stops.entry(observe_run(seed, &mut seen)).or_default() += 1;
     }
     println!("{stops:?}");
     println!("{:?}", seen.0);
     assert!(stops[&Stop::Done] * 5 > sheets as usize, "{stops:?}");
-    let names = [
-        "jump back",
-        "0 − 1",
-        "array of size 0",
-        "array of arrays",
-        "index at the end",
-        "index past the end",
-        "slot of a formal",
-        "main called",
-        "recursion",
-        "result kept",
-        "result dropped",
-        "rights added",
-        "rights taken",
-    ];
-    for name in names {
+    for name in NAMES {
         let count = seen.0.get(name).copied().unwrap_or(0);
         assert!(count >= 20, "{name}: {count}");
     }

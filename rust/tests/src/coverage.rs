@@ -1,9 +1,10 @@
 //! Which refusals have come up where, and which codes were accepted and
 //! refused.
 
+use crate::generics;
 use crate::walk::{Due, Walk};
 use generator::records::RecordKind;
-use reference::Verdict;
+use reference::{layout, Verdict};
 use std::collections::BTreeMap;
 
 /// Where a refusal can arise.
@@ -15,6 +16,8 @@ pub enum Site {
     LeftoverBytes,
     /// A field that waits for the procedure called.
     CallPass,
+    /// A record that uses ?R where it may not, in the pass for calls.
+    Use(RecordKind),
     /// The need or the inner type of a variable.
     Need,
     Inner,
@@ -27,6 +30,9 @@ pub fn possible() -> Vec<(u8, Site)> {
         (2, Site::LeftoverBytes),
         (4, Site::Record(RecordKind::Header)),
         (5, Site::CallPass),
+        (5, Site::Use(RecordKind::Type)),
+        (5, Site::Use(RecordKind::Procedure)),
+        (5, Site::Use(RecordKind::Variable)),
         (6, Site::Record(RecordKind::Type)),
         (6, Site::Record(RecordKind::Qualified)),
         (6, Site::Record(RecordKind::Procedure)),
@@ -35,10 +41,14 @@ pub fn possible() -> Vec<(u8, Site)> {
         (7, Site::Record(RecordKind::Variable)),
         (8, Site::Record(RecordKind::Instruction)),
         (9, Site::Record(RecordKind::Instruction)),
+        (20, Site::Record(RecordKind::Instruction)),
+        (21, Site::Record(RecordKind::Instruction)),
     ];
     for number in [2, 3, 5] {
         all.extend(RecordKind::ALL.map(|kind| (number, Site::Record(kind))));
     }
+    // A GN is due only where its mark stands.
+    all.retain(|&refusal| refusal != (3, Site::Record(RecordKind::Bound)));
     all
 }
 
@@ -48,7 +58,8 @@ pub fn possible_codes() -> Vec<(u8, usize)> {
     for number in [5, 8] {
         all.extend((1..=17).map(|code| (number, code)));
     }
-    all.extend([6, 10, 11, 12, 14, 15, 16, 17].map(|code| (9, code)));
+    all.extend([6, 10, 11, 12, 13, 14, 15, 16, 17].map(|code| (9, code)));
+    all.extend([20, 21].map(|number| (number, 16)));
     all
 }
 
@@ -57,6 +68,8 @@ pub struct Coverage {
     pub sheets: usize,
     pub accepted: usize,
     pub accepted_codes: BTreeMap<usize, usize>,
+    /// What accepted sheets do with rights names.
+    pub accepted_generics: BTreeMap<&'static str, usize>,
     pub refused: BTreeMap<(u8, Site), usize>,
     pub refused_codes: BTreeMap<(u8, usize), usize>,
 }
@@ -70,6 +83,9 @@ impl Coverage {
                 self.accepted += 1;
                 for code in walk.codes() {
                     *self.accepted_codes.entry(code).or_default() += 1;
+                }
+                for name in generics::seen(sheet) {
+                    *self.accepted_generics.entry(name).or_default() += 1;
                 }
             }
             Verdict::Refused { number, place } => {
@@ -95,6 +111,7 @@ impl Coverage {
         self.sheets += other.sheets;
         self.accepted += other.accepted;
         merge_counts(&mut self.accepted_codes, other.accepted_codes);
+        merge_counts(&mut self.accepted_generics, other.accepted_generics);
         merge_counts(&mut self.refused, other.refused);
         merge_counts(&mut self.refused_codes, other.refused_codes);
     }
@@ -106,6 +123,9 @@ impl Coverage {
         for code in (1..=17).filter(|code| !self.accepted_codes.contains_key(code)) {
             faults.push(format!("code {code} in no accepted sheet"));
         }
+        let lacking = generics::ALL.iter();
+        let lacking = lacking.filter(|name| !self.accepted_generics.contains_key(*name));
+        faults.extend(lacking.map(|name| format!("in no accepted sheet: {name}")));
         differences(&mut faults, &possible(), &self.refused);
         differences(&mut faults, &possible_codes(), &self.refused_codes);
         faults
@@ -146,6 +166,11 @@ fn site(walk: &Walk, number: u8, place: usize) -> Option<Site> {
             if !is_last && walk.call_waits(procedure, place) =>
         {
             Some(Site::CallPass)
+        }
+        (5, Due::Variable { .. } | Due::Record(RecordKind::Type | RecordKind::Procedure))
+            if layout::read(walk.sheet).is_ok() =>
+        {
+            walk.due(place).kind().map(Site::Use)
         }
         (_, due) => due.kind().map(Site::Record),
     }

@@ -3,6 +3,7 @@
 
 pub mod coverage;
 pub mod frozen;
+pub mod generics;
 pub mod machines;
 mod memory;
 pub mod walk;

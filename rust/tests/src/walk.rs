@@ -55,17 +55,28 @@ impl Walk<'_> {
         self.qualified_start() + 6 * self.byte(4)
     }
 
-    /// The places at which the PR, its first IN and the next PR stand.
-    fn procedures(&self) -> Vec<[usize; 3]> {
+    /// The places at which the PR, what comes after its GN, its first IN and
+    /// the next PR stand.
+    fn procedures(&self) -> Vec<[usize; 4]> {
         let mut start = self.procedures_start();
         let mut all = Vec::new();
-        for _ in 0..self.byte(5) {
-            let body = start + 8 + 4 * self.byte(start + 4);
+        for number in 0..self.byte(5) {
+            let head = start + RecordKind::Procedure.size();
+            let bound = match number > 0 && self.marked(head, RecordKind::Bound) {
+                true => RecordKind::Bound.size(),
+                false => 0,
+            };
+            let body = head + bound + 4 * self.byte(start + 4);
             let end = body + 8 * self.word(start + 6);
-            all.push([start, body, end]);
+            all.push([start, head + bound, body, end]);
             start = end;
         }
         all
+    }
+
+    fn marked(&self, place: usize, kind: RecordKind) -> bool {
+        let rest = self.sheet.get(place..);
+        rest.is_some_and(|rest| rest.starts_with(&kind.mark()))
     }
 
     pub fn due(&self, place: usize) -> Due {
@@ -78,9 +89,12 @@ impl Walk<'_> {
         if place < self.procedures_start() {
             return Due::Record(RecordKind::Qualified);
         }
-        for [start, body, end] in self.procedures() {
+        for [start, variables, body, end] in self.procedures() {
             if place == start {
                 return Due::Record(RecordKind::Procedure);
+            }
+            if place < variables {
+                return Due::Record(RecordKind::Bound);
             }
             if place < body {
                 return Due::Variable { procedure: start };
@@ -100,7 +114,7 @@ impl Walk<'_> {
     pub fn codes(&self) -> Vec<usize> {
         let procedures = self.procedures().into_iter();
         procedures
-            .flat_map(|[_, body, end]| (body..end).step_by(8))
+            .flat_map(|[_, _, body, end]| (body..end).step_by(8))
             .map(|place| self.byte(place + 2))
             .collect()
     }

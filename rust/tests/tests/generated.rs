@@ -133,6 +133,7 @@ fn engines_agree_and_everything_has_come_up() {
         println!("refused {number} at {site:?}: {count}");
     }
     println!("codes in accepted sheets: {:?}", whole.accepted_codes);
+    println!("rights names: {:?}", whole.accepted_generics);
     println!("codes refused: {:?}", whole.refused_codes);
     assert!(whole.sheets >= 300_000, "only {} sheets", whole.sheets);
     let faults = whole.faults();

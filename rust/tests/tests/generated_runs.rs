@@ -3,7 +3,7 @@
 
 use comparison::workers::on_all_processors;
 use comparison::{machines, same};
-use generator::runs::families::{Family, ANY_ACCEPTED, MISDECLARED, RUNNABLE, TRIALS};
+use generator::runs::families::{Family, ANY_ACCEPTED, MISDECLARED, RUNNABLE, SETTLING, TRIALS};
 use generator::runs::stops::{
     accepted_orders, accepted_sites, wellformed_orders, wellformed_sites, Coverage,
 };
@@ -12,9 +12,9 @@ use reference::machine::{self, together, watched, Ended};
 use reference::{Outcome, Program, Stop};
 
 /// Families and how many seeds of each are run.
-type Families = [(Family, u64); 2];
-const ACCEPTED: Families = [(RUNNABLE, 11_000), (ANY_ACCEPTED, 3_000)];
-const WELLFORMED: Families = [(TRIALS, 17_000), (MISDECLARED, 4_000)];
+type Families = [(Family, u64)];
+const ACCEPTED: &Families = &[(RUNNABLE, 11_000), (ANY_ACCEPTED, 3_000)];
+const WELLFORMED: &Families = &[(TRIALS, 17_000), (MISDECLARED, 4_000), (SETTLING, 3_000)];
 
 /// What has come up in the runs of sheets that check accepts, and of those
 /// that it refuses.
@@ -113,7 +113,7 @@ fn compare_all(families: &Families) -> Seen {
 
 #[test]
 fn engines_agree_and_every_stop_has_come_up() {
-    let Seen { accepted, .. } = compare_all(&ACCEPTED);
+    let Seen { accepted, .. } = compare_all(ACCEPTED);
     assert!(accepted.runs >= 200_000, "only {} runs", accepted.runs);
     let faults = accepted.faults(&accepted_sites(), &accepted_orders());
     assert!(faults.is_empty(), "{}", faults.join("\n"));
@@ -122,7 +122,7 @@ fn engines_agree_and_every_stop_has_come_up() {
 /// At least half of the runs are of sheets that check refuses.
 #[test]
 fn watched_runs_agree_and_every_stop_has_come_up_in_every_order() {
-    let seen = compare_all(&WELLFORMED);
+    let seen = compare_all(WELLFORMED);
     let (runs, refused) = (seen.runs(), seen.refused.runs);
     assert!(runs >= 200_000, "only {runs} runs");
     assert!(2 * refused >= runs, "only {refused} of {runs} refused");

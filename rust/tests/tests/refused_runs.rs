@@ -5,7 +5,7 @@ use comparison::workers::on_all_processors;
 use comparison::{agreed_run, agreed_watch};
 use generator::breach::Flaw;
 use generator::damage::{damaged, random_bytes};
-use generator::runs::families::{MISDECLARED, TRIALS};
+use generator::runs::families::{MISDECLARED, SETTLING, TRIALS};
 use generator::runs::plenty;
 use generator::runs::program::runnable;
 use generator::Random;
@@ -63,6 +63,7 @@ fn sheets(random: &mut Random, seed: u64) -> Vec<Vec<u8>> {
         flaw.broken.encode(),
         TRIALS.sheet(seed).encode(),
         MISDECLARED.sheet(seed).encode(),
+        SETTLING.sheet(seed).encode(),
     ];
     if random.one_in(50) {
         all.push(random.bytes(reference::MAX_SHEET + 1));
@@ -98,6 +99,6 @@ fn refused_runs_change_nothing() {
         whole.run.merge(part.run);
         whole.watch.merge(part.watch);
     }
-    whole.run.assert_refused(1..=10);
+    whole.run.assert_refused((1..=10).chain([20, 21]));
     whole.watch.assert_refused((1..=5).chain([10]));
 }

@@ -11,7 +11,7 @@ use crate::qualified::{declared, Table};
 use crate::raw;
 use crate::record::{Record, RecordKind, NONE};
 use crate::span::{Error, Span};
-use crate::syntax::VariableLine;
+use crate::syntax::{Bound, VariableLine};
 use reference::layout::MAX_SLOTS;
 
 /// The bytes of a sheet, the lines they come from and the names in them.
@@ -149,12 +149,14 @@ impl Outlines<'_> {
         all
     }
 
-    /// The PR, VR and IN records of all procedures.
+    /// The PR, GN, VR and IN records of all procedures.
     fn procedure_records(&self, table: &mut Table, errors: &mut Errors) -> Vec<Located> {
         let mut all = Vec::new();
         for (number, outline) in self.procedures.iter().enumerate() {
             let owner = outline.owner.map(|name| declared(self, name, errors));
             all.push(outline.head(number, owner.flatten(), table, errors));
+            let bound = outline.bound.as_ref();
+            all.extend(bound.and_then(|bound| bound.located(number, table, errors)));
             outline.variable_records(number, table, errors, &mut all);
             let scope = Scope {
                 outlines: self,
@@ -244,6 +246,19 @@ impl Outline<'_> {
             }));
             index += line.names.len();
         }
+    }
+}
+
+impl Bound<'_> {
+    /// The record of the rights name; None where it is wrong, which is told.
+    fn located(&self, number: usize, table: &Table, errors: &mut Errors) -> Option<Located> {
+        let (base, least) = table.bound(self, errors)?;
+        Some(Located {
+            at: At::Name(number),
+            record: Record::new(RecordKind::Name, &[base, least]),
+            span: self.span,
+            parts: vec![(Field::Base, self.of.span), (Field::Least, self.least.span)],
+        })
     }
 }
 

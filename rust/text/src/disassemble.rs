@@ -3,22 +3,26 @@
 //! Well-formed sheets become named text, with generated names; any other
 //! bytes become raw text, as far as marks and lengths allow.
 
+use crate::lexer::RIGHTS_NAME;
 use crate::mnemonic::{Mnemonic, Piece};
 use crate::names::{generated_procedure, Names, ProcedureNames, TypeNames};
 use crate::notation::Notation;
 use crate::raw_text::raw_text;
-use reference::{parse, Operation, Procedure, Program, Variable};
+use crate::sheet::{Instruction, Kind, Procedure, RightsName, Sheet, Variable};
+use crate::types::Type;
 use std::collections::HashSet;
 use std::fmt::Write;
+
+const JUMP_IF_ZERO: u8 = 5;
 
 /// The longest notation that stands for a type instead of its name.
 const LONGEST_NOTATION: usize = 60;
 
 /// The text of any bytes.
 pub fn disassemble(sheet: &[u8]) -> String {
-    match parse(sheet) {
-        Ok(program) => named(&program),
-        Err(_) => raw_text(sheet),
+    match Sheet::read(sheet) {
+        Some(read) => named(&read),
+        None => raw_text(sheet),
     }
 }
 
@@ -27,15 +31,15 @@ pub fn add(out: &mut String, said: std::fmt::Arguments) {
     let _ = out.write_fmt(said);
 }
 
-fn named(program: &Program) -> String {
-    let names = generated(program);
+fn named(sheet: &Sheet) -> String {
+    let names = generated(sheet);
     let notation = Notation {
-        program,
+        sheet,
         names: &names,
     };
-    let numbers = 0..program.qualified.len();
+    let numbers = 0..sheet.qualified.len();
     let mut writer = Named {
-        program,
+        sheet,
         notation,
         references: numbers
             .map(|number| reference_to(notation, number))
@@ -44,20 +48,20 @@ fn named(program: &Program) -> String {
     };
     writer.types();
     writer.quals();
-    for number in 0..program.procedures.len() {
+    for number in 0..sheet.procedures.len() {
         writer.procedure(number);
     }
     writer.out
 }
 
 /// Names for what a sheet only numbers.
-fn generated(program: &Program) -> Names {
+fn generated(sheet: &Sheet) -> Names {
     let numbered = |letter: char, count: usize, first: usize| -> Vec<String> {
         let numbers = first..first + count;
         numbers.map(|number| format!("{letter}{number}")).collect()
     };
-    let types = program.types.iter().enumerate();
-    let procedures = program.procedures.iter().enumerate();
+    let types = sheet.types.iter().enumerate();
+    let procedures = sheet.procedures.iter().enumerate();
     Names {
         types: types
             .map(|(number, declared)| TypeNames {
@@ -76,7 +80,7 @@ fn generated(program: &Program) -> Names {
 }
 
 struct Named<'a> {
-    program: &'a Program,
+    sheet: &'a Sheet,
     notation: Notation<'a>,
     /// How each qualified type is referred to.
     references: Vec<String>,
@@ -85,7 +89,7 @@ struct Named<'a> {
 
 impl Named<'_> {
     fn types(&mut self) {
-        for (number, declared) in self.program.types.iter().enumerate() {
+        for (number, declared) in self.sheet.types.iter().enumerate() {
             let names = &self.notation.names.types[number];
             let (name, rights) = (&names.name, names.rights.join(","));
             add(&mut self.out, format_args!("type {name}{{{rights}}}"));
@@ -101,23 +105,25 @@ impl Named<'_> {
     }
 
     fn quals(&mut self) {
-        for (number, qualified) in self.program.qualified.iter().enumerate() {
+        for (number, qualified) in self.sheet.qualified.iter().enumerate() {
             let mut said = self.notation.qualified(number);
-            if let reference::Kind::Array { element } = qualified.kind {
-                let rights = qualified.rights.members();
-                let rights = rights.map(|right| self.notation.right(qualified.kind, right));
-                let rights: Vec<String> = rights.collect();
-                said = format!("tray[{}]{{{}}}", self.references[element], rights.join(","));
+            if let Kind::Tray { element } = qualified.kind {
+                // Any type of no declared base names the rights of trays.
+                let rights = self.notation.rights(&Type::Integer, qualified.rights);
+                said = format!("tray[{}]{{{rights}}}", self.references[element]);
             }
             add(&mut self.out, format_args!("qual q{number} = {said}\n"));
         }
     }
 
     fn procedure(&mut self, number: usize) {
-        let procedure = &self.program.procedures[number];
+        let procedure = &self.sheet.procedures[number];
         let name = self.notation.names.procedure(number);
         let blank = if self.out.is_empty() { "" } else { "\n" };
         let mut head = format!("{blank}procedure {name}");
+        if let Some(bound) = procedure.name {
+            add(&mut head, format_args!(" for {}", self.bound(bound)));
+        }
         if let Some(owner) = procedure.owner {
             add(&mut head, format_args!(" of t{}", owner + 2));
         }
@@ -138,9 +144,16 @@ impl Named<'_> {
                 true => format!("L{index}:"),
                 false => String::new(),
             };
-            let said = self.instruction(&instruction.operation);
+            let said = self.instruction(instruction);
             add(&mut self.out, format_args!("{label:<8}{said}\n"));
         }
+    }
+
+    /// For example `?R >= call{read}`.
+    fn bound(&self, RightsName { of, least }: RightsName) -> String {
+        let rights = least;
+        let least = self.notation.said(&Type::Declared { of, rights });
+        format!("{RIGHTS_NAME} >= {least}")
     }
 
     fn variable(&self, number: usize, variable: &Variable) -> String {
@@ -155,9 +168,8 @@ impl Named<'_> {
         }
     }
 
-    fn instruction(&self, operation: &Operation) -> String {
-        let fields = Fields::of(operation);
-        let Some(mnemonic) = Mnemonic::by_code(operation.code()) else {
+    fn instruction(&self, fields: &Instruction) -> String {
+        let Some(mnemonic) = Mnemonic::by_code(fields.code) else {
             return String::new();
         };
         let mut said = String::from(mnemonic.word);
@@ -171,7 +183,7 @@ impl Named<'_> {
                 Piece::Label => format!("L{}", fields.k),
                 Piece::Slot => format!("s{}", fields.k),
                 Piece::Mark(mark) => String::from(mark),
-                Piece::Call => self.call(&fields),
+                Piece::Call => self.call(fields),
                 Piece::MaybeA => variable(fields.a),
             };
             // Brackets, dots and commas stand close to what they follow.
@@ -188,8 +200,8 @@ impl Named<'_> {
     }
 
     /// `[a <-] procedure(actuals)`.
-    fn call(&self, fields: &Fields) -> String {
-        let formals = self.program.procedures[fields.k].formals;
+    fn call(&self, fields: &Instruction) -> String {
+        let formals = self.sheet.procedures[fields.k].formals;
         let actuals = fields.b.map(|first| first..first + formals);
         let actuals = actuals.into_iter().flatten();
         let actuals: Vec<String> = actuals.map(|number| variable(Some(number))).collect();
@@ -208,7 +220,7 @@ fn variable(number: Option<usize>) -> String {
 /// The notation of a qualified type where it is short and means this number:
 /// that of the first equal one. Otherwise the name.
 fn reference_to(notation: Notation, number: usize) -> String {
-    let equal = |other| notation.program.equal(other, number);
+    let equal = |other| notation.sheet.equal(other, number);
     let said = notation.qualified(number);
     match said.len() <= LONGEST_NOTATION && !(0..number).any(equal) {
         true => said,
@@ -218,55 +230,7 @@ fn reference_to(notation: Notation, number: usize) -> String {
 
 /// The instructions that some jump of the procedure goes to.
 fn targets(procedure: &Procedure) -> HashSet<usize> {
-    let operations = procedure.instructions.iter().map(|i| i.operation);
-    let targets = operations.filter_map(|operation| match operation {
-        Operation::JumpIfZero { target, .. } => Some(target),
-        _ => None,
-    });
-    targets.collect()
-}
-
-/// The fields that an operation uses.
-#[derive(Default)]
-struct Fields {
-    a: Option<usize>,
-    b: Option<usize>,
-    c: Option<usize>,
-    k: usize,
-}
-
-impl Fields {
-    fn of(operation: &Operation) -> Fields {
-        let some = |a, b, c| Fields { a, b, c, k: 0 };
-        match *operation {
-            Operation::Set { to, value } => some(Some(to), None, None).constant(value as usize),
-            Operation::Add { to, left, right }
-            | Operation::Subtract { to, left, right }
-            | Operation::Less { to, left, right } => some(Some(to), Some(left), Some(right)),
-            Operation::JumpIfZero { test, target } => some(Some(test), None, None).constant(target),
-            Operation::Bind { to, from } => some(Some(to), Some(from), None),
-            Operation::Take { to } | Operation::NewRecord { to } => some(Some(to), None, None),
-            Operation::Put { from } => some(Some(from), None, None),
-            Operation::NewArray { to, size } => some(Some(to), Some(size), None),
-            Operation::Fetch { to, array, index } => some(Some(to), Some(array), Some(index)),
-            Operation::Store { array, index, from } => some(Some(array), Some(index), Some(from)),
-            Operation::Size { to, array } => some(Some(to), Some(array), None),
-            Operation::GetSlot { to, record, slot } => {
-                some(Some(to), Some(record), None).constant(slot)
-            }
-            Operation::SetSlot { record, slot, from } => {
-                some(Some(record), Some(from), None).constant(slot)
-            }
-            Operation::Call {
-                result,
-                procedure,
-                first_actual,
-            } => some(result, first_actual, None).constant(procedure),
-            Operation::Return { value } => some(value, None, None),
-        }
-    }
-
-    fn constant(self, k: usize) -> Fields {
-        Fields { k, ..self }
-    }
+    let instructions = procedure.instructions.iter();
+    let jumps = instructions.filter(|instruction| instruction.code == JUMP_IF_ZERO);
+    jumps.map(|jump| jump.k).collect()
 }

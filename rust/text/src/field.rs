@@ -1,4 +1,4 @@
-//! The fields of the six records, by name.
+//! The fields of the seven records, by name.
 
 /// A field of a record, or of a call one of its actuals.
 #[derive(Clone, Copy, Debug, PartialEq, Eq)]
@@ -13,6 +13,8 @@ pub enum Field {
     Base,
     Rights,
     Element,
+    /// The rights that a rights name has at least.
+    Least,
     Owner,
     Formals,
     Variables,

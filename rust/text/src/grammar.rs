@@ -1,14 +1,17 @@
 //! A line's tokens made into a statement.
 
-use crate::lexer::{tokens, Token};
+use crate::lexer::{tokens, Token, RIGHTS_NAME};
 use crate::mnemonic::{Mnemonic, Piece};
 use crate::quote::quoted;
 use crate::raw::{RAW, RAW_ELSEWHERE};
 use crate::span::{Error, Span};
 use crate::syntax::{
-    Base, Body, Constant, Instruction, Line, Name, ProcedureLine, QualLine, Qualified, Rights,
-    Statement, Tray, TypeLine, VariableLine, Wrong,
+    Base, Body, Bound, Constant, Instruction, Line, Name, ProcedureLine, QualLine, Qualified,
+    Rights, Statement, Tray, TypeLine, VariableLine, Wrong,
 };
+
+/// The word before the rights name of a procedure.
+const FOR: &str = "for";
 
 /// Reads one line. One that is wrong has one error.
 pub fn line(text: &str, number: usize) -> Line<'_> {
@@ -239,6 +242,10 @@ impl<'a> Parser<'a> {
     fn procedure_line(&mut self) -> Result<ProcedureLine<'a>, Error> {
         self.advance();
         let name = self.name("the name of a procedure")?;
+        let bound = match self.passed_word(FOR) {
+            true => Some(Box::new(self.bound()?)),
+            false => None,
+        };
         let owner = match self.passed_word("of") {
             true => Some(self.name("the name of a type")?),
             false => None,
@@ -247,11 +254,38 @@ impl<'a> Parser<'a> {
             true => Some(self.qualified()?),
             false => None,
         };
+        self.no_bound(bound.is_some())?;
         Ok(ProcedureLine {
             name,
+            bound,
             owner,
             result,
         })
+    }
+
+    /// `?R >= TYPE{..}`, after `for`.
+    fn bound(&mut self) -> Result<Bound<'a>, Error> {
+        let start = self.last_span();
+        self.mark(RIGHTS_NAME)?;
+        self.mark(">=")?;
+        let of = self.name("the name of a type")?;
+        let least = self.rights()?;
+        let span = start.to(least.span);
+        Ok(Bound { of, least, span })
+    }
+
+    /// A `for` after all that a procedure's line has.
+    fn no_bound(&self, is_bound: bool) -> Result<(), Error> {
+        let message = match (self.peek(), is_bound) {
+            (Token::Word(FOR), true) => {
+                "expected one rights name for a procedure, found a second `for`"
+            }
+            (Token::Word(FOR), false) => {
+                "expected `for` right after the name of the procedure, found it elsewhere"
+            }
+            _ => return Ok(()),
+        };
+        Err(Error::new(self.span(), message))
     }
 
     fn formal_line(&mut self) -> Result<VariableLine<'a>, Error> {
@@ -277,23 +311,24 @@ impl<'a> Parser<'a> {
 
     /// A base, or a base within trays.
     fn qualified(&mut self) -> Result<Qualified<'a>, Error> {
-        let expected = "a qualified type";
-        let mut name = self.name(expected)?;
         let mut starts = Vec::new();
-        while name.word == "tray" {
+        while self.passed_word("tray") {
+            starts.push(self.last_span());
             self.mark("[")?;
-            starts.push(name.span);
-            name = self.name(expected)?;
         }
-        let base = self.base(name)?;
+        let base = self.base()?;
         // The tray that begins last ends first.
         let ends = starts.into_iter().rev().map(|start| self.tray_end(start));
         let trays = ends.collect::<Result<_, _>>()?;
         Ok(Qualified { base, trays })
     }
 
-    /// `integer`, `TYPE{..}` or the name of a qual.
-    fn base(&mut self, name: Name<'a>) -> Result<Base<'a>, Error> {
+    /// `?R`, `integer`, `TYPE{..}` or the name of a qual.
+    fn base(&mut self) -> Result<Base<'a>, Error> {
+        if let Some(span) = self.passed(RIGHTS_NAME) {
+            return Ok(Base::RightsName(span));
+        }
+        let name = self.name("a qualified type")?;
         if name.word == "integer" {
             return Ok(Base::Integer(name.span));
         }

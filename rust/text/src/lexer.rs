@@ -14,9 +14,12 @@ pub enum Token<'a> {
 }
 
 /// The marks, a longer one before those that it starts with.
-const MARKS: [&str; 15] = [
-    ":=", "<-", "{", "}", "[", "]", "(", ")", ",", ":", "=", "<", "+", "-", ".",
+const MARKS: [&str; 16] = [
+    ":=", "<-", ">=", "{", "}", "[", "]", "(", ")", ",", ":", "=", "<", "+", "-", ".",
 ];
+
+/// The rights name, which stands for rights that a call settles.
+pub const RIGHTS_NAME: &str = "?R";
 
 /// A line's tokens, the last of them End. Of its stray characters only the
 /// first is among them: no reader of the line passes it.
@@ -52,13 +55,23 @@ fn next(rest: &str) -> (Token<'_>, usize) {
     let Some(first) = rest.chars().next().filter(|&first| first != '#') else {
         return (Token::End, 0);
     };
-    let is_word = |byte: &u8| byte.is_ascii_alphanumeric() || *byte == b'_';
-    let length = rest.bytes().take_while(|byte| is_word(byte)).count();
+    let length = word_length(rest);
     if length > 0 {
         return (Token::Word(&rest[..length]), length);
+    }
+    // No other word stands after a question mark.
+    let is_name = |rest: &str| rest.strip_prefix('?').map(word_length) == Some(1);
+    if rest.starts_with(RIGHTS_NAME) && is_name(rest) {
+        return (Token::Mark(RIGHTS_NAME), RIGHTS_NAME.len());
     }
     match MARKS.into_iter().find(|mark| rest.starts_with(mark)) {
         Some(mark) => (Token::Mark(mark), mark.len()),
         None => (Token::Stray(first), first.len_utf8()),
     }
+}
+
+/// The bytes of the word that the rest begins with.
+fn word_length(rest: &str) -> usize {
+    let is_word = |byte: &u8| byte.is_ascii_alphanumeric() || *byte == b'_';
+    rest.bytes().take_while(is_word).count()
 }

@@ -11,6 +11,8 @@ pub enum At {
     Type(usize),
     Qualified(usize),
     Procedure(usize),
+    /// The rights name of a procedure.
+    Name(usize),
     /// A variable or an instruction of a procedure.
     Variable(usize, usize),
     Instruction(usize, usize),

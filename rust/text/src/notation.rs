@@ -1,53 +1,55 @@
 //! Qualified types printed as the papers write them.
 
+use crate::lexer::RIGHTS_NAME;
 use crate::names::{Names, TRAY_RIGHTS};
-use reference::{Kind, Program};
+use crate::sheet::Sheet;
+use crate::types::{Reading, Type};
 
-/// Prints the qualified types of a program with the names of a text.
+/// Prints the qualified types of a sheet with the names of a text.
 #[derive(Clone, Copy)]
 pub struct Notation<'a> {
-    pub program: &'a Program,
+    pub sheet: &'a Sheet,
     pub names: &'a Names,
 }
 
 impl Notation<'_> {
-    /// For example `tray[call{read}]{fetch,store}`.
+    /// A qualified type by its number, ?R as it stands; for example
+    /// `tray[call{read}]{fetch,store}`.
     pub fn qualified(&self, number: usize) -> String {
-        // An element has a lower number, so that this ends.
-        let (mut before, mut after) = (String::new(), Vec::new());
-        let mut number = number;
-        loop {
-            let qualified = &self.program.qualified[number];
-            let kind = qualified.kind;
-            let rights = qualified.rights.members();
-            let rights: Vec<String> = rights.map(|right| self.right(kind, right)).collect();
-            let rights = format!("{{{}}}", rights.join(","));
-            match kind {
-                Kind::Integer => {
-                    before += "integer";
-                    break;
-                }
-                Kind::Record { of } => {
-                    before += &self.names.declared(of);
-                    before += &rights;
-                    break;
-                }
-                Kind::Array { element } => {
-                    before += "tray[";
-                    after.push(format!("]{rights}"));
-                    number = element;
-                }
-            }
-        }
-        after.reverse();
-        before + &after.concat()
+        let unread = Reading::Name(None);
+        self.said(&self.sheet.read_type(number, &unread))
     }
 
-    /// The name of a right of a kind.
-    pub fn right(&self, kind: Kind, right: usize) -> String {
-        match kind {
-            Kind::Record { of } => self.names.right(of, right),
-            _ => {
+    pub fn said(&self, said: &Type) -> String {
+        match said {
+            Type::Integer => String::from("integer"),
+            Type::Declared { of, rights } => {
+                format!("{}{}", self.names.declared(*of), self.braced(said, *rights))
+            }
+            Type::Tray { element, rights } => {
+                let (element, rights) = (self.said(element), self.braced(said, *rights));
+                format!("tray[{element}]{rights}")
+            }
+            Type::Name(_) => String::from(RIGHTS_NAME),
+        }
+    }
+
+    fn braced(&self, of: &Type, rights: u32) -> String {
+        format!("{{{}}}", self.rights(of, rights))
+    }
+
+    /// Rights of a type with commas between.
+    pub fn rights(&self, of: &Type, rights: u32) -> String {
+        let rights = (0..u32::BITS as usize).filter(|&right| rights >> right & 1 == 1);
+        let rights: Vec<String> = rights.map(|right| self.right(of, right)).collect();
+        rights.join(",")
+    }
+
+    /// The name of a right of a type.
+    pub fn right(&self, of: &Type, right: usize) -> String {
+        match of.declared() {
+            Some(of) => self.names.right(of, right),
+            None => {
                 let name = TRAY_RIGHTS.get(right.wrapping_sub(1));
                 name.map_or_else(|| format!("r{right}"), |name| String::from(*name))
             }

@@ -5,7 +5,7 @@ use crate::names::ProcedureNames;
 use crate::outlines::{not_new, words};
 use crate::quote::quoted;
 use crate::span::{Error, Span};
-use crate::syntax::{Instruction, Name, ProcedureLine, Qualified, VariableLine};
+use crate::syntax::{Bound, Instruction, Name, ProcedureLine, Qualified, VariableLine};
 use std::collections::hash_map::Entry;
 use std::collections::HashMap;
 
@@ -17,6 +17,7 @@ pub struct Outline<'a> {
     /// None where its line could not be read.
     pub name: Option<Name<'a>>,
     pub span: Span,
+    pub bound: Option<Box<Bound<'a>>>,
     pub owner: Option<Name<'a>>,
     pub result: Option<Qualified<'a>>,
     /// How many; None where a line of them may be wrong.
@@ -41,6 +42,7 @@ impl<'a> Outline<'a> {
     pub fn new(line: ProcedureLine<'a>, span: Span) -> Self {
         Outline {
             name: Some(line.name),
+            bound: line.bound,
             owner: line.owner,
             result: line.result,
             formals: Some(0),
@@ -53,6 +55,7 @@ impl<'a> Outline<'a> {
         Outline {
             name: None,
             span,
+            bound: None,
             owner: None,
             result: None,
             formals: None,

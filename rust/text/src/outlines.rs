@@ -13,8 +13,8 @@ use std::collections::{HashMap, HashSet};
 
 /// Counts that their fields can hold. Which of them are in range is the
 /// checker's to say; named rights and slots have no more room in a record.
-/// A field of one byte names the types from 2 to 255.
-const MAX_TYPES: usize = 254;
+/// A field of one byte names the types from 2 to 254; 255 is the base of ?R.
+const MAX_TYPES: usize = 253;
 const MAX_PROCEDURES: usize = 255;
 
 #[derive(Default)]
@@ -122,6 +122,10 @@ impl<'a> Outlines<'a> {
 
     fn add_procedure(&mut self, line: ProcedureLine<'a>, span: Span, errors: &mut Errors) {
         let (name, number) = (line.name, self.procedures.len());
+        if let Some(bound) = line.bound.as_ref().filter(|_| number == 0) {
+            let message = "expected no `for` on the first procedure, which is main, found one";
+            errors.add(Error::new(bound.span, message));
+        }
         self.procedures.push(Outline::new(line, span));
         limit(number + 1, MAX_PROCEDURES, "procedures", span, errors);
         let first = *self.called.entry(name.word).or_insert(number);

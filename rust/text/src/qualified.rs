@@ -6,9 +6,9 @@ use crate::field::Field;
 use crate::names::TRAY_RIGHTS;
 use crate::outlines::{Meaning, Outlines};
 use crate::quote::{listed, quoted};
-use crate::record::{Record, RecordKind, NONE};
+use crate::record::{Record, RecordKind, NAME_BASE, NONE};
 use crate::span::{Error, Span};
-use crate::syntax::{Base, Name, QualLine, Qualified, Rights, Tray, TypeLine};
+use crate::syntax::{Base, Bound, Name, QualLine, Qualified, Rights, Tray, TypeLine};
 use std::collections::HashMap;
 
 /// The most numbers that a byte can name beside 255, which names nothing.
@@ -29,6 +29,17 @@ struct Fields {
     rights: u16,
     element: Option<usize>,
     parts: Vec<(Field, Span)>,
+}
+
+impl Fields {
+    fn without_rights(base: u16, span: Span) -> Self {
+        Fields {
+            base,
+            rights: 0,
+            element: None,
+            parts: vec![(Field::Base, span)],
+        }
+    }
 }
 
 impl Made {
@@ -149,12 +160,8 @@ impl<'a> Table<'a> {
                 let fields = self.made[number].fields.clone();
                 Some(Fields { parts, ..fields })
             }
-            Base::Integer(span) => Some(Fields {
-                base: 0,
-                rights: 0,
-                element: None,
-                parts: vec![(Field::Base, *span)],
-            }),
+            Base::Integer(span) => Some(Fields::without_rights(0, *span)),
+            Base::RightsName(span) => Some(Fields::without_rights(NAME_BASE, *span)),
             Base::Declared { of, rights } => {
                 let number = declared(self.outlines, *of, errors)?;
                 let (line, _) = &self.outlines.types[number];
@@ -181,6 +188,23 @@ impl<'a> Table<'a> {
             let expected = format!("a right of `{}` ({all})", quoted(of.name.word));
             self.outlines.unknown(name, &expected, errors)
         })
+    }
+
+    /// The base and the least set of a rights name: open is none of its
+    /// rights.
+    pub fn bound(&self, bound: &Bound, errors: &mut Errors) -> Option<(u16, u16)> {
+        let number = declared(self.outlines, bound.of, errors)?;
+        let (line, _) = &self.outlines.types[number];
+        let right = |name: Name, errors: &mut Errors| match name.word {
+            "open" => {
+                let of = quoted(line.name.word);
+                let message = format!("expected a right that `{of}` names, found `open`");
+                errors.none(Error::new(name.span, message))
+            }
+            _ => self.declared_right(line, name, errors),
+        };
+        let least = bits(&bound.least, right, errors)?;
+        Some(((number + 2) as u16, least))
     }
 
     fn key(&self, fields: &Fields) -> Key {

@@ -68,7 +68,7 @@ fn statement(parser: &mut Parser, writer: &mut Writer) -> Result<(), Error> {
     if parser.is_empty() {
         return Ok(());
     }
-    let expected = "HD, TY, QT, PR, VR, IN or `bytes`";
+    let expected = "HD, TY, QT, PR, GN, VR, IN or `bytes`";
     match parser.peek() {
         Token::Word(BYTES) => bytes(parser, writer)?,
         Token::Word(RAW) => return Err(Error::new(parser.span(), RAW_ELSEWHERE)),

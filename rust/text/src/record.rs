@@ -1,9 +1,12 @@
-//! The six kinds of record: their marks, their sizes and their fields.
+//! The seven kinds of record: their marks, their sizes and their fields.
 
 use crate::field::Field;
 
 /// The value that says that a field of one byte names nothing.
 pub const NONE: u16 = reference::layout::NONE as u16;
+
+/// The base of a qualified type that stands for the rights name.
+pub const NAME_BASE: u16 = 255;
 
 #[derive(Clone, Copy, Debug, PartialEq, Eq)]
 pub enum RecordKind {
@@ -11,14 +14,24 @@ pub enum RecordKind {
     Type,
     Qualified,
     Procedure,
+    /// The rights name of a procedure.
+    Name,
     Variable,
     Instruction,
 }
 
-use RecordKind::{Header, Instruction, Procedure, Qualified, Type, Variable};
+use RecordKind::{Header, Instruction, Name, Procedure, Qualified, Type, Variable};
 
 impl RecordKind {
-    pub const ALL: [RecordKind; 6] = [Header, Type, Qualified, Procedure, Variable, Instruction];
+    pub const ALL: [RecordKind; 7] = [
+        Header,
+        Type,
+        Qualified,
+        Procedure,
+        Name,
+        Variable,
+        Instruction,
+    ];
 
     pub fn mark(self) -> &'static str {
         match self {
@@ -26,6 +39,7 @@ impl RecordKind {
             Type => "TY",
             Qualified => "QT",
             Procedure => "PR",
+            Name => "GN",
             Variable => "VR",
             Instruction => "IN",
         }
@@ -58,6 +72,7 @@ impl RecordKind {
                 Field::Result,
                 Field::Instructions,
             ],
+            Name => vec![Field::Base, Field::Least],
             Variable => vec![Field::Inner, Field::Need],
             Instruction => vec![Field::Code, Field::A, Field::B, Field::C, Field::K],
         }
@@ -72,7 +87,7 @@ impl RecordKind {
 /// The bytes of a field.
 pub fn width(field: Field) -> usize {
     match field {
-        Field::Rights | Field::Instructions | Field::K => 2,
+        Field::Rights | Field::Least | Field::Instructions | Field::K => 2,
         _ => 1,
     }
 }

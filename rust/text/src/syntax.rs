@@ -21,6 +21,8 @@ pub enum Base<'a> {
     /// A name that a `qual` line gives.
     Named(Name<'a>),
     Integer(Span),
+    /// `?R`.
+    RightsName(Span),
     Declared {
         of: Name<'a>,
         rights: Rights<'a>,
@@ -43,7 +45,7 @@ impl Base<'_> {
     pub fn span(&self) -> Span {
         match self {
             Base::Named(name) => name.span,
-            Base::Integer(span) => *span,
+            Base::Integer(span) | Base::RightsName(span) => *span,
             Base::Declared { of, rights } => of.span.to(rights.span),
         }
     }
@@ -77,8 +79,18 @@ pub struct QualLine<'a> {
 
 pub struct ProcedureLine<'a> {
     pub name: Name<'a>,
+    /// Boxed, as most lines have none.
+    pub bound: Option<Box<Bound<'a>>>,
     pub owner: Option<Name<'a>>,
     pub result: Option<Qualified<'a>>,
+}
+
+/// `for ?R >= TYPE{..}`: a rights name, its base and its least set.
+pub struct Bound<'a> {
+    pub of: Name<'a>,
+    pub least: Rights<'a>,
+    /// From the word `for` on.
+    pub span: Span,
 }
 
 /// A `formal` line, which has need, or a `variable` line.

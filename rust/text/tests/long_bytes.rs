@@ -93,18 +93,18 @@ fn the_largest_counts_come_back() {
     sheet.extend(b"IN\x05\xfe\xff\xff\xfe\xff".repeat(65_536));
     round_trip(&sheet, "the largest counts");
     // The same of an assembled text.
-    let types: String = (0..254).map(|n| format!("type t{n}\n")).collect();
+    let types: String = (0..253).map(|n| format!("type t{n}\n")).collect();
     let names: Vec<String> = (0..255).map(|n| format!("v{n}")).collect();
-    let deep = format!("{}t253{{}}{}", "tray[".repeat(254), "]{size}".repeat(254));
+    let deep = format!("{}t252{{}}{}", "tray[".repeat(254), "]{size}".repeat(254));
     let jumps = "jumpzero v254, last\n".repeat(65_534);
     let body = format!("variable {}: {deep}\n{jumps}last: return", names.join(","));
     let procedures: String = (1..255)
-        .map(|n| format!("procedure p{n} of t253\n"))
+        .map(|n| format!("procedure p{n} of t252\n"))
         .collect();
     let text = format!("{types}procedure main\n{body}\n{procedures}");
     let assembled = assemble(&text).unwrap_or_else(|errors| panic!("{}", errors[0]));
     let counts = &assembled.sheet[..6];
-    assert_eq!(counts, [b'H', b'D', 1, 254, 255, 255]);
+    assert_eq!(counts, [b'H', b'D', 1, 253, 255, 255]);
     round_trip(&assembled.sheet, "a text of the largest counts");
 }
 

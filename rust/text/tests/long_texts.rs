@@ -33,7 +33,7 @@ fn too_many(most: usize, what: &str) -> String {
 fn declarations() {
     let used = "procedure main\n variable v: t299999{}\n variable w: tray[t7{}]{}\n return";
     let types = numbered(MANY, |n| format!("type t{n}\n"));
-    one_error(&format!("{types}{used}"), &too_many(254, "types"), 255);
+    one_error(&format!("{types}{used}"), &too_many(253, "types"), 254);
     let quals = numbered(MANY, |n| format!("qual t{n} = integer\n"));
     let used = "procedure main\n variable v: t299999\n variable w: t0\n return";
     one_error(

@@ -42,7 +42,7 @@ fn sheets_with_one_rule_broken_come_back() {
         for seed in 0..10 {
             let breach = flaw.build(&mut Random::new(seed << 8 | number as u64));
             let said = round_trip(&breach.broken.encode(), &format!("{flaw:?} {seed}"));
-            assert!(!is_raw(&said), "{flaw:?} {seed} is raw");
+            assert_eq!(is_raw(&said), breach.number <= 5, "{flaw:?} {seed}");
         }
     }
 }
@@ -55,6 +55,9 @@ fn any_bytes_come_back() {
         let sound = accepted(&mut random);
         for sheet in [damaged(&mut random, &sound), random_bytes(&mut random)] {
             let said = round_trip(&sheet, &format!("seed {seed}"));
+            // The text's own reading takes for a sheet what the second engine does.
+            let is_sheet = reference::parse(&sheet).is_ok();
+            assert_eq!(is_raw(&said), !is_sheet, "seed {seed}");
             raw += usize::from(is_raw(&said));
         }
     }

@@ -20,7 +20,7 @@ returns c =
     let fine = moved-ok-to (known .given .1) (bound .fine) in
     record {
       fine = fine;
-      moves = λ v k b heads at e. actual-same (args .s .now) v k b (args .j) at (need-of .ensures) _ (inner-of .ensures) fine (ap (moved-cell (qualOf (args .s .now))) (sym (known .given .1)) ∙ bound .moves (programOf (args .s .now)) v _ heads e) (first-test .taken);
+      moves = λ v k b z heads at e. actual-same v k b z (args .j) pre at (need-of .ensures) _ (inner-of .ensures) fine (ap (moved-cell (qualOf (args .s .now))) (sym (known .given .1)) ∙ bound .moves (programOf (args .s .now)) v _ heads e) (first-test .taken);
     }
 
 returns-2 : tie.Need-returns-2
@@ -37,7 +37,7 @@ returns-2 c =
     let raising = raises-of-sheet (pre) (raise-filled .ensures) in
     record {
       fine = raising .fine;
-      moves = λ v k b heads at e. actual-to (args .s .now) v k b (args .j) at (need-of .ensures) _ (inner-of .ensures) (moved-ok-to (known .given .1) (bound .fine)) (ap (moved-cell (qualOf (args .s .now))) (sym (known .given .1)) ∙ bound .moves (programOf (args .s .now)) v _ heads e) _ (field .ensures) (λ y m. raising .moves v y m heads);
+      moves = λ v k b z heads at e. actual-to v k b z (args .j) pre at (need-of .ensures) _ (inner-of .ensures) (moved-ok-to (known .given .1) (bound .fine)) (ap (moved-cell (qualOf (args .s .now))) (sym (known .given .1)) ∙ bound .moves (programOf (args .s .now)) v _ heads e) _ (field .ensures) (λ y m. raising .moves v y m heads);
     }
 
 returns-3 : tie.Need-returns-3
@@ -50,7 +50,7 @@ returns-3 c =
     let bound = word-of-sheet (pre) (bind-word .ensures) in
     record {
       fine = tt;
-      moves = λ v k b heads at e. actual-halt (args .s .now) v k b (args .j) at (need-of .ensures) _ (ap (moved-cell (qualOf (args .s .now))) (sym (known .given .1)) ∙ bound .moves (programOf (args .s .now)) v _ heads e);
+      moves = λ v k b z heads at e. actual-halt v k b z (args .j) pre at (need-of .ensures) _ (ap (moved-cell (qualOf (args .s .now))) (sym (known .given .1)) ∙ bound .moves (programOf (args .s .now)) v _ heads e);
     }
 
 pub actual-word-spec : {M : Type 1} → statement M

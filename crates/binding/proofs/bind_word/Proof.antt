@@ -22,7 +22,7 @@ returns-2 c =
     let if1 = c .if1 in
     let cell-of = c .before .before .before .before .before .cell-of in
     let known = x in
-    let bound = is-integer-bound .ensures (args .h .now) (if1 .taken) in
+    let bound = is-integer-bound .ensures (args .name) (args .h .now) (if1 .taken) in
     record { fine = bound .fine; moves = λ g v d heads e. bind-value _ g v _ _ (told-filled (cell-of .ensures) (known .given .1)) e (λ y m. bound .moves g v y m heads) }
 
 returns-3 : tie.Need-returns-3

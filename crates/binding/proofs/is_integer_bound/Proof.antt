@@ -2,9 +2,9 @@
 use mathlib.Core.Path.{sym, ap, _∙_}
 use borrow.Author.Tests.{eqb-true}
 use Rattle.model.proofs.Verdicts.{both-true}
-use Rattle.index.specs.Types.{base-of}
+use Rattle.index.specs.Types.{shape-of, qualIn}
 use Rattle.words.proofs.Laws.{slot-integer}
-use Rattle.binding.proofs.Laws.{bind-integer}
+use Rattle.binding.proofs.Laws.{integer-unread, bind-integer}
 use borrow.Author.Needs.{needs}
 use Rattle.binding.proofs.is_integer_bound.Statement.{statement}
 use Rattle.binding.proofs.is_integer_bound.Tie as tie
@@ -12,10 +12,10 @@ use Rattle.binding.proofs.is_integer_bound.Tie as tie
 returns : tie.Need-returns
 returns c =
     let tag-of = c .before .before .tag-of in
-    let base-in = c .base-in in
+    let shape-in = c .shape-in in
     let type-word = c .before .type-word in
     let args = c .before .before .before .args in
-    λ h t. let both = both-true _ _ t in let one = sym (tag-of .ensures) ∙ eqb-true _ _ (both .0) in let zero = sym (base-in .ensures ∙ ap base-of (type-word .ensures)) ∙ eqb-true _ _ (both .1) in record { fine = λ k q. rw (slot-integer k q _ one); moves = λ g v x m heads e. bind-integer (args .index .now) h _ _ g v x m heads e one zero }
+    λ n h t. let both = both-true _ _ t in let one = sym (tag-of .ensures) ∙ eqb-true _ _ (both .0) in let zero = sym (shape-in .ensures ∙ ap shape-of (type-word .ensures)) ∙ eqb-true _ _ (both .1) in record { fine = λ k q. rw (slot-integer k q _ one); moves = λ g v x m heads e. bind-integer (qualIn (args .index .now)) h _ _ g v x m heads e one (integer-unread (args .index .now) n _ zero) }
 
 pub is-integer-bound-spec : {M : Type 1} → statement M
 is-integer-bound-spec =

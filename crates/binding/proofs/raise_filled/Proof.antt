@@ -19,13 +19,13 @@ returns c =
     let object-word = c .object-word in
     let args = c .before .before .before .before .before .before .before .args in
     let is-record-of = c .before .before .before .before .before .is-record-of in
-    let base-of = c .before .before .before .before .base-of in
+    let is-amplified = c .before .before .before .before .is-amplified in
     let first-test = c .before .before .before .if1 in
     let name-of = c .before .before .name-of in
-    let rights-of = c .before .rights-of in
+    let rights-as = c .before .rights-as in
     record {
       fine = λ k q. rw (object-word .ensures k q);
-      moves = λ v x m heads e. raise-own (qualIn (args .index .now)) (args .h .now) v _ _ _ x m heads (is-record-of .ensures _ x m e) (base-of .ensures) _ (first-test .taken) e (name-of .ensures) (rights-of .ensures) (object-word .ensures watched (qualIn (args .index .now)));
+      moves = λ v x m heads e. raise-own (qualIn (args .index .now)) (args .h .now) v _ _ _ _ x m heads (is-record-of .ensures _ x m e) (is-amplified .ensures) _ (first-test .taken) e (name-of .ensures) (rights-as .ensures) (object-word .ensures watched (qualIn (args .index .now)));
     }
 
 returns-2 : tie.Need-returns-2
@@ -33,11 +33,11 @@ returns-2 c =
     let bind-filled = c .bind-filled in
     let args = c .before .before .before .before .before .args in
     let is-record-of = c .before .before .before .is-record-of in
-    let base-of = c .before .before .base-of in
+    let is-amplified = c .before .before .is-amplified in
     let first-test = c .before .if1 in
     record {
       fine = bind-filled .ensures .fine;
-      moves = λ v x m heads e. raise-bound (qualIn (args .index .now)) (args .h .now) v _ (args .w) _ x m heads (is-record-of .ensures _ x m e) (base-of .ensures) (programOf []) _ (first-test .left) (bind-filled .ensures .moves (programOf []) v x m heads e);
+      moves = λ v x m heads e. raise-bound (qualIn (args .index .now)) (args .h .now) v _ (args .w) _ _ x m heads (is-record-of .ensures _ x m e) (is-amplified .ensures) (programOf []) _ (first-test .left) (bind-filled .ensures .moves (programOf []) v x m heads e);
     }
 
 pub raise-filled-spec : {M : Type 1} → statement M

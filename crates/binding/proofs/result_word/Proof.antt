@@ -36,8 +36,8 @@ returns-3 c =
     let if1 = c .before .before .if1 in
     let cell-of = c .before .before .before .before .before .before .before .cell-of in
     let known = x in
-    let bound = filled-of-sheet (pre) (is-integer-bound .ensures (args .h .now) (if2 .taken)) in
-    record { fine = bound .fine; moves = λ v a heads at e. result-value (args .s .now) v a _ at (field .ensures) (if1 .left) (told-filled (cell-of .ensures) (known .given .1)) e (λ y m. bound .moves _ v y m heads) }
+    let bound = filled-of-sheet (pre) (is-integer-bound .ensures (args .c .name) (args .h .now) (if2 .taken)) in
+    record { fine = bound .fine; moves = λ v a heads at e. result-value (args .s .now) v a _ pre at (field .ensures) (if1 .left) (told-filled (cell-of .ensures) (known .given .1)) e (λ y m. bound .moves _ v y m heads) }
 
 returns-4 : tie.Need-returns-4
 returns-4 c =
@@ -50,7 +50,7 @@ returns-4 c =
     let cell-of = c .before .before .before .before .before .before .before .before .cell-of in
     let known = x in
     let bound = filled-of-sheet (pre) (bind-filled .ensures) in
-    record { fine = bound .fine; moves = λ v a heads at e. result-value (args .s .now) v a _ at (field .ensures) (if1 .left) (told-filled (cell-of .ensures) (known .given .1)) e (λ y m. bound .moves _ v y m heads) }
+    record { fine = bound .fine; moves = λ v a heads at e. result-value (args .s .now) v a _ pre at (field .ensures) (if1 .left) (told-filled (cell-of .ensures) (known .given .1)) e (λ y m. bound .moves _ v y m heads) }
 
 pub result-word-spec : {M : Type 1} → statement M
 result-word-spec =

@@ -7,19 +7,20 @@ use Rattle.model.specs.Refusal.{Test}
 use Rattle.model.specs.Rules.{moves}
 use Rattle.model.proofs.Verdicts.{Testing, test-start, test-next, test-stop, test-end}
 use Rattle.sheet.specs.Layout.{formalsAt}
-use Rattle.sheet.specs.Meaning.{innerIn, needIn}
+use Rattle.index.specs.Scope.{innerAs, needAs}
+use Rattle.index.specs.declared.procedures.Scope.{Scope}
 use Rattle.call_rules.proofs.actuals_rule.Statement.{statement}
 use Rattle.call_rules.proofs.actuals_rule.Tie as tie
 
 -- the tests of actual j
-abbrev actual : List ℕ → (pr to b j : ℕ) → List Test
-actual s pr to b j = moves (innerIn s pr (b + j)) (needIn s to j)
+abbrev actual : List ℕ → (p to : Scope) → (b j : ℕ) → List Test
+actual s p to b j = moves (innerAs s p (b + j)) (needAs s to j)
 
 abbrev Inv-loop : tie.InvT-loop
-Inv-loop s index pr to b f j₀ j = Testing (actual s pr to b) (formalsAt s to) j
+Inv-loop s index p to b f j₀ j = Testing (actual s p to b) (formalsAt s (to .head)) j
 
 abbrev μ-loop : tie.MeasureT-loop
-μ-loop s index pr to b f j₀ j = f - j
+μ-loop s index p to b f j₀ j = f - j
 
 loop-holds : tie.Need-loop-holds Inv-loop μ-loop
 loop-holds c = test-start _ _

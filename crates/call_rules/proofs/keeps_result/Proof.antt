@@ -1,8 +1,8 @@
 -- `keeps-tests`: the two tests are those by which the definition sees a variable and a result.
-use borrow.Author.Needs.{needs}
 use Rattle.sheet.specs.Layout.{resultAt}
-use Rattle.sheet.specs.Meaning.{innerIn}
+use Rattle.index.specs.Scope.{innerAs}
 use Rattle.call_rules.proofs.Laws.{keeps-tests}
+use borrow.Author.Needs.{needs}
 use Rattle.call_rules.proofs.keeps_result.Statement.{statement}
 use Rattle.call_rules.proofs.keeps_result.Tie as tie
 
@@ -10,7 +10,11 @@ returns : tie.Need-returns
 unfolding resultAt
 returns c =
     let a = c .before .before .args in
-    rw (c .field .ensures) (keeps-tests (innerIn (a .s .now) (a .pr)) (a .s .now) (a .to) (a .a))
+    rw (c .field .ensures) (keeps-tests (innerAs (a .s .now) (a .p)) (a .s .now) (a .to) (a .a))
 
 pub keeps-result-spec : {M : Type 1} → statement M
-keeps-result-spec = tie.close (tie.spec (λ c κs. search needs) returns)
+keeps-result-spec =
+    tie.close
+    (tie.spec
+    (λ c κs. search needs)
+    returns)

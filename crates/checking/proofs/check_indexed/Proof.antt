@@ -1,4 +1,5 @@
--- Well-formedness first; where it accepts, it also gives what the access rules lean on: an index that has room, and callees that are there.
+-- Well-formedness first; where it accepts, it also gives what the access rules lean on: an index that has room, bounds of declared types, and callees that
+-- are there.
 use mathlib.Core.Path.{_≡_, sym, _∙_}
 use borrow.Author.Needs.{needs}
 use Rattle.model.specs.Refusal.{verdict}
@@ -7,7 +8,7 @@ use Rattle.model.specs.declared.Verdict.the-variants.{Accepted}
 use Rattle.sheet.specs.Meaning.{programOf, placeOf}
 use Rattle.form.specs.WellFormed.{form-tests}
 use Rattle.model.proofs.Verdicts.{stop-here, go-on}
-use Rattle.form.proofs.WellFormed.{form-ready, callee-below}
+use Rattle.form.proofs.WellFormed.{form-ready, bound-formed, callee-below}
 use Rattle.access.specs.Inner.Callees.{CalleesAt}
 use Rattle.checking.specs.Check.{check-tests, check}
 use Rattle.checking.proofs.check_indexed.Statement.{statement}
@@ -26,7 +27,13 @@ access-requires c κs =
     let w = c .before .before in
     let s = w .before .before .args .s .now in
     let f : verdict (form-tests s) ≡ Accepted = sym (w .well-formed .ensures) ∙ c .enum-told .given .1 in
-    (form-ready s f _ (w .before .before .pre), record { each = λ p l i m. callee-below s f p l i m })
+    let there = callee-below s f in (
+      form-ready s f _ (w .before .before .pre),
+      record {
+        bounded = bound-formed s f;
+        each = λ p l i m. record { there = there p l i m; bounded = bound-formed s f _ (there p l i m) };
+      },
+    )
 
 returns-2 : tie.Need-returns-2
 unfolding check check-tests

@@ -7,8 +7,19 @@ use Rattle.declaration_rules.proofs.formal_number.Tie as tie
 
 returns : tie.Need-returns
 unfolding failure formal-rule
-returns c =
-    rw (c .require2 .ensures, c .before .require .ensures, c .before .before .agree .ensures, c .before .before .before .is-closed2 .ensures, c .before .before .before .before .is-owned .ensures, c .before .before .before .before .before .is-closed .ensures)
+returns c s ready =
+    let d = c .before .before .before .before in
+    let a = d .before .before .args in
+    rw (
+      c .require2 .ensures,
+      c .before .require .ensures,
+      c .before .before .agree .ensures s ready,
+      c .before .before .before .is-closed2 .ensures,
+      d .is-amplified .ensures,
+      d .before .is-closed .ensures,
+      ready .types (a .need),
+      ready .types (a .inner),
+    )
 
 pub formal-number-spec : {M : Type 1} → statement M
 formal-number-spec =

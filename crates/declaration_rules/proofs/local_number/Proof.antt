@@ -8,7 +8,7 @@ use Rattle.declaration_rules.proofs.local_number.Tie as tie
 returns : tie.Need-returns
 unfolding failure local-rule
 returns c =
-    rw (c .require .ensures, c .before .is-closed .ensures, c .before .before .is-owned .ensures)
+    rw (c .require .ensures, c .before .is-closed .ensures, c .before .before .is-amplified .ensures)
 
 pub local-number-spec : {M : Type 1} → statement M
 local-number-spec =

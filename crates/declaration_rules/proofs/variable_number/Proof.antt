@@ -10,7 +10,16 @@ use Rattle.declaration_rules.proofs.variable_number.Tie as tie
 returns : tie.Need-returns
 unfolding declaration-rule ownerAt formalsAt innerIn needIn
 returns c =
-    rw (c .formal-number .ensures, c .before .need-of .ensures, c .before .before .before .before .inner-of .ensures, c .before .before .before .before .before .before .before .pre .types _, c .before .before .before .before .before .before .before .pre .types _, c .before .before .before .before .before .field .ensures, ← c .before .before .before .field2 .ensures, lt-ltb _ _ (c .before .before .if1 .taken))
+    let d = c .before .before .before .before in
+    let b = d .before .before .before in
+    rw (
+      c .formal-number .ensures _ (b .pre),
+      c .before .need-of .ensures,
+      d .inner-of .ensures,
+      d .before .field .ensures,
+      ← c .before .before .before .field2 .ensures,
+      lt-ltb _ _ (c .before .before .if1 .taken),
+    )
 
 returns-2 : tie.Need-returns-2
 unfolding declaration-rule ownerAt formalsAt innerIn

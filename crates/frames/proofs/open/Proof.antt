@@ -16,7 +16,7 @@ returns c =
     let pre = c .before .before .before .before .before .before .before .pre in
     let clear = c .before .before .before .clear in
     let back-of = c .back-of in
-    λ m. opens m (now (args .memory)) _ (args .r) (args .a) (args .w) (args .v) (args .f) _ (pre .0) (pre .1 .1 .0 .1) (pre .1 .1 .1)
+    λ m. opens m (now (args .memory)) _ (args .r) (args .a) (args .w) (args .set) (args .v) (args .f) _ (pre .0) (pre .1 .1 .0 .1) (pre .1 .1 .1)
     (clear .ensures) (back-of .ensures m)
 
 pub open-spec : {M : Type 1} → statement M

@@ -7,8 +7,8 @@ use Rattle.limits.proofs.qual_scale.Tie as tie
 
 returns : tie.Need-returns
 unfolding qual-scale all-from
-returns c = rw (c .below-or-none .ensures, c .before .rights-scale .ensures)
+returns c = rw (c .pick .ensures, c .before .below-or-none .ensures, c .before .before .rights-scale .ensures)
 
 pub qual-scale-spec : {M : Type 1} → statement M
 qual-scale-spec =
-    tie.close (tie.spec (λ c. search needs) (λ c κs. search needs) (λ c κs. search needs) returns)
+    tie.close (tie.spec (λ c. search needs) (λ c κs. search needs) (λ c κs. search needs) (λ c κs. search needs) returns)

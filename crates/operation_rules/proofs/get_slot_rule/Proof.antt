@@ -3,30 +3,30 @@ use borrow.Author.Needs.{needs}
 use Rattle.model.specs.Rules.{get-slot-rule}
 use Rattle.model.specs.Refusal.{failure}
 use Rattle.sheet.specs.Layout.{ownerAt}
-use Rattle.sheet.specs.Meaning.{slotIn, innerIn}
+use Rattle.index.proofs.Reading.{inner-type, slot-type}
 use Rattle.operation_rules.proofs.get_slot_rule.Statement.{statement}
 use Rattle.operation_rules.proofs.get_slot_rule.Tie as tie
 
 returns : tie.Need-returns
-unfolding failure get-slot-rule innerIn slotIn ownerAt
+unfolding failure get-slot-rule ownerAt
 returns c =
     let d = c .before .before .before .before in
     let e = d .before .before .before .before in
-    let types = e .before .before .before .pre .types in
+    let b = e .before .before .before in
     rw (
       c .require2 .ensures,
       c .before .require .ensures,
       c .before .before .has-right .ensures,
-      c .before .before .before .rights-of .ensures,
+      c .before .before .before .rights-as .ensures,
       d .is-owned .ensures,
       d .before .movement .ensures,
       d .before .before .inner-of2 .ensures,
       d .before .before .before .slot-of .ensures,
       e .inner-of .ensures,
       e .before .field .ensures,
-      types _,
-      types _,
-      types _,
+      inner-type (b .pre) (b .args .p) (b .args .a),
+      inner-type (b .pre) (b .args .p) (b .args .b),
+      slot-type (b .pre) (b .args .p) _ (b .args .k),
     )
 
 pub get-slot-rule-spec : {M : Type 1} → statement M

@@ -2,15 +2,16 @@
 use borrow.Author.Needs.{needs}
 use Rattle.model.specs.Rules.{integers-rule}
 use Rattle.model.specs.Refusal.{failure}
-use Rattle.sheet.specs.Meaning.{innerIn}
+use Rattle.operation_rules.proofs.Laws.{inner-integer}
 use Rattle.operation_rules.proofs.integers_rule.Statement.{statement}
 use Rattle.operation_rules.proofs.integers_rule.Tie as tie
 
 returns : tie.Need-returns
-unfolding failure integers-rule innerIn
+unfolding failure integers-rule
 returns c =
     let d = c .before .before .before .before in
-    let types = d .before .before .before .before .pre .types in
+    let e = d .before .before .before .before in
+    let b = e in
     rw (
       c .require .ensures,
       c .before .is-integer3 .ensures,
@@ -19,9 +20,9 @@ returns c =
       d .inner-of2 .ensures,
       d .before .is-integer .ensures,
       d .before .before .inner-of .ensures,
-      types _,
-      types _,
-      types _,
+      inner-integer (b .pre) (b .args .p) (b .args .a),
+      inner-integer (b .pre) (b .args .p) (b .args .b),
+      inner-integer (b .pre) (b .args .p) (b .args .c),
     )
 
 pub integers-rule-spec : {M : Type 1} → statement M

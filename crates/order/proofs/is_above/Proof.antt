@@ -6,10 +6,7 @@ use Rattle.order.proofs.is_above.Tie as tie
 
 returns : tie.Need-returns
 unfolding order
-returns c =
-    rw (c .is-within .ensures, c .before .rights-of2 .ensures, c .before .before .rights-of .ensures, c .before .before .before .is-alike .ensures)
+returns c = rw (c .is-covered .ensures, c .before .is-alike .ensures)
 
 pub is-above-spec : {M : Type 1} → statement M
-is-above-spec =
-    tie.close
-    (tie.spec (λ c κs. search needs) (λ c κs. search needs) (λ c κs. search needs) (λ c κs. search needs) returns)
+is-above-spec = tie.close (tie.spec (λ c κs. search needs) (λ c κs. search needs) returns)

@@ -20,19 +20,8 @@ returns c =
     let args = c .before .before .before .before .before .before .before .args in
     let read = c .before .before .read in
     let frame-end = c .before .before .before .before .frame-end in
-    (actual-word .ensures .fine, λ v k at S. actual-word .ensures .moves v k (args .b) (S .head) at (ap (slot-in watched (qualOf (now (args .s)))) (read .ensures) ∙ sees-cut watched (qualOf (now (args .s))) v (now (args .memory)) (args .r) _ (frame-end .ensures) S .variable _))
+    (actual-word .ensures .fine, λ v k z at S. actual-word .ensures .moves v k (args .b) z (S .head) at (ap (slot-in watched (qualOf (now (args .s)))) (read .ensures) ∙ sees-cut watched (qualOf (now (args .s))) v (now (args .memory)) (args .r) _ (frame-end .ensures) S .variable _))
 
 pub actual-in-spec : {M : Type 1} → statement M
 actual-in-spec =
-    tie.close
-    (tie.spec
-    (λ c κs. search needs)
-    (λ c. search needs)
-    (λ c. search needs)
-    (λ c. search needs)
-    (λ c. search needs)
-    (λ c. search needs)
-    (λ c κs. search needs)
-    slice-aggregate-actual-word
-    (λ c κs. search needs)
-    returns)
+    tie.close (tie.spec (λ c κs. search needs) (λ c. search needs) (λ c. search needs) (λ c. search needs) (λ c. search needs) (λ c. search needs) (λ c κs. search needs) slice-aggregate-actual-word (λ c κs. search needs) returns)

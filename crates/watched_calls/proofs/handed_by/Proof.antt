@@ -20,7 +20,7 @@ returns c =
     let field = c .before .before .field in
     let if1 = c .before .if1 in
     let if2 = c .if2 in
-    (tt, λ v at S. hands-nothing (now (args .s)) v (args .pr) (args .a) at (field .ensures) (if1 .taken) (if2 .taken))
+    (tt, λ v at S. hands-nothing (now (args .s)) v (args .p .head) (args .a) (sym (at .head)) (field .ensures) (if1 .taken) (if2 .taken))
 
 returns-2 : tie.Need-returns-2
 unfolding resultAt
@@ -29,7 +29,7 @@ returns-2 c =
     let field = c .before .before .field in
     let if1 = c .before .if1 in
     let if2 = c .if2 in
-    (tt, λ v at S. hands-too-little (now (args .s)) v (args .pr) (args .a) at (field .ensures) (if1 .taken) (if2 .left))
+    (tt, λ v at S. hands-too-little (now (args .s)) v (args .p .head) (args .a) (sym (at .head)) (field .ensures) (if1 .taken) (if2 .left))
 
 returns-3 : tie.Need-returns-3
 unfolding resultAt
@@ -38,7 +38,7 @@ returns-3 c =
     let field = c .before .before .field in
     let if1 = c .before .if1 in
     let if3 = c .if3 in
-    (tt, λ v at S. hands-too-much (now (args .s)) v (args .pr) (args .a) at (field .ensures) (if1 .left) (if3 .taken))
+    (tt, λ v at S. hands-too-much (now (args .s)) v (args .p .head) (args .a) (sym (at .head)) (field .ensures) (if1 .left) (if3 .taken))
 
 slice-aggregate-result-word : tie.Need-slice-aggregate-result-word
 slice-aggregate-result-word c = sym (length-take-le _ _ (omega arith))
@@ -54,7 +54,7 @@ returns-4 c =
     let if3 = c .before .before .before .before .before .before .before .before .if3 in
     let read = c .before .before .before .before .before .read in
     let frame-end = c .before .before .before .before .before .before .before .frame-end in
-    (rw (x .given .1) at (result-word .ensures .fine), λ v at S. hands-word (now (args .s)) v (args .pr) (args .a) at (field .ensures) (if1 .left) (if3 .left) (result-word .result) (result-word .ensures .moves v (args .a) (S .head) at (ap (slot-in watched (qualOf (now (args .s)))) (read .ensures) ∙ sees-cut watched (qualOf (now (args .s))) v (now (args .memory)) (args .r) _ (frame-end .ensures) S .variable _)) (x .given .1))
+    (rw (x .given .1) at (result-word .ensures .fine), λ v at S. hands-word (now (args .s)) v (args .p .head) (args .a) (sym (at .head)) (field .ensures) (if1 .left) (if3 .left) (result-word .result) (result-word .ensures .moves v (args .a) (S .head) at (ap (slot-in watched (qualOf (now (args .s)))) (read .ensures) ∙ sees-cut watched (qualOf (now (args .s))) v (now (args .memory)) (args .r) _ (frame-end .ensures) S .variable _)) (x .given .1))
 
 returns-5 : tie.Need-returns-5
 unfolding resultAt
@@ -67,25 +67,8 @@ returns-5 c =
     let read = c .before .before .before .before .before .read in
     let frame-end = c .before .before .before .before .before .before .before .frame-end in
     let k = c .before .k in
-    (tt, λ v at S. hands-halt (now (args .s)) v (args .pr) (args .a) at (field .ensures) (if1 .left) (if3 .left) (result-word .result) (result-word .ensures .moves v (args .a) (S .head) at (ap (slot-in watched (qualOf (now (args .s)))) (read .ensures) ∙ sees-cut watched (qualOf (now (args .s))) v (now (args .memory)) (args .r) _ (frame-end .ensures) S .variable _)) (k .given .1))
+    (tt, λ v at S. hands-halt (now (args .s)) v (args .p .head) (args .a) (sym (at .head)) (field .ensures) (if1 .left) (if3 .left) (result-word .result) (result-word .ensures .moves v (args .a) (S .head) at (ap (slot-in watched (qualOf (now (args .s)))) (read .ensures) ∙ sees-cut watched (qualOf (now (args .s))) v (now (args .memory)) (args .r) _ (frame-end .ensures) S .variable _)) (k .given .1))
 
 pub handed-by-spec : {M : Type 1} → statement M
 handed-by-spec =
-    tie.close
-    (tie.spec
-    (λ c κs. search needs)
-    returns
-    returns-2
-    returns-3
-    (λ c κs. search needs)
-    (λ c. search needs)
-    (λ c. search needs)
-    (λ c. search needs)
-    (λ c. search needs)
-    (λ c κs. search needs)
-    slice-aggregate-result-word
-    (λ c κs. search needs)
-    (λ c. search needs)
-    (λ c. search needs)
-    returns-4
-    returns-5)
+    tie.close (tie.spec (λ c κs. search needs) returns returns-2 returns-3 (λ c κs. search needs) (λ c. search needs) (λ c. search needs) (λ c. search needs) (λ c. search needs) (λ c κs. search needs) slice-aggregate-result-word (λ c κs. search needs) (λ c. search needs) (λ c. search needs) returns-4 returns-5)

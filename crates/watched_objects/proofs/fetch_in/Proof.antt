@@ -32,13 +32,4 @@ fetch-guarded-requires c κs =
 
 pub fetch-in-spec : {M : Type 1} → statement M
 fetch-in-spec =
-    tie.close
-    (tie.spec
-    (λ c κs. search needs)
-    (λ c. search needs)
-    (λ c. search needs)
-    (λ c. search needs)
-    (λ c. search needs)
-    slice-aggregate-fetch-guarded
-    fetch-guarded-requires
-    returns)
+    tie.close (tie.spec (λ c κs. search needs) (λ c. search needs) (λ c. search needs) (λ c. search needs) (λ c. search needs) slice-aggregate-fetch-guarded fetch-guarded-requires returns)

@@ -31,13 +31,4 @@ get-guarded-requires c κs =
 
 pub get-in-spec : {M : Type 1} → statement M
 get-in-spec =
-    tie.close
-    (tie.spec
-    (λ c κs. search needs)
-    (λ c. search needs)
-    (λ c. search needs)
-    (λ c. search needs)
-    (λ c. search needs)
-    slice-aggregate-get-guarded
-    get-guarded-requires
-    returns)
+    tie.close (tie.spec (λ c κs. search needs) (λ c. search needs) (λ c. search needs) (λ c. search needs) (λ c. search needs) slice-aggregate-get-guarded get-guarded-requires returns)

@@ -15,29 +15,19 @@ make-array-requires c κs =
 
 returns : tie.Need-returns
 returns c =
-    λ d out q. rw (c .before .before .before .before .before .before .before .n .given .1) (c .before .before .make-array .ensures d out q)
+    λ plain d out q. rw (c .before .before .before .before .before .before .before .n .given .1) (c .before .before .make-array .ensures plain d out q)
 
 returns-2 : tie.Need-returns-2
 returns-2 c =
     let known = c .before .before .before .n in
     let first-test = c .if1 in
     let args = c .before .before .before .before .before .before .before .args in
-    λ d out q. rw (known .given .1, array-full watched _ _ _ _ (first-test .left)) (does-stop watched d _ out (args .r) memory-full)
+    λ plain d out q. rw (known .given .1, array-full watched _ _ _ _ (first-test .left)) (does-stop watched d _ out (args .r) memory-full)
 
 returns-3 : tie.Need-returns-3
 returns-3 c =
-    λ d out q. rw (c .before .n2 .given .1, array-halt) (does-halt watched d _ out (c .before .before .before .before .before .args .r) _)
+    λ plain d out q. rw (c .before .n2 .given .1, array-halt) (does-halt watched d _ out (c .before .before .before .before .before .args .r) _)
 
 pub give-array-spec : {M : Type 1} → statement M
 give-array-spec =
-    tie.close
-    (tie.spec
-    (λ c. search needs)
-    (λ c. search needs)
-    (λ c. search needs)
-    make-array-requires
-    (λ c. search needs)
-    returns
-    (λ c. search needs)
-    returns-2
-    returns-3)
+    tie.close (tie.spec (λ c. search needs) (λ c. search needs) (λ c. search needs) make-array-requires (λ c. search needs) returns (λ c. search needs) returns-2 returns-3)

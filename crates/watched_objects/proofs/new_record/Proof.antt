@@ -6,7 +6,9 @@ use borrow.Author.Needs.{needs}
 use denote.Ref.{now}
 use Rattle.model.specs.Modes.{watched}
 use Rattle.model.specs.Outcome.{memory-full, stop}
-use Rattle.sheet.specs.Meaning.{innerIn, programOf}
+use Rattle.sheet.specs.Meaning.{programOf}
+use Rattle.index.specs.Scope.{innerAs}
+use Rattle.index.proofs.Reading.{inner-read}
 use Rattle.sheet.specs.Layout.{ownerAt, namedOf, slotsOf}
 use Rattle.writers.specs.declared.Stepped.the-variants.{Halt}
 use Rattle.writers.proofs.Planned.{record-full}
@@ -30,7 +32,7 @@ returns c =
     let byte = c .before .before .before .before .before .before .byte in
     let type-at = c .before .before .before .before .before .before .before .type-at in
     let field = c .before .before .before .before .before .before .before .before .field in
-    λ input out. performs-roomy (now (args .s)) input (now (args .memory)) (make-record .last .1 .1 .1 .0) out out (args .r) (make-record .result) _ (λ z. record-for (now (args .s)) (args .pr) (args .r) (args .a) _) (λ d q. make-record .ensures d out q) (args .pr) (pre .1 .1 .1 .1) (λ v at free S. records (programOf (now (args .s))) v _ (rw at) free (rw at) refl (rw (byte .ensures, type-at .ensures, field .ensures)))
+    λ input out. performs-roomy (now (args .s)) input (now (args .memory)) (make-record .last .1 .1 .1 .0) out out (args .r) (make-record .result) _ (λ z. record-for (now (args .s)) (args .p) (args .r) (args .a) _) (λ d q. make-record .ensures d out q) (pre .1 .1 .1 .1) (λ v at free S. records (programOf (now (args .s))) v _ (sym (inner-read at _)) free (rw (sym (at .head))) refl (rw (byte .ensures, type-at .ensures, field .ensures)))
 
 returns-2 : tie.Need-returns-2
 unfolding ownerAt slotsOf
@@ -41,19 +43,8 @@ returns-2 c =
     let byte = c .before .before .byte in
     let type-at = c .before .before .before .type-at in
     let field = c .before .before .before .before .field in
-    λ input out. performs-roomy (now (args .s)) input (now (args .memory)) (now (args .memory)) out out (args .r) (Halt 17) _ (λ z. stop memory-full) (λ d q. does-stop watched d (now (args .memory)) out (args .r) memory-full) (args .pr) (pre .1 .1 .1 .1) (λ v at free S. sym (record-full watched (args .r .base - args .r .used) (args .a) (innerIn (now (args .s)) (args .pr) (args .a)) (ownerAt (now (args .s)) (args .pr)) (namedOf (now (args .s)) (ownerAt (now (args .s)) (args .pr))) _ (first-test .left)) ∙ records (programOf (now (args .s))) v _ (rw at) free (rw at) refl (rw (byte .ensures, type-at .ensures, field .ensures)))
+    λ input out. performs-roomy (now (args .s)) input (now (args .memory)) (now (args .memory)) out out (args .r) (Halt 17) _ (λ z. stop memory-full) (λ d q. does-stop watched d (now (args .memory)) out (args .r) memory-full) (pre .1 .1 .1 .1) (λ v at free S. sym (record-full watched (args .r .base - args .r .used) (args .a) (innerAs (now (args .s)) (args .p) (args .a)) (ownerAt (now (args .s)) (args .p .head)) (namedOf (now (args .s)) (ownerAt (now (args .s)) (args .p .head))) _ (first-test .left)) ∙ records (programOf (now (args .s))) v _ (sym (inner-read at _)) free (rw (sym (at .head))) refl (rw (byte .ensures, type-at .ensures, field .ensures)))
 
 pub new-record-spec : {M : Type 1} → statement M
 new-record-spec =
-    tie.close
-    (tie.spec
-    (λ c κs. search needs)
-    (λ c κs. search needs)
-    (λ c κs. search needs)
-    (λ c. search needs)
-    (λ c. search needs)
-    (λ c. search needs)
-    make-record-requires
-    (λ c. search needs)
-    returns
-    returns-2)
+    tie.close (tie.spec (λ c κs. search needs) (λ c κs. search needs) (λ c κs. search needs) (λ c. search needs) (λ c. search needs) (λ c. search needs) make-record-requires (λ c. search needs) returns returns-2)

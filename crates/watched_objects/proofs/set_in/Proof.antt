@@ -32,13 +32,4 @@ set-slot-guarded-requires c κs =
 
 pub set-in-spec : {M : Type 1} → statement M
 set-in-spec =
-    tie.close
-    (tie.spec
-    (λ c κs. search needs)
-    (λ c. search needs)
-    (λ c. search needs)
-    (λ c. search needs)
-    (λ c. search needs)
-    slice-aggregate-set-slot-guarded
-    set-slot-guarded-requires
-    returns)
+    tie.close (tie.spec (λ c κs. search needs) (λ c. search needs) (λ c. search needs) (λ c. search needs) (λ c. search needs) slice-aggregate-set-slot-guarded set-slot-guarded-requires returns)

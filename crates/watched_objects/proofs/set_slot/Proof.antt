@@ -14,7 +14,7 @@ returns c =
     let store-cell = c .before .before .store-cell in
     let set-in = c .before .before .before .before .set-in in
     let pre = c .before .before .before .before .before .before .before .before .pre in
-    λ input out. performs-seeing (now (args .s)) input (now (args .memory)) (store-cell .last .0) out out (args .r) (store-cell .result) _ (λ z. stored watched (qualOf z) (set-in .result)) (λ d q. store-cell .ensures watched d out (set-in .ensures .0)) (args .pr) (pre .1 .1 .1 .1) (set-in .ensures .1)
+    λ input out. performs-seeing (now (args .s)) input (now (args .memory)) (store-cell .last .0) out out (args .r) (store-cell .result) _ (λ z. stored watched (qualOf z) (set-in .result)) (λ d q. store-cell .ensures watched d out (set-in .ensures .0)) (pre .1 .1 .1 .1) (set-in .ensures .1)
 
 pub set-slot-spec : {M : Type 1} → statement M
 set-slot-spec = tie.close (tie.spec (λ c κs. search needs) (λ c κs. search needs) (λ c. search needs) returns)

@@ -31,13 +31,4 @@ size-guarded-requires c κs =
 
 pub size-in-spec : {M : Type 1} → statement M
 size-in-spec =
-    tie.close
-    (tie.spec
-    (λ c κs. search needs)
-    (λ c. search needs)
-    (λ c. search needs)
-    (λ c. search needs)
-    (λ c. search needs)
-    slice-aggregate-size-guarded
-    size-guarded-requires
-    returns)
+    tie.close (tie.spec (λ c κs. search needs) (λ c. search needs) (λ c. search needs) (λ c. search needs) (λ c. search needs) slice-aggregate-size-guarded size-guarded-requires returns)

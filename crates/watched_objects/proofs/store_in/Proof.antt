@@ -19,7 +19,7 @@ returns c =
     let store-guarded = c .store-guarded in
     let args = c .before .before .before .before .before .args in
     let frame-end = c .before .before .before .frame-end in
-    λ s pr ready. (store-guarded .ensures s pr ready .0, λ v at S. store-guarded .ensures s pr ready .1 v at (sees-cut watched (qualOf s) v (now (args .memory)) (args .r) _ (frame-end .ensures) S))
+    λ s ready. (store-guarded .ensures s ready .0, λ v S. store-guarded .ensures s ready .1 v (sees-cut watched (qualOf s) v (now (args .memory)) (args .r) _ (frame-end .ensures) S))
 
 store-guarded-requires : tie.Need-store-guarded-requires
 store-guarded-requires c κs =
@@ -32,13 +32,4 @@ store-guarded-requires c κs =
 
 pub store-in-spec : {M : Type 1} → statement M
 store-in-spec =
-    tie.close
-    (tie.spec
-    (λ c κs. search needs)
-    (λ c. search needs)
-    (λ c. search needs)
-    (λ c. search needs)
-    (λ c. search needs)
-    slice-aggregate-store-guarded
-    store-guarded-requires
-    returns)
+    tie.close (tie.spec (λ c κs. search needs) (λ c. search needs) (λ c. search needs) (λ c. search needs) (λ c. search needs) slice-aggregate-store-guarded store-guarded-requires returns)

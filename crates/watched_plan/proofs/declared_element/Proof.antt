@@ -2,7 +2,8 @@
 use mathlib.Core.Path.{sym, ap, _∙_}
 use borrow.Author.Needs.{needs}
 use Rattle.model.specs.Qualified.{element}
-use Rattle.watched_plan.proofs.Laws.{inner-type}
+use Rattle.index.proofs.Reading.{type-element, type-read}
+use Rattle.watched_plan.proofs.Laws.{type-in}
 use Rattle.watched_plan.proofs.declared_element.Statement.{statement}
 use Rattle.watched_plan.proofs.declared_element.Tie as tie
 
@@ -12,7 +13,7 @@ returns c =
     let element-of = c .element-of in
     let args = c .before .before .before .args in
     let inner-of = c .before .inner-of in
-    sym (pre .types _) ∙ element-of .ensures .means ∙ ap element (inner-type (args .s .now) (args .pr) (args .a) (pre) (inner-of .ensures))
+    sym (type-read pre _ _) ∙ type-element _ (args .p .name) (element-of .ensures) ∙ ap element (type-in (args .s .now) (args .p) (args .a) pre (inner-of .ensures))
 
 pub declared-element-spec : {M : Type 1} → statement M
 declared-element-spec = tie.close (tie.spec (λ c κs. search needs) (λ c κs. search needs) returns)

@@ -1,8 +1,7 @@
 -- A stop stays what it is; an integer is the size of a declared array.
-use mathlib.Core.Path.{ap, _∙_}
+use mathlib.Core.Path.{_∙_}
 use borrow.Author.Needs.{needs}
-use Rattle.model.specs.Qualified.{isArray}
-use Rattle.watched_plan.proofs.Laws.{inner-type, size-halts, size-asked, size-refused}
+use Rattle.watched_plan.proofs.Laws.{array-in-type, size-halts, size-asked, size-refused}
 use Rattle.watched_plan.proofs.sized.Statement.{statement}
 use Rattle.watched_plan.proofs.sized.Tie as tie
 
@@ -22,7 +21,7 @@ returns-2 c =
     let pre = c .before .before .before .before .before .before .before .before .pre .0 in
     let inner-of = c .before .before .inner-of in
     let first-test = c .if1 in
-    λ g v h S. size-asked g v _ _ (integer-in .ensures _ g v h S) (enum-told .given .1) (is-array .ensures ∙ ap isArray (inner-type (args .s .now) (args .pr) (args .a) (pre) (inner-of .ensures))) (first-test .taken)
+    λ g v h S. size-asked g v _ _ (integer-in .ensures _ g v h S) (enum-told .given .1) (is-array .ensures ∙ array-in-type (args .s .now) (args .p) (args .a) pre (inner-of .ensures)) (first-test .taken)
 
 returns-3 : tie.Need-returns-3
 returns-3 c =
@@ -33,17 +32,8 @@ returns-3 c =
     let pre = c .before .before .before .before .before .before .before .before .pre .0 in
     let inner-of = c .before .before .inner-of in
     let first-test = c .if1 in
-    λ g v h S. size-refused g v _ _ (integer-in .ensures _ g v h S) (enum-told .given .1) (is-array .ensures ∙ ap isArray (inner-type (args .s .now) (args .pr) (args .a) (pre) (inner-of .ensures))) (first-test .left)
+    λ g v h S. size-refused g v _ _ (integer-in .ensures _ g v h S) (enum-told .given .1) (is-array .ensures ∙ array-in-type (args .s .now) (args .p) (args .a) pre (inner-of .ensures)) (first-test .left)
 
 pub sized-spec : {M : Type 1} → statement M
 sized-spec =
-    tie.close
-    (tie.spec
-    (λ c κs. search needs)
-    enum-told
-    (λ c. search needs)
-    returns
-    (λ c κs. search needs)
-    (λ c κs. search needs)
-    returns-2
-    returns-3)
+    tie.close (tie.spec (λ c κs. search needs) enum-told (λ c. search needs) returns (λ c κs. search needs) (λ c κs. search needs) returns-2 returns-3)

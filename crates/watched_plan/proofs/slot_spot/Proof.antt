@@ -30,12 +30,4 @@ returns-2 c =
 
 pub slot-spot-spec : {M : Type 1} → statement M
 slot-spot-spec =
-    tie.close
-    (tie.spec
-    (λ c κs. search needs)
-    (λ c κs. search needs)
-    (λ c. search needs)
-    enum-told
-    returns
-    (λ c κs. search needs)
-    returns-2)
+    tie.close (tie.spec (λ c κs. search needs) (λ c κs. search needs) (λ c. search needs) enum-told returns (λ c κs. search needs) returns-2)

@@ -17,7 +17,7 @@ returns c =
     let add-guarded = c .before .before .before .before .add-guarded in
     let pre = c .before .before .before .before .before .before .before .before .before .before .pre in
     let frame-end = c .before .before .before .before .before .before .before .frame-end in
-    λ input out. performs-seeing (now (args .s)) input (now (args .memory)) (give-number .last .0) out out (args .r) (give-number .result) _ (λ z. given watched (args .a) (add-guarded .result)) (λ d q. give-number .ensures watched d out) (args .pr) (pre .1 .1 .1 .1) (λ v at S. add-guarded .ensures _ v at (sees-cut watched (qualOf (now (args .s))) v (now (args .memory)) (args .r) _ (frame-end .ensures) S))
+    λ input out. performs-seeing (now (args .s)) input (now (args .memory)) (give-number .last .0) out out (args .r) (give-number .result) _ (λ z. given watched (args .a) (add-guarded .result)) (λ d q. give-number .ensures watched d out) (pre .1 .1 .1 .1) (λ v at S. add-guarded .ensures _ v at (sees-cut watched (qualOf (now (args .s))) v (now (args .memory)) (args .r) _ (frame-end .ensures) S))
 
 add-guarded-requires : tie.Need-add-guarded-requires
 add-guarded-requires c κs =
@@ -30,14 +30,4 @@ add-guarded-requires c κs =
 
 pub add-spec : {M : Type 1} → statement M
 add-spec =
-    tie.close
-    (tie.spec
-    (λ c κs. search needs)
-    (λ c. search needs)
-    (λ c. search needs)
-    (λ c. search needs)
-    (λ c. search needs)
-    add-guarded-requires
-    (λ c κs. search needs)
-    (λ c. search needs)
-    returns)
+    tie.close (tie.spec (λ c κs. search needs) (λ c. search needs) (λ c. search needs) (λ c. search needs) (λ c. search needs) add-guarded-requires (λ c κs. search needs) (λ c. search needs) returns)

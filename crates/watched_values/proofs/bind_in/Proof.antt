@@ -31,13 +31,4 @@ bind-guarded-requires c κs =
 
 pub bind-in-spec : {M : Type 1} → statement M
 bind-in-spec =
-    tie.close
-    (tie.spec
-    (λ c κs. search needs)
-    (λ c. search needs)
-    (λ c. search needs)
-    (λ c. search needs)
-    (λ c. search needs)
-    slice-aggregate-bind-guarded
-    bind-guarded-requires
-    returns)
+    tie.close (tie.spec (λ c κs. search needs) (λ c. search needs) (λ c. search needs) (λ c. search needs) (λ c. search needs) slice-aggregate-bind-guarded bind-guarded-requires returns)

@@ -27,13 +27,4 @@ integer-in-requires c κs =
 
 pub jump-zero-spec : {M : Type 1} → statement M
 jump-zero-spec =
-    tie.close
-    (tie.spec
-    (λ c κs. search needs)
-    (λ c. search needs)
-    (λ c. search needs)
-    (λ c. search needs)
-    (λ c. search needs)
-    integer-in-requires
-    (λ c κs. search needs)
-    returns)
+    tie.close (tie.spec (λ c κs. search needs) (λ c. search needs) (λ c. search needs) (λ c. search needs) (λ c. search needs) integer-in-requires (λ c κs. search needs) returns)

@@ -94,7 +94,7 @@ fn verdict(line: &Line) -> Result<Verdict, Error> {
     let verdict = match words[..] {
         ["accepted", "0", "0"] => Some(Verdict::Accepted),
         ["refused", number, place] => decimal(number)
-            .filter(|number| (1..=9).contains(number))
+            .filter(|number| matches!(number, 1..=9 | 20 | 21))
             .zip(decimal(place))
             .map(|(number, place)| Verdict::Refused { number, place }),
         ["error", place] => place

@@ -152,7 +152,7 @@ impl<'a> Line<'a> {
     /// The error of a key that says nothing about the sheet.
     pub fn useless(&self) -> Error {
         self.wrong(
-            "says nothing about this sheet: an accepted one is run where `stop:` is said, one refused for 6 to 9 where \
+            "says nothing about this sheet: an accepted one is run where `stop:` is said, one refused for 6 to 9, 20 or 21 where \
              `watch:` is, no other is run",
         )
     }

@@ -30,7 +30,7 @@ pub const HEADS: &[&str] = &[
     "  at        the line refused, in error or stopped at, without its comment",
     "  stop      runs an accepted sheet: its stop, such as 11 done, or 10 big bench where the memory lent is refused;",
     "            the watched machine must give the same",
-    "  watch     runs a sheet refused for 6 to 9: the stop of the watched machine",
+    "  watch     runs a sheet refused for 6 to 9, 20 or 21: the stop of the watched machine",
     "  watch-at  the line at which that one stops, where it is not the line refused",
     "  put       the words put by the run; none by default",
     "  reads, fuel, memory, report    what is lent to the run, as by the options of run",

@@ -1,17 +1,20 @@
 //! Refusals 6 to 9: what the rule that does not hold looked at, in the words
-//! of the text.
+//! of the text. Which rule that is the second engine says; the types are the
+//! text's own reading, with ?R read where it stands.
 
 use super::Explanation;
 use crate::engine::Refusal;
+use crate::settling::{Called, Settling};
 use crate::source::Source;
 use reference::access::examine;
-use reference::fault::{Detail, Due, End, Fault, Form, Holder, Site};
-use reference::{parse, Kind, Operation, Procedure, Program, Rights};
+use reference::fault::{Detail, Due, End, Fault, Form, Holder};
+use reference::{parse, Operation, Procedure, Program};
 use text::field::Field;
-use text::{Names, Notation};
+use text::{Names, Notation, Reading, Sheet, Type};
 
 pub fn explain(source: &Source, refusal: Refusal) -> Option<Explanation> {
     let program = parse(&source.sheet).ok()?;
+    let sheet = Sheet::read(&source.sheet)?;
     let fault = examine(&program).err()?;
     let Fault {
         refusal: found,
@@ -22,11 +25,12 @@ pub fn explain(source: &Source, refusal: Refusal) -> Option<Explanation> {
     }
     let names = &source.names;
     let notation = Notation {
-        program: &program,
+        sheet: &sheet,
         names,
     };
     let teller = Teller {
         program: &program,
+        sheet: &sheet,
         names,
         notation,
         place: found.place,
@@ -34,8 +38,11 @@ pub fn explain(source: &Source, refusal: Refusal) -> Option<Explanation> {
     Some(teller.explanation(detail))
 }
 
+const ONLY_A_NAME: &str = "only ?R goes into ?R";
+
 struct Teller<'a> {
     program: &'a Program,
+    sheet: &'a Sheet,
     names: &'a Names,
     notation: Notation<'a>,
     /// The refused record.
@@ -50,7 +57,16 @@ impl Teller<'_> {
             Detail::Form(form) => self.form(form),
             Detail::Kind { variable, due } => self.kind(variable, due),
             Detail::Right { variable, right } => self.right(variable, right),
-            Detail::Movement { from, to } => self.movement(from, to),
+            other => self.moved(other),
+        }
+    }
+
+    /// What is left is a movement, be it that of a new record into ?R;
+    /// settling has numbers of its own.
+    fn moved(&self, detail: Detail) -> Explanation {
+        match detail {
+            Detail::Movement { from, to } => self.movement(from.end, to.end),
+            _ => self.new_record(),
         }
     }
 
@@ -75,9 +91,12 @@ impl Teller<'_> {
             self.notation.qualified(need),
             self.notation.qualified(inner),
         );
-        let rule = match owned {
-            true => "a formal that is of the procedure's own type inside needs that type",
-            false => "a formal may be more inside than it needs only if it is of the procedure's own type: the two must be equal",
+        let unread = Reading::Name(None);
+        let uses_name = |number| self.sheet.read_type(number, &unread) == Type::Name(None);
+        let rule = match (uses_name(need) || uses_name(inner), owned) {
+            (true, _) => "?R is never amplified: a formal that needs ?R or is ?R inside has it as both",
+            (_, true) => "a formal that is of the procedure's own type inside needs that type",
+            _ => "a formal may be more inside than it needs only if it is of the procedure's own type: the two must be equal",
         };
         let lines = vec![
             format!("needs  {needed}"),
@@ -114,7 +133,7 @@ impl Teller<'_> {
 
     /// The result of a procedure in notation.
     fn result(&self, procedure: usize) -> String {
-        let result = self.program.procedures[procedure].result;
+        let result = self.sheet.procedures[procedure].result;
         result.map_or_else(String::new, |result| self.notation.qualified(result))
     }
 
@@ -128,7 +147,7 @@ impl Teller<'_> {
                 format!("{owner}{{..}}, the type that the procedure is of")
             }
         };
-        let has = self.notation.qualified(self.inner(variable));
+        let has = self.notation.said(&self.inner(variable));
         let lines = vec![
             format!("needs {needs}"),
             format!("has   {has}  ({})", self.variable(variable)),
@@ -137,79 +156,131 @@ impl Teller<'_> {
     }
 
     fn right(&self, variable: usize, right: usize) -> Explanation {
-        let qualified = &self.program.qualified[self.inner(variable)];
-        let name = self.notation.right(qualified.kind, right);
-        let (needs, due) = match qualified.kind {
-            Kind::Array { element } => {
-                let element = self.notation.qualified(element);
+        let inner = self.inner(variable);
+        let name = self.notation.right(&inner, right);
+        let has = self.notation.said(&inner);
+        let (needs, due) = match &inner {
+            Type::Tray { element, .. } => {
+                let element = self.notation.said(element);
                 (format!("tray[{element}]{{{name}}}"), Due::Array)
             }
-            kind => (format!("{}{{{name}}}", self.base(kind)), Due::Owner),
+            inner => {
+                let of = self.names.declared(inner.declared().unwrap_or(0));
+                (format!("{of}{{{name}}}"), Due::Owner)
+            }
         };
-        let has = self.notation.qualified(self.inner(variable));
         let lines = vec![
             format!("needs {needs}"),
             format!("has   {has}  ({})", self.variable(variable)),
-            format!(
-                "needs {name}, has {}",
-                self.rights(qualified.kind, &qualified.rights)
-            ),
+            format!("needs {name}, {}", self.has_rights(&inner)),
         ];
         Explanation::new(self.operands(variable, due), lines)
     }
 
-    fn movement(&self, from: Site, to: Site) -> Explanation {
-        let needs = self.notation.qualified(to.qualified);
-        let has = self.notation.qualified(from.qualified);
+    /// A new record has all rights of its type, and is no ?R.
+    fn new_record(&self) -> Explanation {
+        let Some(Operation::NewRecord { to }) = self.operation() else {
+            return Explanation::new(Vec::new(), Vec::new());
+        };
+        let (needs, to) = (self.notation.said(&self.inner(to)), self.variable(to));
+        let owner = self.working().and_then(|(_, procedure)| procedure.owner);
+        let made = self.names.declared(owner.unwrap_or(0));
+        let lines = vec![
+            format!("needs {needs}  ({to})"),
+            format!("has   a new record of {made}"),
+            String::from(ONLY_A_NAME),
+        ];
+        Explanation::new(vec![Field::A], lines)
+    }
+
+    fn movement(&self, from: End, to: End) -> Explanation {
+        let (source, destination) = (self.declared(from), self.declared(to));
+        let needs = self.notation.said(&destination);
+        let has = self.notation.said(&source);
         let width = needs.len().max(has.len());
         let lines = vec![
-            format!("needs {needs:<width$}  ({})", self.end(to.end)),
-            format!("has   {has:<width$}  ({})", self.end(from.end)),
-            self.difference(from.qualified, to.qualified),
+            format!("needs {needs:<width$}  ({})", self.end(to)),
+            format!("has   {has:<width$}  ({})", self.end(from)),
+            self.difference(&source, &destination),
         ];
-        Explanation::new(vec![self.source_part(to.end)], lines)
+        Explanation::new(vec![self.source_part(to)], lines)
+    }
+
+    /// What is declared where a value comes from or goes, as it is read there.
+    fn declared(&self, end: End) -> Type {
+        let own = self
+            .sheet
+            .own_name(self.working().map_or(0, |(number, _)| number));
+        let called = self.settling().map(|settling| settling.reading());
+        let called = called.unwrap_or_else(|| own.clone());
+        match end {
+            End::Variable(variable) => self.inner(variable),
+            End::Element { array } => match self.inner(array) {
+                Type::Tray { element, .. } => *element,
+                other => other,
+            },
+            End::Slot { slot, .. } => {
+                let owner = self.working().and_then(|(_, procedure)| procedure.owner);
+                let slots = &self.sheet.types[owner.unwrap_or(0)].slots;
+                self.sheet.read_type(slots[slot], &own)
+            }
+            End::Need { procedure, formal } => {
+                let need = self.sheet.procedures[procedure].variables[formal].need;
+                self.sheet.read_type(need.unwrap_or(0), &called)
+            }
+            End::Result { procedure } => {
+                let result = self.sheet.procedures[procedure].result;
+                self.sheet.read_type(result.unwrap_or(0), &called)
+            }
+        }
+    }
+
+    /// What the refused call settles the name of the procedure called to.
+    fn settling(&self) -> Option<Settling> {
+        let (caller, _) = self.working()?;
+        Called::at(self.sheet, caller, self.place)?.settling(self.sheet)
     }
 
     /// In what the source falls short of the destination.
-    fn difference(&self, from: usize, to: usize) -> String {
-        let (from, to) = (&self.program.qualified[from], &self.program.qualified[to]);
-        if !self.program.same_kind(from.kind, to.kind) {
-            return match (from.kind, to.kind) {
-                (Kind::Array { element: has }, Kind::Array { element: needs }) => format!(
+    fn difference(&self, from: &Type, to: &Type) -> String {
+        if !from.is_alike(to) {
+            return match (from, to) {
+                (Type::Tray { element: has, .. }, Type::Tray { element: needs, .. }) => format!(
                     "the elements of trays must be equal, not more and not less: needs {}, has {}",
-                    self.notation.qualified(needs),
-                    self.notation.qualified(has)
+                    self.notation.said(needs),
+                    self.notation.said(has)
                 ),
                 (has, needs) => format!("needs {}, has {}", self.base(needs), self.base(has)),
             };
         }
-        let missing = to
-            .rights
-            .members()
-            .filter(|&right| !from.rights.contains(right));
-        let missing: Vec<String> = missing
-            .map(|right| self.notation.right(to.kind, right))
-            .collect();
-        let (missing, has) = (missing.join(","), self.rights(from.kind, &from.rights));
-        format!("needs {missing}, has {has}")
+        if let Type::Name(_) = to {
+            return String::from(ONLY_A_NAME);
+        }
+        let missing = to.rights() & !from.rights();
+        let missing = self.notation.rights(to, missing);
+        format!("needs {missing}, {}", self.has_rights(from))
     }
 
-    fn base(&self, kind: Kind) -> String {
-        match kind {
-            Kind::Integer => String::from("integer"),
-            Kind::Array { .. } => String::from("tray"),
-            Kind::Record { of } => self.names.declared(of),
+    fn base(&self, of: &Type) -> String {
+        match of {
+            Type::Integer => String::from("integer"),
+            Type::Tray { .. } => String::from("tray"),
+            Type::Declared { of, .. } => self.names.declared(*of),
+            Type::Name(name) => {
+                let of = name.map_or_else(String::new, |name| self.names.declared(name.of));
+                format!("?R of {of}")
+            }
         }
     }
 
-    fn rights(&self, kind: Kind, rights: &Rights) -> String {
-        let all: Vec<String> = rights
-            .members()
-            .map(|right| self.notation.right(kind, right))
-            .collect();
-        match all.is_empty() {
-            true => String::from("no right"),
-            false => all.join(","),
+    /// For example `has read,amend`; of ?R only the least set is known.
+    fn has_rights(&self, of: &Type) -> String {
+        let all = self.notation.rights(of, of.rights());
+        match (of, all.as_str()) {
+            (Type::Name(_), "") => String::from("and of ?R no right is certain"),
+            (Type::Name(_), all) => format!("and of ?R no more than {all} is certain"),
+            (_, "") => String::from("has no right"),
+            (_, all) => format!("has {all}"),
         }
     }
 
@@ -239,10 +310,12 @@ impl Teller<'_> {
         self.names.variable(procedure, variable)
     }
 
-    fn inner(&self, variable: usize) -> usize {
-        let procedure = self.working().map(|(_, procedure)| procedure);
-        let variable = procedure.and_then(|procedure| procedure.variables.get(variable));
-        variable.map_or(0, |variable| variable.inner)
+    /// What a variable is inside the procedure.
+    fn inner(&self, variable: usize) -> Type {
+        let number = self.working().map_or(0, |(number, _)| number);
+        let variable = self.sheet.procedures[number].variables.get(variable);
+        let inner = variable.map_or(0, |variable| variable.inner);
+        self.sheet.read_type(inner, &self.sheet.own_name(number))
     }
 
     /// The procedure that the refused record belongs to.

@@ -6,7 +6,7 @@ use crate::trace::machine::{operation, Machine};
 use crate::trace::value::Teller;
 use reference::{Operation, Place, Procedure, Program, Stop};
 use text::field::Field;
-use text::Names;
+use text::{Names, Sheet, Type};
 
 /// The parts of the instruction that are at fault, and why in words.
 #[derive(Default)]
@@ -28,6 +28,7 @@ impl Reason {
 /// The machine before the step that it does not make.
 pub struct Cause<'a> {
     pub program: &'a Program,
+    pub sheet: &'a Sheet,
     pub machine: &'a Machine<'a>,
     pub teller: Teller<'a>,
     pub place: Place,
@@ -42,6 +43,7 @@ impl<'a> Cause<'a> {
         let program = teller.program;
         Some(Cause {
             program,
+            sheet: teller.sheet,
             machine,
             teller,
             place,
@@ -59,11 +61,13 @@ impl<'a> Cause<'a> {
             Stop::MemoryFull => self.memory_full(),
             Stop::WrongKind => self
                 .form()
+                .or_else(|| self.unsettled())
                 .or_else(|| self.wrong_kind_read())
                 .or_else(|| self.no_tray())
                 .or_else(|| self.wrong_kind_moved()),
             Stop::MissingRight => self
-                .missing_right_used()
+                .short()
+                .or_else(|| self.missing_right_used())
                 .or_else(|| self.missing_right_moved()),
             Stop::Done | Stop::FuelSpent | Stop::InputEnded | Stop::OutputFull => None,
         }
@@ -86,8 +90,10 @@ impl<'a> Cause<'a> {
         self.names().variable(self.place.procedure, variable)
     }
 
-    pub fn inner(&self, variable: usize) -> usize {
-        self.procedure().variables[variable].inner
+    /// What a variable is declared, as the frame reads it.
+    pub fn inner(&self, variable: usize) -> Type {
+        let inner = self.procedure().variables[variable].inner;
+        self.sheet.read_type(inner, &self.machine.reading(0))
     }
 
     fn blank(&self) -> Option<Reason> {

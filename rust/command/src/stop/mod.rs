@@ -11,14 +11,15 @@ mod watched;
 use crate::engine::{agreed, disagree, Lent};
 use crate::progress;
 use crate::source::Source;
-use crate::trace::before_main;
 use crate::trace::machine::Machine;
 use crate::trace::value::Teller;
+use crate::trace::{before_main, NO_SHEET};
 use crate::Failure;
 use cause::{Cause, Reason};
 use reference::machine::Resources;
 use reference::{parse, Outcome, Place, Program, Stop};
 use text::field::Field;
+use text::Sheet;
 
 /// The most steps that are made again only to tell why: some seconds.
 const MOST_STEPS: u64 = 50_000_000;
@@ -124,7 +125,8 @@ fn again(
         memory_words: lent.memory_words,
         output_words: usize::MAX,
     };
-    let mut machine = match Machine::start(program, resources, watch) {
+    let sheet = Sheet::read(lent.sheet).ok_or_else(|| disagree(&outcome, &NO_SHEET))?;
+    let mut machine = match Machine::start(program, &sheet, resources, watch) {
         Ok(machine) => machine,
         Err(stop) => return Err(disagree(&outcome, &before_main(stop))),
     };
@@ -134,7 +136,11 @@ fn again(
     let found = end.map(|stop| machine.outcome(stop));
     agreed(Some(outcome), found)?;
     let names = &source.names;
-    let teller = Teller { program, names };
+    let teller = Teller {
+        program,
+        sheet: &sheet,
+        names,
+    };
     let cause = Cause::new(teller, &machine, lent.memory_words);
     let reason = end.zip(cause).and_then(|(stop, cause)| cause.reason(stop));
     reason.ok_or_else(|| disagree(&outcome, &"that nothing is wrong"))

@@ -2,10 +2,11 @@
 //! is bound to, in the order in which they are tested.
 
 use super::cause::Cause;
-use crate::trace::machine::{operation, Carried, Cell};
+use crate::trace::machine::{operation, Cell};
 use reference::machine::watched::Value;
-use reference::{Kind, Operation, Rights};
+use reference::Operation;
 use text::field::Field;
+use text::{Kind, Reading, Type};
 
 /// A value on its way.
 pub struct Moved {
@@ -16,13 +17,13 @@ pub struct Moved {
     /// Where there is none: what is blank, in words.
     pub blank: Option<String>,
     /// None also on the plain machine, which does not keep it.
-    pub carried: Option<Carried>,
+    pub carried: Option<Type>,
 }
 
 /// A value that is bound to a declared type.
 pub struct Movement {
     pub value: Moved,
-    pub to: usize,
+    pub to: Type,
     /// What is declared so, in words.
     pub destination: String,
 }
@@ -44,7 +45,7 @@ impl Cause<'_> {
                 let slot_name = self.names().slot(owner, slot);
                 vec![Movement {
                     value: self.variable(B, from),
-                    to: self.program.types[owner].slots[slot],
+                    to: self.unnamed(self.program.types[owner].slots[slot]),
                     destination: format!("{}.{slot_name}", self.name(record)),
                 }]
             }
@@ -60,36 +61,45 @@ impl Cause<'_> {
 
     /// Numbers that are computed or taken, and new objects.
     fn made(&self, operation: Operation) -> Vec<Movement> {
-        let (to, kind) = match operation {
+        let (to, made) = match operation {
             Operation::Set { to, .. }
             | Operation::Add { to, .. }
             | Operation::Subtract { to, .. }
             | Operation::Less { to, .. }
             | Operation::Take { to }
-            | Operation::Size { to, .. } => (to, Kind::Integer),
-            Operation::NewArray { to, .. } => (to, self.program.qualified[self.inner(to)].kind),
-            Operation::NewRecord { to } => (to, Kind::Record { of: self.owner() }),
+            | Operation::Size { to, .. } => (to, Type::Integer),
+            Operation::NewArray { to, .. } => (to, self.inner(to)),
+            Operation::NewRecord { to } => {
+                let (of, rights) = (self.owner(), 0);
+                (to, Type::Declared { of, rights })
+            }
             _ => return Vec::new(),
         };
-        vec![self.assigned(self.new_value(kind), to)]
+        vec![self.assigned(self.new_value(&made), to)]
     }
 
-    /// A value that has all rights of its type.
-    fn new_value(&self, kind: Kind) -> Moved {
-        let (source, rights) = match kind {
-            Kind::Integer => ("a number", Rights::NONE),
-            Kind::Array { .. } => ("a new tray", Rights::range(Rights::FETCH, Rights::SIZE)),
-            Kind::Record { of } => {
-                let last = self.program.types[of].named_rights;
-                ("a new record", Rights::range(Rights::OPEN, last))
+    /// A value of the type that has all rights of it.
+    fn new_value(&self, made: &Type) -> Moved {
+        let (source, rights) = match made {
+            Type::Tray { .. } => ("a new tray", 0b1110),
+            Type::Declared { of, .. } => {
+                let last = self.program.types[*of].named_rights;
+                // Rights 0 to last.
+                ("a new record", u32::MAX >> (31 - last))
             }
+            Type::Integer | Type::Name(_) => ("a number", 0),
         };
         Moved {
             parts: vec![Field::A],
             source: String::from(source),
             blank: None,
-            carried: Some(Carried { kind, rights }),
+            carried: Some(made.with(rights)),
         }
+    }
+
+    /// A type in which ?R does not stand.
+    fn unnamed(&self, qualified: usize) -> Type {
+        self.sheet.read_type(qualified, &Reading::Name(None))
     }
 
     fn assigned(&self, value: Moved, to: usize) -> Movement {
@@ -103,8 +113,8 @@ impl Cause<'_> {
     fn stored(&self, array: usize, value: Moved) -> Vec<Movement> {
         let held = self.machine.variable(array);
         // What the plain machine stores is not bound: any type will do.
-        let to = match held.and_then(|held| held.carried).map(|array| array.kind) {
-            Some(Kind::Array { element }) => element,
+        let to = match held.and_then(|held| held.carried) {
+            Some(Type::Tray { element, .. }) => *element,
             _ => self.inner(array),
         };
         let destination = format!("a cell of {}", self.name(array));
@@ -117,22 +127,29 @@ impl Cause<'_> {
 
     /// Each actual is bound to need; then it is amplified or bound to inner.
     fn actuals(&self, procedure: usize, first: usize) -> Vec<Movement> {
-        let callee = &self.program.procedures[procedure];
+        let callee = &self.sheet.procedures[procedure];
         let called = self.names().procedure(procedure);
-        let of_owner = |kind| matches!(kind, Kind::Record { of } if Some(of) == callee.owner);
+        let settling = self.settling();
+        let reading = settling.map_or(Reading::Name(None), |(_, settling)| settling.reading());
+        let owner = callee.owner;
+        let of_owner = |value: &Type| value.declared().is_some() && value.declared() == owner;
         let mut movements = Vec::new();
         for formal in 0..callee.formals {
             let name = self.names().variable(procedure, formal);
             let variable = &callee.variables[formal];
             let needed = Movement {
                 value: self.variable(Field::Actual(formal), first + formal),
-                to: variable.need.unwrap_or(variable.inner),
+                to: self
+                    .sheet
+                    .read_type(variable.need.unwrap_or(variable.inner), &reading),
                 destination: format!("what {called} needs as {name}"),
             };
-            let kind = needed.value.carried.map(|carried| carried.kind);
-            let inner = self.program.qualified[variable.inner].kind;
-            let amplified = kind.is_some_and(of_owner) && of_owner(inner);
-            let inside = self.onward(&needed, variable.inner, format!("{name} in {called}"));
+            // ?R is never amplified: inner is asked as it stands.
+            let inner = self.sheet.qualified[variable.inner].kind;
+            let inner = matches!(inner, Kind::Declared { of } if Some(of) == owner);
+            let amplified = inner && needed.value.carried.as_ref().is_some_and(of_owner);
+            let to = self.sheet.read_type(variable.inner, &reading);
+            let inside = self.onward(&needed, to, format!("{name} in {called}"));
             movements.push(needed);
             movements.extend(inside.filter(|_| !amplified));
         }
@@ -142,9 +159,10 @@ impl Cause<'_> {
     /// A returned value is bound to the result, then to the variable of the
     /// caller that keeps it.
     fn returned(&self, value: Moved) -> Vec<Movement> {
-        let Some(to) = self.procedure().result else {
+        let Some(result) = self.procedure().result else {
             return Vec::new();
         };
+        let to = self.sheet.read_type(result, &self.machine.reading(0));
         let own = self.names().procedure(self.place.procedure);
         let result = Movement {
             value,
@@ -158,6 +176,7 @@ impl Cause<'_> {
         });
         let kept = kept.and_then(|(caller, to)| {
             let inner = self.program.procedures[caller].variables[to].inner;
+            let inner = self.sheet.read_type(inner, &self.machine.reading(1));
             let name = self.names().variable(caller, to);
             let caller = self.names().procedure(caller);
             self.onward(&result, inner, format!("{name} in {caller}"))
@@ -167,14 +186,14 @@ impl Cause<'_> {
 
     /// A value that is bound once more, now with the rights of its first
     /// binding.
-    fn onward(&self, first: &Movement, to: usize, destination: String) -> Option<Movement> {
-        let Carried { kind, .. } = first.value.carried?;
-        let rights = self.program.qualified[first.to].rights;
+    fn onward(&self, first: &Movement, to: Type, destination: String) -> Option<Movement> {
+        let carried = first.value.carried.as_ref()?;
+        let carried = carried.with(first.to.rights());
         let value = Moved {
             parts: first.value.parts.clone(),
             source: first.destination.clone(),
             blank: None,
-            carried: Some(Carried { kind, rights }),
+            carried: Some(carried),
         };
         Some(Movement {
             value,
@@ -213,7 +232,7 @@ impl Cause<'_> {
     }
 
     fn moved(&self, parts: Vec<Field>, source: String, blank: String, cell: Cell) -> Moved {
-        let source = match cell.map(|held| held.value) {
+        let source = match cell.as_ref().map(|held| held.value) {
             Some(Value::Object(number)) => format!("{source}, object {number}"),
             _ => source,
         };

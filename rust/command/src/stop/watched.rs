@@ -3,9 +3,10 @@
 use super::cause::{Cause, Reason};
 use super::movement::Movement;
 use super::reads::{reads, Due, Read};
-use crate::trace::machine::Carried;
-use reference::{Kind, Operation, Rights};
+use crate::settling::{Called, Settling};
+use reference::{Operation, Rights};
 use text::field::Field;
+use text::Type;
 
 impl Cause<'_> {
     /// 18: a return, or a call that keeps a result, against the result.
@@ -50,7 +51,7 @@ impl Cause<'_> {
         let mut read = reads(self.operation).into_iter();
         let (read, carried) = read.find_map(|read| {
             let carried = self.carried(read.variable)?;
-            (!self.is_due(read.due, carried.kind)).then_some((read, carried))
+            (!self.is_due(read.due, &carried)).then_some((read, carried))
         })?;
         let Read {
             part,
@@ -65,7 +66,7 @@ impl Cause<'_> {
                 format!("{owner}{{..}}, the type that the procedure is of")
             }
         };
-        let found = self.teller.carried(carried);
+        let found = self.teller.notation().said(&carried);
         let lines = vec![
             format!("needs {needs}"),
             format!("found {found}  ({})", self.held(variable)),
@@ -74,12 +75,46 @@ impl Cause<'_> {
         Some(Reason { parts, lines })
     }
 
-    fn is_due(&self, due: Due, kind: Kind) -> bool {
-        match (due, kind) {
-            (Due::Integer, Kind::Integer) | (Due::Array, Kind::Array { .. }) => true,
-            (Due::Owned, Kind::Record { of }) => self.procedure().owner == Some(of),
+    fn is_due(&self, due: Due, found: &Type) -> bool {
+        match (due, found) {
+            (Due::Integer, Type::Integer) | (Due::Array, Type::Tray { .. }) => true,
+            (Due::Owned, Type::Declared { of, .. }) => self.procedure().owner == Some(*of),
             _ => false,
         }
+    }
+
+    /// What the call that is due settles, a caller's ?R read as its frame's
+    /// set; None where the procedure called has no rights name.
+    pub fn settling(&self) -> Option<(Called, Settling)> {
+        let procedure = &self.sheet.procedures[self.place.procedure];
+        let record = procedure.instructions[self.place.instruction].place;
+        let call = Called::at(self.sheet, self.place.procedure, record)?;
+        let settling = call.settling_as(self.sheet, &self.machine.reading(0))?;
+        Some((call, settling))
+    }
+
+    /// 18: what check refuses with 20.
+    pub fn unsettled(&self) -> Option<Reason> {
+        let (call, settling) = self.settling()?;
+        let notation = self.teller.notation();
+        let (formals, line) = call.teller(notation).unsettled(&settling)?;
+        let parts: Vec<Field> = formals.into_iter().map(Field::Actual).collect();
+        let parts = if parts.is_empty() {
+            vec![Field::K]
+        } else {
+            parts
+        };
+        let lines = vec![line];
+        Some(Reason { parts, lines })
+    }
+
+    /// 19: what check refuses with 21.
+    pub fn short(&self) -> Option<Reason> {
+        let (call, settling) = self.settling()?;
+        let notation = self.teller.notation();
+        let (formals, lines) = call.teller(notation).short(&settling)?;
+        let parts = formals.into_iter().map(Field::Actual).collect();
+        Some(Reason { parts, lines })
     }
 
     /// 18: the variable of a new tray is not declared a tray.
@@ -88,10 +123,10 @@ impl Cause<'_> {
             return None;
         };
         let declared = self.inner(to);
-        if matches!(self.program.qualified[declared].kind, Kind::Array { .. }) {
+        if matches!(declared, Type::Tray { .. }) {
             return None;
         }
-        let declared = self.teller.notation().qualified(declared);
+        let declared = self.teller.notation().said(&declared);
         Some(Reason {
             parts: vec![Field::A],
             lines: vec![
@@ -104,18 +139,14 @@ impl Cause<'_> {
     /// 18: a value is bound to a declared type of another kind.
     pub fn wrong_kind_moved(&self) -> Option<Reason> {
         let bound = self.movements().into_iter().filter_map(with_carried);
-        let differs = |(movement, carried): &(Movement, Carried)| {
-            let declared = self.program.qualified[movement.to].kind;
-            !self.program.same_kind(carried.kind, declared)
-        };
+        let differs = |(movement, carried): &(Movement, Type)| !carried.is_alike(&movement.to);
         let (movement, carried) = { bound }.find(differs)?;
-        let declared = self.program.qualified[movement.to].kind;
-        let mut lines = self.compared(["needs", "found"], &movement, carried);
-        if let (Kind::Array { element: needs }, Kind::Array { element: has }) =
-            (declared, carried.kind)
+        let mut lines = self.compared(["needs", "found"], &movement, &carried);
+        if let (Type::Tray { element: needs, .. }, Type::Tray { element: has, .. }) =
+            (&movement.to, &carried)
         {
             let notation = self.teller.notation();
-            let (needs, has) = (notation.qualified(needs), notation.qualified(has));
+            let (needs, has) = (notation.said(needs), notation.said(has));
             lines.push(format!(
                 "the elements of trays must be equal, not more and not less: needs {needs}, has {has}"
             ));
@@ -135,16 +166,17 @@ impl Cause<'_> {
             _ => return None,
         };
         let carried = self.carried(variable)?;
-        if carried.rights.contains(right) {
+        let rights = 1 << right;
+        if carried.rights() & rights != 0 {
             return None;
         }
-        let rights = Rights::range(right, right);
-        let needed = self.teller.carried(Carried { rights, ..carried });
-        let found = self.teller.carried(carried);
+        let notation = self.teller.notation();
+        let needed = notation.said(&carried.with(rights));
+        let found = notation.said(&carried);
         let lines = vec![
             format!("needs   {needed}"),
             format!("carries {found}  ({})", self.held(variable)),
-            self.lacks(&rights, carried),
+            self.lacks(rights, &carried),
         ];
         let parts = vec![part];
         Some(Reason { parts, lines })
@@ -153,22 +185,18 @@ impl Cause<'_> {
     /// 19: a value is bound to a declared type that has more rights.
     pub fn missing_right_moved(&self) -> Option<Reason> {
         let bound = self.movements().into_iter().filter_map(with_carried);
-        let lacks = |(movement, carried): &(Movement, Carried)| {
-            let declared = &self.program.qualified[movement.to];
-            !carried.rights.includes(&declared.rights)
-        };
+        let lacks = |(movement, carried): &(Movement, Type)| !carried.covers(&movement.to);
         let (movement, carried) = { bound }.find(lacks)?;
-        let mut lines = self.compared(["needs  ", "carries"], &movement, carried);
-        let declared = &self.program.qualified[movement.to].rights;
-        lines.push(self.lacks(declared, carried));
+        let mut lines = self.compared(["needs  ", "carries"], &movement, &carried);
+        lines.push(self.lacks(movement.to.rights(), &carried));
         let parts = movement.value.parts;
         Some(Reason { parts, lines })
     }
 
     /// The declared type and what the value carries, one below the other.
-    fn compared(&self, heads: [&str; 2], movement: &Movement, carried: Carried) -> Vec<String> {
-        let declared = self.teller.notation().qualified(movement.to);
-        let found = self.teller.carried(carried);
+    fn compared(&self, heads: [&str; 2], movement: &Movement, carried: &Type) -> Vec<String> {
+        let notation = self.teller.notation();
+        let (declared, found) = (notation.said(&movement.to), notation.said(carried));
         let width = declared.chars().count().max(found.chars().count());
         vec![
             format!(
@@ -180,12 +208,13 @@ impl Cause<'_> {
     }
 
     /// The rights needed that are not carried.
-    fn lacks(&self, needed: &Rights, Carried { kind, rights }: Carried) -> String {
-        let missing = needed.members().filter(|&right| !rights.contains(right));
-        format!("lacks   {}", self.teller.rights(kind, missing))
+    fn lacks(&self, needed: u32, carried: &Type) -> String {
+        let missing = needed & !carried.rights();
+        let missing = self.teller.notation().rights(carried, missing);
+        format!("lacks   {missing}")
     }
 
-    fn carried(&self, variable: usize) -> Option<Carried> {
+    fn carried(&self, variable: usize) -> Option<Type> {
         self.machine.variable(variable)?.carried
     }
 
@@ -199,7 +228,7 @@ impl Cause<'_> {
     }
 }
 
-fn with_carried(movement: Movement) -> Option<(Movement, Carried)> {
-    let carried = movement.value.carried?;
+fn with_carried(movement: Movement) -> Option<(Movement, Type)> {
+    let carried = movement.value.carried.clone()?;
     Some((movement, carried))
 }

@@ -6,6 +6,7 @@ use super::value::Teller;
 use crate::source::Source;
 use reference::{Operation, Place, Program};
 use text::field::Field;
+use text::{Reading, Sheet};
 
 /// Tells of the steps of a run.
 pub struct Effects<'a> {
@@ -13,6 +14,7 @@ pub struct Effects<'a> {
     /// The lines of the source.
     pub lines: &'a [&'a str],
     pub program: &'a Program,
+    pub sheet: &'a Sheet,
     /// How many reads are lent.
     pub reads: usize,
 }
@@ -122,6 +124,7 @@ impl Effects<'_> {
     fn teller(&self) -> Teller<'_> {
         Teller {
             program: self.program,
+            sheet: self.sheet,
             names: &self.source.names,
         }
     }
@@ -129,8 +132,8 @@ impl Effects<'_> {
     /// For example `i = 3`.
     fn assigned(&self, machine: &Machine, procedure: usize, to: usize, moved: &[Cell]) -> String {
         let name = self.source.names.variable(procedure, to);
-        let before = moved.first().copied().flatten();
-        let value = self.teller().moved(machine.variable(to), before);
+        let before = moved.first().unwrap_or(&None);
+        let value = self.teller().moved(&machine.variable(to), before);
         format!("{name} = {value}")
     }
 
@@ -164,21 +167,28 @@ impl Effects<'_> {
         part: &str,
     ) -> String {
         let object = machine.object(holder).unwrap_or(0);
-        let before = due.moved.first().copied().flatten();
-        let value = self.teller().moved(machine.cell(holder, index), before);
+        let before = due.moved.first().unwrap_or(&None);
+        let value = self.teller().moved(&machine.cell(holder, index), before);
         format!("object {object}{part} = {value}")
     }
 
-    /// For example `opens length_of: item = object 1`.
+    /// For example `opens length_of: item = object 1`. A frame with a rights
+    /// name says what it is settled to: `opens sort for ?R = call{read}`.
     fn called(&self, due: &Due, machine: &Machine, procedure: usize) -> String {
         let names = &self.source.names;
-        let formals = due.moved.iter().enumerate().map(|(formal, &before)| {
+        let formals = due.moved.iter().enumerate().map(|(formal, before)| {
             let name = names.variable(procedure, formal);
-            let value = self.teller().moved(machine.variable(formal), before);
+            let value = self.teller().moved(&machine.variable(formal), before);
             format!("{name} = {value}")
         });
         let formals: Vec<String> = formals.collect();
-        let opens = format!("opens {}", names.procedure(procedure));
+        let settled = match machine.reading(0) {
+            Reading::As(settled) => {
+                format!(" for ?R = {}", self.teller().notation().said(&settled))
+            }
+            Reading::Name(_) => String::new(),
+        };
+        let opens = format!("opens {}{settled}", names.procedure(procedure));
         match formals.is_empty() {
             true => opens,
             false => format!("{opens}: {}", formals.join(", ")),
@@ -191,14 +201,14 @@ impl Effects<'_> {
             return String::from("main ends");
         };
         let back = format!("back in {}", self.source.names.procedure(call.procedure));
-        let Some(&value) = due.moved.first() else {
+        let Some(value) = due.moved.first() else {
             return back;
         };
         match operation(self.program, call) {
             Operation::Call {
                 result: Some(to), ..
             } => {
-                let kept = self.assigned(machine, call.procedure, to, &[value]);
+                let kept = self.assigned(machine, call.procedure, to, &due.moved);
                 format!("{back}: {kept}")
             }
             _ => format!("{back}: {} is dropped", self.teller().cell(value)),

@@ -1,28 +1,35 @@
 //! A machine of the second engine, the plain or the watched one, as those who
 //! tell of a run look at it.
 
+use crate::settling::Called;
 use reference::machine::watched::Value;
 use reference::machine::{plain, watched, Resources};
 use reference::{Kind, Operation, Outcome, Place, Program, Rights, Stop};
+use text::{Reading, Sheet, Type};
 
-pub enum Machine<'a> {
+pub struct Machine<'a> {
+    engine: Engine<'a>,
+    sheet: &'a Sheet,
+    /// What the watched machine reads ?R as, in each frame and in the element
+    /// of each object.
+    frames: Vec<Reading>,
+    objects: Vec<Reading>,
+}
+
+enum Engine<'a> {
     Plain(plain::Machine<'a>),
     Watched(watched::Machine<'a>),
 }
 
+use Engine::{Plain, Watched};
+
 /// What a filled variable, cell or slot holds.
-#[derive(Clone, Copy)]
+#[derive(Clone)]
 pub struct Held {
     pub value: Value,
-    /// Only the watched machine keeps it.
-    pub carried: Option<Carried>,
-}
-
-/// The type of a value and the rights that it carries.
-#[derive(Clone, Copy)]
-pub struct Carried {
-    pub kind: Kind,
-    pub rights: Rights,
+    /// The type of the value with the rights that it carries; only the
+    /// watched machine keeps it.
+    pub carried: Option<Type>,
 }
 
 /// How many frames and objects are added up in the time of a simple step.
@@ -35,30 +42,79 @@ impl<'a> Machine<'a> {
     /// Opens main's frame, or says that the memory is full.
     pub fn start(
         program: &'a Program,
+        sheet: &'a Sheet,
         resources: Resources<'a>,
         watch: bool,
     ) -> Result<Self, Stop> {
-        match watch {
-            true => watched::Machine::start(program, resources).map(Machine::Watched),
-            false => plain::Machine::start(program, resources).map(Machine::Plain),
-        }
+        let engine = match watch {
+            true => Watched(watched::Machine::start(program, resources)?),
+            false => Plain(plain::Machine::start(program, resources)?),
+        };
+        Ok(Machine {
+            engine,
+            sheet,
+            frames: vec![Reading::Name(None)],
+            objects: Vec::new(),
+        })
     }
 
     /// Makes a step, or gives the stop; None where the machine is stuck.
     pub fn step(&mut self) -> Result<(), Option<Stop>> {
-        match self {
-            Machine::Plain(machine) => machine.step().map_err(|end| match end {
+        match &mut self.engine {
+            Plain(machine) => machine.step().map_err(|end| match end {
                 plain::End::Stop(stop) => Some(stop),
                 plain::End::Stuck => None,
             }),
-            Machine::Watched(machine) => machine.step().map_err(Some),
+            Watched(machine) => {
+                let due = machine.due();
+                machine.step().map_err(Some)?;
+                if let Some((place, operation)) = due {
+                    self.follow(place, operation);
+                }
+                Ok(())
+            }
         }
+    }
+
+    /// Keeps what ?R is read as where a frame or an object is made.
+    fn follow(&mut self, place: Place, operation: Operation) {
+        match operation {
+            Operation::Call { procedure, .. } => {
+                let reading = self.settled(place, procedure);
+                self.frames.push(reading);
+            }
+            Operation::Return { .. } => {
+                self.frames.pop();
+            }
+            Operation::NewArray { .. } | Operation::NewRecord { .. } => {
+                self.objects.push(self.reading(0));
+            }
+            _ => (),
+        }
+    }
+
+    /// What the frame that a call opens reads ?R as.
+    fn settled(&self, place: Place, callee: usize) -> Reading {
+        if self.sheet.procedures[callee].name.is_none() {
+            return Reading::Name(None);
+        }
+        let instructions = &self.sheet.procedures[place.procedure].instructions;
+        let record = instructions[place.instruction].place;
+        let call = Called::at(self.sheet, place.procedure, record);
+        let settling = call.and_then(|call| call.settling_as(self.sheet, &self.reading(0)));
+        settling.map_or(Reading::Name(None), |settling| settling.reading())
+    }
+
+    /// What a frame reads ?R as, 0 being the one that works and 1 its caller.
+    pub fn reading(&self, depth: usize) -> Reading {
+        let reading = self.frames.iter().nth_back(depth);
+        reading.cloned().unwrap_or(Reading::Name(None))
     }
 
     /// How long the next step takes, a simple one being 1: the watched machine
     /// adds up all frames and objects before it makes one more.
     pub fn weight(&self) -> u64 {
-        let Machine::Watched(machine) = self else {
+        let Watched(machine) = &self.engine else {
             return 1;
         };
         match machine.due() {
@@ -75,9 +131,9 @@ impl<'a> Machine<'a> {
     }
 
     pub fn outcome(&self, stop: Stop) -> Outcome {
-        match self {
-            Machine::Plain(machine) => machine.outcome(stop),
-            Machine::Watched(machine) => machine.outcome(stop),
+        match &self.engine {
+            Plain(machine) => machine.outcome(stop),
+            Watched(machine) => machine.outcome(stop),
         }
     }
 
@@ -99,12 +155,12 @@ impl<'a> Machine<'a> {
     /// The next instruction of a frame, 0 being the one that works and 1 its
     /// caller.
     fn next_of(&self, depth: usize) -> Option<Place> {
-        let (procedure, instruction) = match self {
-            Machine::Plain(machine) => {
+        let (procedure, instruction) = match &self.engine {
+            Plain(machine) => {
                 let frame = machine.state().frames.iter().nth_back(depth)?;
                 (frame.procedure, frame.next)
             }
-            Machine::Watched(machine) => {
+            Watched(machine) => {
                 let frame = machine.state().frames.iter().nth_back(depth)?;
                 (frame.procedure, frame.next)
             }
@@ -117,15 +173,15 @@ impl<'a> Machine<'a> {
 
     /// What a variable of the frame that works holds.
     pub fn variable(&self, number: usize) -> Cell {
-        match self {
-            Machine::Plain(machine) => {
+        match &self.engine {
+            Plain(machine) => {
                 let frame = machine.state().frames.last()?;
                 unwatched(*frame.variables.get(number)?)
             }
-            Machine::Watched(machine) => {
+            Watched(machine) => {
                 let state = machine.state();
                 let variables = &state.frames.last()?.variables;
-                carrying(state, *variables.get(number)?)
+                self.carrying(state, *variables.get(number)?)
             }
         }
     }
@@ -147,48 +203,68 @@ impl<'a> Machine<'a> {
 
     /// How many cells or slots an object has.
     pub fn size(&self, object: usize) -> usize {
-        match self {
-            Machine::Plain(machine) => machine.state().objects[object].cells().len(),
-            Machine::Watched(machine) => machine.state().objects[object].cells.len(),
+        match &self.engine {
+            Plain(machine) => machine.state().objects[object].cells().len(),
+            Watched(machine) => machine.state().objects[object].cells.len(),
         }
     }
 
     /// What a cell or a slot of the object in a variable holds.
     pub fn cell(&self, variable: usize, index: usize) -> Cell {
         let object = self.object(variable)?;
-        match self {
-            Machine::Plain(machine) => {
+        match &self.engine {
+            Plain(machine) => {
                 let cells = machine.state().objects[object].cells();
                 unwatched(*cells.get(index)?)
             }
-            Machine::Watched(machine) => {
+            Watched(machine) => {
                 let state = machine.state();
-                carrying(state, *state.objects[object].cells.get(index)?)
+                self.carrying(state, *state.objects[object].cells.get(index)?)
             }
         }
     }
 
     /// How many reads were taken.
     pub fn taken(&self) -> usize {
-        match self {
-            Machine::Plain(machine) => machine.state().taken,
-            Machine::Watched(machine) => machine.state().taken,
+        match &self.engine {
+            Plain(machine) => machine.state().taken,
+            Watched(machine) => machine.state().taken,
         }
     }
 
     /// The words put.
     pub fn put(&self) -> &[u32] {
-        match self {
-            Machine::Plain(machine) => &machine.state().output,
-            Machine::Watched(machine) => &machine.state().output,
+        match &self.engine {
+            Plain(machine) => &machine.state().output,
+            Watched(machine) => &machine.state().output,
         }
+    }
+
+    /// What a cell of the watched machine holds, with the type of its value.
+    fn carrying(&self, state: &watched::State, cell: watched::Cell) -> Cell {
+        let watched::Held { value, rights } = cell?;
+        let rights = bits(&rights);
+        let carried = match (value, state.kind(value)) {
+            (Value::Object(number), Kind::Array { element }) => {
+                let unread = Reading::Name(None);
+                let reading = self.objects.get(number).unwrap_or(&unread);
+                let element = Box::new(self.sheet.read_type(element, reading));
+                Type::Tray { element, rights }
+            }
+            (_, Kind::Record { of }) => Type::Declared { of, rights },
+            _ => Type::Integer,
+        };
+        Some(Held {
+            value,
+            carried: Some(carried),
+        })
     }
 
     /// The units of the live frames and of all objects.
     pub fn units(&self) -> usize {
-        match self {
-            Machine::Plain(machine) => machine.state().units,
-            Machine::Watched(machine) => machine.state().units(),
+        match &self.engine {
+            Plain(machine) => machine.state().units,
+            Watched(machine) => machine.state().units(),
         }
     }
 }
@@ -211,14 +287,9 @@ fn unwatched(cell: plain::Cell) -> Cell {
     Some(Held { value, carried })
 }
 
-fn carrying(state: &watched::State, cell: watched::Cell) -> Cell {
-    cell.map(|watched::Held { value, rights }| Held {
-        value,
-        carried: Some(Carried {
-            kind: state.kind(value),
-            rights,
-        }),
-    })
+/// Bit i for right i.
+fn bits(rights: &Rights) -> u32 {
+    rights.members().fold(0, |bits, right| bits | 1 << right)
 }
 
 /// The instruction at a place.

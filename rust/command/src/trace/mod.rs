@@ -15,6 +15,10 @@ use machine::Machine;
 use reference::machine::Resources;
 use reference::{parse, Outcome, Place, Stop};
 use std::io::Write;
+use text::Sheet;
+
+/// What is said where only the second engine reads a sheet.
+pub const NO_SHEET: &str = "that it is no sheet";
 
 /// Lists the steps and sees that they end as the proved machine did, which
 /// left this report, and put the same words.
@@ -33,7 +37,8 @@ pub fn trace(
         memory_words: lent.memory_words,
         output_words: report.len(),
     };
-    let mut machine = match Machine::start(&program, resources, watch) {
+    let sheet = Sheet::read(lent.sheet).ok_or_else(|| disagree(&expected, &NO_SHEET))?;
+    let mut machine = match Machine::start(&program, &sheet, resources, watch) {
         Ok(machine) => machine,
         // Where main's frame has no room there is no step to list.
         Err(stop) => return agreed(expected, before_main(stop)).map(|_| ()),
@@ -45,6 +50,7 @@ pub fn trace(
             source,
             lines: &lines,
             program: &program,
+            sheet: &sheet,
             reads: lent.reads.len(),
         },
     };

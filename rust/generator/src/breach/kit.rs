@@ -27,6 +27,11 @@ pub struct Kit {
     /// The kit's qualified types, from the first to the last.
     pub own: Vec<u8>,
     pub integer: u8,
+    /// ?R, an array of it and an array of arrays, each with all rights.
+    pub generic: [u8; 3],
+    /// The two rights of the subject that the kit's types have.
+    pub low: u16,
+    pub high: u16,
 }
 
 impl Kit {
@@ -42,12 +47,21 @@ impl Kit {
         sheet
             .qualified
             .extend(qualified_types(first, subject, 1 << low, 1 << high));
+        let generic = sheet.qualified.len() as u8;
+        sheet.qualified.push(QualifiedRecord::GENERIC);
+        for element in [generic, generic + 1] {
+            let array = QualifiedRecord::array(element, ARRAY_ALL);
+            sheet.qualified.push(array);
+        }
         let mut kit = Kit {
             typing: Typing::of(&sheet.qualified),
             subject,
             stranger: subject + 1,
-            own: (first..sheet.qualified.len() as u8).collect(),
+            own: (first..generic).collect(),
             integer: first,
+            generic: [generic, generic + 1, generic + 2],
+            low: 1 << low,
+            high: 1 << high,
             sheet,
         };
         kit.fill_slots(random);

@@ -5,6 +5,8 @@
 //! be refused at. Both stand on a random accepted sheet, to which the types
 //! that the flaw needs are added.
 
+mod generic;
+mod generic_call;
 mod instruction;
 mod kit;
 mod movement;
@@ -12,6 +14,8 @@ mod record;
 
 use crate::random::Random;
 use crate::sheet::{At, Sheet};
+pub use generic::{GenericFlaw, GenericRoute};
+pub use generic_call::CallFlaw;
 use kit::Kit;
 
 /// One way to break one access rule at one kind of place.
@@ -44,6 +48,11 @@ pub enum Flaw {
     ReturnedNothing,
     /// 8: a return with a variable though there is no result.
     ReturnedTooMuch,
+    /// 5, 7, 8 or 9: a rights name where it may not stand, or that is not
+    /// reached.
+    Generic(GenericFlaw),
+    /// 8, 9, 20 or 21: a call that does not settle a rights name as it must.
+    Settled(CallFlaw),
 }
 
 /// The owner of the procedure, seen from the declared type in question.
@@ -102,6 +111,8 @@ impl Flaw {
             Flaw::ReturnedNothing,
             Flaw::ReturnedTooMuch,
         ];
+        flaws.extend(GenericFlaw::all().into_iter().map(Flaw::Generic));
+        flaws.extend(CallFlaw::ALL.map(Flaw::Settled));
         for owner in [Owner::None, Owner::Same, Owner::Other] {
             flaws.push(Flaw::OpenResult(owner));
             flaws.push(Flaw::OpenNeed(owner));
@@ -137,6 +148,8 @@ impl Flaw {
             Flaw::KeptNothing => movement::kept_nothing(kit, random),
             Flaw::ReturnedNothing => movement::returned_nothing(kit, random),
             Flaw::ReturnedTooMuch => movement::returned_too_much(kit, random),
+            Flaw::Generic(flaw) => flaw.build(kit, random),
+            Flaw::Settled(flaw) => flaw.build(kit, random),
         }
     }
 }

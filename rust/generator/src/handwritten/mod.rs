@@ -1,9 +1,10 @@
-//! Hand-written sheets, each with the sentence of document 01 that it tries
+//! Hand-written sheets, each with the sentence of document 01 or 02 that it tries
 //! and the verdict written out.
 
 mod catalogue;
 mod depths;
 mod forms;
+mod generics;
 mod kinds;
 mod known;
 mod layout;
@@ -36,6 +37,7 @@ pub fn cases() -> Vec<Case> {
     all.extend(precedence::cases());
     all.extend(depths::cases());
     all.extend(numbers::cases());
+    all.extend(generics::cases());
     all
 }
 

@@ -2,6 +2,8 @@
 
 use super::program::CONTROL;
 use crate::random::Random;
+use crate::reading::Scope;
+use crate::records::GENERIC;
 use crate::sheet::{Procedure, Sheet};
 use crate::typing::Typing;
 
@@ -70,6 +72,16 @@ impl<'a> Chooser<'a> {
         .or_else(|| self.random.pick(&passing))
     }
 
+    /// A filled variable that is ?R itself.
+    pub fn filled_generic(&mut self) -> Option<u8> {
+        let count = self.procedure().variables.len() as u8;
+        let filled: Vec<u8> = (0..count)
+            .filter(|&v| self.fill(v) != Fill::Unknown)
+            .filter(|&v| self.typing.get(self.inner(v)).base == GENERIC)
+            .collect();
+        self.random.pick(&filled)
+    }
+
     /// An integer variable; the last of the body's own if there is no other.
     pub fn integer(&mut self) -> u8 {
         let free = self.variable(|typing, inner| typing.is_integer(inner));
@@ -92,14 +104,20 @@ impl<'a> Chooser<'a> {
     pub fn receiver(&mut self, source: u8) -> Option<u8> {
         match self.typing.is_integer(source) {
             true => Some(self.integer()),
-            false => self.variable(|typing, inner| typing.fits(source, inner)),
+            false => {
+                let bound = self.procedure().bound;
+                self.variable(|typing, inner| Scope { typing, bound }.fits(source, inner))
+            }
         }
     }
 
     pub fn giver(&mut self, destination: u8) -> Option<u8> {
         match self.typing.is_integer(destination) {
             true => Some(self.integer()),
-            false => self.variable(|typing, inner| typing.fits(inner, destination)),
+            false => {
+                let bound = self.procedure().bound;
+                self.variable(|typing, inner| Scope { typing, bound }.fits(inner, destination))
+            }
         }
     }
 

@@ -1,6 +1,7 @@
 //! The families of sheets to be run.
 
 use super::program::runnable;
+use super::settling::settling;
 use super::trial::trial;
 use super::{around, plenty, Run};
 use crate::accepted::accepted;
@@ -36,6 +37,13 @@ pub const TRIALS: Family = Family {
     name: "trials",
     accepted: false,
     sheet: |random, seed| trial(random, (seed % 17) as u8 + 1),
+};
+
+/// One call of a procedure with a rights name.
+pub const SETTLING: Family = Family {
+    name: "settling",
+    accepted: false,
+    sheet: |random, _| settling(random),
 };
 
 /// Runnable sheets in which one to three fields are drawn anew, within the

@@ -2,6 +2,8 @@
 //!
 //! - [`program::runnable`]: accepted sheets that loop, recurse, nest arrays
 //!   and fill records, mostly with filled variables;
+//! - [`settling::settling`]: well-formed sheets that lead up to one call of a
+//!   procedure with a rights name;
 //! - [`trial::trial`]: well-formed sheets that lead up to one instruction on
 //!   operands of any types, filled or blank, most of which check refuses.
 //!
@@ -12,7 +14,9 @@
 mod chooser;
 pub mod families;
 mod filling;
+mod generics;
 pub mod program;
+pub mod settling;
 mod statements;
 pub mod stops;
 pub mod trial;

@@ -4,11 +4,14 @@
 //! Procedure 0 is main. For each declared type there is a maker, which gives
 //! back a new record with all rights but open, so that a variable of any type
 //! can be filled in any procedure. The others are drawn: workers with formals,
-//! some amplified, some of which call themselves.
+//! some amplified, some of which call themselves, and some with a rights name
+//! ([`super::generics`]).
 
 use super::writer::{Plan, Writer};
 use crate::random::Random;
-use crate::records::{QualifiedRecord, TypeRecord, VariableRecord, ARRAY_ALL, NONE, OPEN};
+use crate::records::{
+    BoundRecord, QualifiedRecord, TypeRecord, VariableRecord, ARRAY_ALL, NONE, OPEN,
+};
 use crate::sheet::{Procedure, Sheet, SheetBuilder};
 use crate::typing::Typing;
 
@@ -24,6 +27,9 @@ pub const CONTROL: usize = 6;
 pub fn runnable(random: &mut Random) -> Sheet {
     let mut author = Author::new(random);
     author.declare_makers();
+    if !author.random.one_in(3) {
+        author.declare_generics();
+    }
     for _ in 0..author.random.between(1, 4) {
         let worker = author.worker();
         author.sheet.procedures.push(worker);
@@ -38,6 +44,8 @@ pub(super) struct Author<'a> {
     pub random: &'a mut Random,
     pub sheet: Sheet,
     pub typing: Typing,
+    /// The base of the rights names, if there are any.
+    pub generic_base: Option<u8>,
 }
 
 impl<'a> Author<'a> {
@@ -47,6 +55,7 @@ impl<'a> Author<'a> {
             random,
             sheet: SheetBuilder::new().procedure(Procedure::main()).build(),
             typing: Typing::of(&[]),
+            generic_base: None,
         };
         let types = author.random.between(1, 3);
         author.add(QualifiedRecord::INTEGER);
@@ -137,36 +146,55 @@ impl<'a> Author<'a> {
             0 => 0,
             _ => self.random.below(self.sheet.types.len()) as u8 + 2,
         };
-        let closed = self.typing.closed();
-        let result = match self.random.below(3) {
-            0 => NONE,
-            1 => INTEGER,
-            _ => self.random.pick(&closed).unwrap_or(NONE),
-        };
-        let mut worker = Procedure::new(owner, result);
+        let bound = self.bound();
+        let mut worker = Procedure::new(owner, self.result(bound));
+        worker.bound = bound;
         if self.random.one_in(3) {
             worker = worker.formal(INTEGER, INTEGER);
         }
+        if bound.is_some() {
+            worker = self.with_generic_formals(worker);
+        }
         for _ in 0..self.random.between(0, 3) {
-            let inner = self.inner(owner);
-            let need = match self.typing.get(inner).base {
-                base if base == owner && base >= 2 => {
-                    let needs = closed.iter().copied();
-                    let needs: Vec<u8> = needs
-                        .filter(|&need| self.typing.get(need).base == base)
-                        .collect();
-                    self.random.pick(&needs).unwrap_or(inner)
-                }
-                _ => inner,
-            };
+            let inner = self.inner(owner, bound);
+            let need = self.need(owner, inner);
             worker = worker.formal(inner, need);
         }
         worker
     }
 
+    fn result(&mut self, bound: Option<BoundRecord>) -> u8 {
+        let named = match bound {
+            Some(_) if !self.random.one_in(4) => self.generics(),
+            _ => self.typing.plain(),
+        };
+        match self.random.below(3) {
+            0 if bound.is_none() => NONE,
+            1 if bound.is_none() => INTEGER,
+            _ => self.random.pick(&named).unwrap_or(NONE),
+        }
+    }
+
+    /// What is needed of a formal: any rights on the owner's type, else the
+    /// same.
+    fn need(&mut self, owner: u8, inner: u8) -> u8 {
+        if owner < 2 || self.typing.get(inner).base != owner {
+            return inner;
+        }
+        let needs = self.typing.plain().into_iter();
+        let needs: Vec<u8> = needs
+            .filter(|&need| self.typing.get(need).base == owner)
+            .collect();
+        self.random.pick(&needs).unwrap_or(inner)
+    }
+
     /// A type that a variable may have in a procedure of the owner, often one
     /// with open.
-    pub fn inner(&mut self, owner: u8) -> u8 {
+    pub fn inner(&mut self, owner: u8, bound: Option<BoundRecord>) -> u8 {
+        let generics = self.generics();
+        if bound.is_some() && self.random.one_in(3) {
+            return self.random.pick(&generics).unwrap_or(INTEGER);
+        }
         if owner >= 2 && self.random.one_in(2) {
             return with_base(&self.typing, owner, true);
         }
@@ -174,6 +202,7 @@ impl<'a> Author<'a> {
             .typing
             .all()
             .filter(|&n| !self.typing.has_open(n) || self.typing.get(n).base == owner)
+            .filter(|&n| !self.typing.uses_generic(n))
             .collect();
         self.random.pick(&allowed).unwrap_or(INTEGER)
     }
@@ -192,7 +221,7 @@ impl<'a> Author<'a> {
     }
 
     fn plan(&mut self, number: usize) -> Vec<Plan> {
-        let head = self.sheet.procedures[number].head.clone();
+        let Procedure { head, bound, .. } = self.sheet.procedures[number].clone();
         self.add_variables(number, &[INTEGER; CONTROL]);
         if head.result != NONE {
             self.add_variables(number, &[head.result]);
@@ -206,7 +235,7 @@ impl<'a> Author<'a> {
             plans.extend(self.plan_call(number, number));
         }
         for _ in 0..self.random.between(2, 6) {
-            let inner = self.inner(head.owner);
+            let inner = self.inner(head.owner, bound);
             self.add_variables(number, &[inner]);
         }
         plans
@@ -231,18 +260,26 @@ impl<'a> Author<'a> {
     /// A block of variables that meet the needs, and one that keeps the
     /// result, if they fit.
     fn plan_call(&mut self, number: usize, callee: usize) -> Option<Plan> {
-        let Procedure {
-            head, variables, ..
-        } = self.sheet.procedures[callee].clone();
-        let formals = &variables[..usize::from(head.formals)];
+        let called = self.sheet.procedures[callee].clone();
+        let formals = called.formals();
         let first = self.sheet.procedures[number].variables.len();
         if first + formals.len() + 1 > MAX_VARIABLES {
             return None;
         }
-        let actuals: Vec<u8> = formals.iter().map(|formal| formal.need).collect();
+        let generic = match called.bound {
+            Some(bound) => Some(self.settled(number, bound)?),
+            None => None,
+        };
+        let needs = formals.iter().map(|formal| formal.need);
+        let actuals: Option<Vec<u8>> = needs.map(|need| self.read_type(need, generic)).collect();
+        let actuals = actuals?;
+        let result = match called.result() {
+            Some(result) => Some(self.read_type(result, generic)?),
+            None => None,
+        };
         self.add_variables(number, &actuals);
-        let kept = (head.result != NONE && !self.random.one_in(4)).then(|| {
-            self.add_variables(number, &[head.result]);
+        let kept = result.filter(|_| !self.random.one_in(4)).map(|result| {
+            self.add_variables(number, &[result]);
             (first + actuals.len()) as u8
         });
         Some(Plan {

@@ -18,6 +18,9 @@ const BLANK: Failure = failure(Phase::Blank, Stop::Blank);
 const KIND: Failure = failure(Phase::Kind, Stop::WrongKind);
 const RIGHT: Failure = failure(Phase::Right, Stop::MissingRight);
 const FORM: Failure = failure(Phase::Form, Stop::WrongKind);
+/// What check refuses with 20 and 21.
+const UNSETTLED: Failure = failure(Phase::Settling, Stop::WrongKind);
+const SHORT: Failure = failure(Phase::Settling, Stop::MissingRight);
 const INDEX: Failure = failure(Phase::Index, Stop::PastEnd);
 const INPUT: Failure = failure(Phase::Resource, Stop::InputEnded);
 const OUTPUT: Failure = failure(Phase::Resource, Stop::OutputFull);
@@ -41,8 +44,10 @@ const ACCEPTED: [(Failure, &[u8]); 6] = [
 ];
 
 /// Those that can stop only a sheet that check refuses.
-const REFUSED: [(Failure, &[u8]); 5] = [
+const REFUSED: [(Failure, &[u8]); 7] = [
     (FORM, &[16, 17]),
+    (UNSETTLED, &[16]),
+    (SHORT, &[16]),
     (KIND, &[2, 3, 4, 5, 8, 9, 10, 11, 12, 14, 15]),
     (RIGHT, &[10, 11, 12, 14, 15]),
     (
@@ -87,7 +92,15 @@ const ACCEPTED_ORDERS: [(Failure, Failure, &[u8]); 3] = [
 ];
 
 /// The orders that only sheets that check refuses can show.
-const REFUSED_ORDERS: [(Failure, Failure, &[u8]); 27] = [
+const REFUSED_ORDERS: [(Failure, Failure, &[u8]); 35] = [
+    (FORM, SHORT, &[16]),
+    (UNSETTLED, SHORT, &[16]),
+    (UNSETTLED, MEMORY, &[16]),
+    (UNSETTLED, MOVED_BLANK, &[16]),
+    (UNSETTLED, MOVED_RIGHT, &[16]),
+    (SHORT, MEMORY, &[16]),
+    (SHORT, MOVED_BLANK, &[16]),
+    (SHORT, MOVED_KIND, &[16]),
     (FORM, MEMORY, &[16]),
     (FORM, MOVED_BLANK, &[16]),
     (FORM, MOVED_RIGHT, &[16]),

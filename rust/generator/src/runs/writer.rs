@@ -5,11 +5,11 @@ use super::chooser::{Chooser, Fill};
 use super::program::{recursive, CONTROL};
 use crate::body;
 use crate::operations::{
-    call, give_back, jump_if_zero, leave, less, new_array, new_record, set, set_slot, store,
-    subtract, take,
+    bind, call, fetch, give_back, jump_if_zero, leave, less, new_array, new_record, set, set_slot,
+    store, subtract, take,
 };
 use crate::random::Random;
-use crate::records::{InstructionRecord, NONE, STORE};
+use crate::records::{InstructionRecord, FETCH, GENERIC, NONE, STORE};
 use crate::sheet::Sheet;
 use crate::typing::Typing;
 
@@ -190,6 +190,11 @@ impl<'a> Writer<'a> {
                 self.emit(set(variable, value));
             }
             1 => return self.produce_array(variable),
+            // Nothing but ?R reaches ?R.
+            GENERIC => match self.chooser.filled_generic() {
+                Some(filled) => self.emit(bind(variable, filled)),
+                None => return false,
+            },
             base if base == self.chooser.procedure().head.owner => self.emit(new_record(variable)),
             base => match self.chooser.maker(base) {
                 Some(maker) => self.emit(call(variable, NONE, maker as u16)),
@@ -248,6 +253,28 @@ impl<'a> Writer<'a> {
         self.emit(call(plan.kept, plan.first_actual, plan.callee as u16));
         if plan.kept != NONE {
             self.filled(plan.kept);
+            if self.chooser.typing.uses_generic(callee.head.result) {
+                self.use_kept(plan.kept);
+            }
+        }
+    }
+
+    /// Stores to an array that may have been made under ?R, and fetches from
+    /// it.
+    fn use_kept(&mut self, kept: u8) {
+        let inner = self.chooser.inner(kept);
+        if !self.chooser.typing.is_array_with(inner, STORE | FETCH) {
+            return;
+        }
+        let [zero, element] = [self.control(ZERO), self.chooser.element(kept)];
+        if let Some(given) = self.chooser.giver(element) {
+            if self.ready(given) {
+                self.emit(store(kept, zero, given));
+            }
+        }
+        if let Some(to) = self.chooser.receiver(element) {
+            self.emit(fetch(to, kept, zero));
+            self.filled(to);
         }
     }
 

@@ -127,7 +127,7 @@ impl Outcome {
                 place: index(place)?,
             },
         };
-        let possible = (1..=19).contains(&number) && outcome.reply() == reply;
+        let possible = (1..=21).contains(&number) && outcome.reply() == reply;
         possible.then_some(outcome)
     }
 }

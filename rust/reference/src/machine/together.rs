@@ -10,7 +10,8 @@
 
 use super::outcome::Stop;
 use super::{plain, watched, Ended, Resources};
-use crate::program::{Kind, Program, Rights};
+use crate::generic::{Form, Read};
+use crate::program::{Program, Rights};
 
 /// Runs both machines and gives their common end, or says what went wrong.
 pub fn run(program: &Program, resources: Resources) -> Result<Ended, String> {
@@ -63,8 +64,10 @@ fn ended(
 pub fn audit(program: &Program, state: &watched::State) -> Result<(), String> {
     for frame in &state.frames {
         let procedure = &program.procedures[frame.procedure];
+        let reading = procedure.instance(frame.set);
         for (cell, variable) in frame.variables.iter().zip(&procedure.variables) {
-            let open_to = audit_cell(program, state, *cell, variable.inner)?;
+            let qualified = variable.inner;
+            let open_to = audit_cell(program, state, *cell, Read { qualified, reading })?;
             if open_to.is_some() && open_to != procedure.owner {
                 return Err(format!("open outside its module in {frame:?}"));
             }
@@ -72,10 +75,10 @@ pub fn audit(program: &Program, state: &watched::State) -> Result<(), String> {
     }
     for object in &state.objects {
         for (index, cell) in object.cells.iter().enumerate() {
-            let declared = match object.kind {
-                Kind::Array { element } => element,
-                Kind::Record { of } => program.types[of].slots[index],
-                Kind::Integer => return Err(format!("an integer is no object: {object:?}")),
+            let declared = match object.form() {
+                Form::Array { element } => element,
+                Form::Record { of } => Read::unread(program.types[of].slots[index]),
+                _ => return Err(format!("an integer is no object: {object:?}")),
             };
             if audit_cell(program, state, *cell, declared)?.is_some() {
                 return Err(format!("open in {object:?}"));
@@ -91,18 +94,18 @@ fn audit_cell(
     program: &Program,
     state: &watched::State,
     cell: watched::Cell,
-    declared: usize,
+    declared: Read,
 ) -> Result<Option<usize>, String> {
     let Some(held) = cell else {
         return Ok(None);
     };
-    let kind = state.kind(held.value);
-    let declared = &program.qualified[declared];
-    if !program.same_kind(kind, declared.kind) || held.rights != declared.rights {
-        return Err(format!("{held:?} of {kind:?} declared {declared:?}"));
+    let form = state.form(held.value);
+    let declared = program.read(declared);
+    if !program.same_form(form, declared.form) || held.rights != declared.rights {
+        return Err(format!("{held:?} of {form:?} declared {declared:?}"));
     }
-    match kind {
-        Kind::Record { of } if held.rights.contains(Rights::OPEN) => Ok(Some(of)),
+    match form {
+        Form::Record { of } if held.rights.contains(Rights::OPEN) => Ok(Some(of)),
         _ => Ok(None),
     }
 }
@@ -122,7 +125,7 @@ fn same_state(plain: &plain::State, watched: &watched::State) -> Result<(), Stri
                 && same_cells(&plain.variables, &watched.variables)
         })
         && objects.all(|(plain, watched)| {
-            let is_array = matches!(watched.kind, Kind::Array { .. });
+            let is_array = matches!(watched.form(), Form::Array { .. });
             matches!(plain, plain::Object::Array(_)) == is_array
                 && same_cells(plain.cells(), &watched.cells)
         });

@@ -7,14 +7,15 @@ use Rattle.model.proofs.Verdicts.{Passing, pass-start, pass-next, pass-stop, pa
 use Rattle.sheet.specs.Layout.{instructionsAt}
 use Rattle.sheet.specs.Meaning.{programOf, placeOf}
 use Rattle.access.specs.Inner.Callees.{CalleesAt}
+use Rattle.access.proofs.Places.{instruction-place}
 use Rattle.access.proofs.passes.instructions_access.Statement.{statement}
 use Rattle.access.proofs.passes.instructions_access.Tie as tie
 
 abbrev Inv-loop : tie.InvT-loop
-Inv-loop s index p pr n i₀ i = Passing (instruction-rules (placeOf s) (programOf s) p) n i
+Inv-loop s index p c n first i₀ i = Passing (instruction-rules (placeOf s) (programOf s) p) n i
 
 abbrev μ-loop : tie.MeasureT-loop
-μ-loop s index p pr n i₀ i = n - i
+μ-loop s index p c n first i₀ i = n - i
 
 loop-holds : tie.Need-loop-holds Inv-loop μ-loop
 loop-holds c = pass-start _ _
@@ -22,12 +23,20 @@ loop-holds c = pass-start _ _
 instruction-access-requires : tie.Need-instruction-access-requires Inv-loop μ-loop
 unfolding CalleesAt instructionsAt
 instruction-access-requires c κs =
-    (c .before .before .before .before .pre .0, (c .before .before .before .before .pre .1 .0, c .before .before .before .before .pre .1 .1 (c .before .loop .i) (omega arith)))
+    let f = c .before .before in
+    let w = f .before .before in
+    let r = w .before .before .before .pre in
+    let n = rw (r .1 .0 .head) at (w .word .ensures) in
+    let at = instruction-place (r .1 .0) (f .before .field .result) (f .instruction-from .result) (c .before .loop .i) (f .before .field .ensures) (f .instruction-from .ensures .0) in
+    (r .0, (r .1 .0, (at, rw at (r .1 .1 (c .before .loop .i) (omega (arith, c .loop-test .taken, n))))))
 
 returns : tie.Need-returns Inv-loop μ-loop
 unfolding instructionsAt
 returns c =
-    rw (← c .before .before .before .before .before .word .ensures) (pass-stop _ _ _ (c .before .before .before .before .loop .inv) (c .before .before .before .loop-test .taken) _ _ _ (c .before .before .instruction-access .ensures) (c .enum-told2 .given .1))
+    let l = c .before .before .before .before in
+    let w = l .before .before .before in
+    let n = rw (w .before .before .before .pre .1 .0 .head) at (w .word .ensures) in
+    rw (← n) (pass-stop _ _ _ (l .loop .inv) (c .before .before .before .loop-test .taken) _ _ _ (c .before .before .instruction-access .ensures) (c .enum-told2 .given .1))
 
 loop-again : tie.Need-loop-again Inv-loop μ-loop
 loop-again c =
@@ -36,7 +45,10 @@ loop-again c =
 returns-2 : tie.Need-returns-2 Inv-loop μ-loop
 unfolding instructionsAt
 returns-2 c =
-    rw (← c .before .before .word .ensures) (pass-end _ _ _ (c .before .loop .inv) (c .loop-test .left))
+    let l = c .before in
+    let w = l .before .before .before in
+    let n = rw (w .before .before .before .pre .1 .0 .head) at (w .word .ensures) in
+    rw (← n) (pass-end _ _ _ (l .loop .inv) (c .loop-test .left))
 
 pub instructions-access-spec : {M : Type 1} → statement M
 instructions-access-spec =
@@ -44,8 +56,14 @@ instructions-access-spec =
     (tie.spec
     Inv-loop
     μ-loop
+    (λ c. search needs)
+    (λ c κs. search needs)
+    (λ c κs. search needs)
     (λ c κs. search needs)
     loop-holds
+    (λ c. search needs)
+    (λ c. search needs)
+    (λ c. omega (arith, c .before .before .instruction-from .ensures .1))
     instruction-access-requires
     (λ c. search needs)
     (λ c. search needs)

@@ -1,12 +1,12 @@
--- The loop over the procedures: what is left to say is the verdict from the present one on. The index says where each one stands.
+-- The loop over the procedures: what is left to say is the verdict from the present one on. The index gives the scope of each.
 use Prim.Native.Nat.{_-_, _<_}
-use mathlib.Core.Path.{_∙_}
 use native.Mathlib.Omega.{arith}
 use borrow.Author.Needs.{needs}
 use Rattle.model.specs.Rules.{procedure-rules}
 use Rattle.model.proofs.Verdicts.{Passing, pass-start, pass-next, pass-stop, pass-end}
 use Rattle.sheet.specs.Layout.{proceduresOf}
 use Rattle.sheet.specs.Meaning.{programOf, placeOf}
+use Rattle.index.proofs.Reading.{placed-word}
 use Rattle.access.proofs.passes.procedures_access.Statement.{statement}
 use Rattle.access.proofs.passes.procedures_access.Tie as tie
 
@@ -21,19 +21,20 @@ loop-holds c = pass-start _ _
 
 procedure-access-requires : tie.Need-procedure-access-requires Inv-loop μ-loop
 procedure-access-requires c κs =
-    let a = c .before .before .before .before in
-    let p = c .before .before .loop .p in
+    let l = c .before .before .before in
+    let a = l .before .before in
+    let p = l .loop .p in
     let inside : p < proceduresOf (a .args .s .now) = omega arith in
-    let at = c .place-of .ensures ∙ a .pre .0 .places p (omega arith) in
-    (a .pre .0, (at, rw at (a .pre .1 .0 .each p inside)))
+    let w = rw (← c .before .procedure-in .ensures) at (a .pre .0 .procedures p inside) in
+    (a .pre .0, (c .own-scope .ensures p (placed-word w) (a .pre .1 .0 .bounded p inside), a .pre .1 .0 .each p inside))
 
 returns : tie.Need-returns Inv-loop μ-loop
 returns c =
-    pass-stop _ _ _ (c .before .before .before .before .before .loop .inv) (c .before .before .before .before .loop-test .taken) _ _ _ (c .before .before .procedure-access .ensures) (c .enum-told2 .given .1)
+    pass-stop _ _ _ (c .before .before .before .before .before .before .loop .inv) (c .before .before .before .before .before .loop-test .taken) _ _ _ (c .before .before .procedure-access .ensures) (c .enum-told2 .given .1)
 
 loop-again : tie.Need-loop-again Inv-loop μ-loop
 loop-again c =
-    pass-next _ _ _ (c .before .before .before .before .before .loop .inv) (c .before .before .before .before .loop-test .taken) _ (c .before .before .procedure-access .ensures) (c .enum-told .given .1)
+    pass-next _ _ _ (c .before .before .before .before .before .before .loop .inv) (c .before .before .before .before .before .loop-test .taken) _ (c .before .before .procedure-access .ensures) (c .enum-told .given .1)
 
 returns-2 : tie.Need-returns-2 Inv-loop μ-loop
 returns-2 c = pass-end _ _ _ (c .before .loop .inv) (c .loop-test .left)
@@ -45,6 +46,7 @@ procedures-access-spec =
     Inv-loop
     μ-loop
     loop-holds
+    (λ c κs. search needs)
     (λ c κs. search needs)
     procedure-access-requires
     (λ c. search needs)

@@ -8,7 +8,7 @@ use Rattle.access.proofs.passes.variable_access.Tie as tie
 returns : tie.Need-returns
 unfolding verdict variable-rule variable-rules
 returns c =
-    rw (c .refused .ensures, c .before .variable-at .ensures, c .before .before .variable-number .ensures, c .before .before .before .before .pre .1)
+    rw (c .refused .ensures, c .before .variable-at .ensures, c .before .before .variable-number .ensures, c .before .before .before .before .pre .1 .head, c .before .before .before .before .pre .1 .start)
 
 pub variable-access-spec : {M : Type 1} → statement M
 variable-access-spec =

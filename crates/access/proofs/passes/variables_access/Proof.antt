@@ -10,10 +10,10 @@ use Rattle.access.proofs.passes.variables_access.Statement.{statement}
 use Rattle.access.proofs.passes.variables_access.Tie as tie
 
 abbrev Inv-loop : tie.InvT-loop
-Inv-loop s index p pr n x₀ x = Passing (variable-rules (placeOf s) (programOf s) p) n x
+Inv-loop s index p c n x₀ x = Passing (variable-rules (placeOf s) (programOf s) p) n x
 
 abbrev μ-loop : tie.MeasureT-loop
-μ-loop s index p pr n x₀ x = n - x
+μ-loop s index p c n x₀ x = n - x
 
 loop-holds : tie.Need-loop-holds Inv-loop μ-loop
 loop-holds c = pass-start _ _
@@ -21,7 +21,9 @@ loop-holds c = pass-start _ _
 returns : tie.Need-returns Inv-loop μ-loop
 unfolding variablesAt
 returns c =
-    rw (← c .before .before .before .before .before .field .ensures) (pass-stop _ _ _ (c .before .before .before .before .loop .inv) (c .before .before .before .loop-test .taken) _ _ _ (c .before .before .variable-access .ensures) (c .enum-told2 .given .1))
+    let d = c .before .before .before .before .before in
+    let n = rw (d .before .before .pre .1 .head) at (d .field .ensures) in
+    rw (← n) (pass-stop _ _ _ (c .before .before .before .before .loop .inv) (c .before .before .before .loop-test .taken) _ _ _ (c .before .before .variable-access .ensures) (c .enum-told2 .given .1))
 
 loop-again : tie.Need-loop-again Inv-loop μ-loop
 loop-again c =
@@ -30,7 +32,9 @@ loop-again c =
 returns-2 : tie.Need-returns-2 Inv-loop μ-loop
 unfolding variablesAt
 returns-2 c =
-    rw (← c .before .before .field .ensures) (pass-end _ _ _ (c .before .loop .inv) (c .loop-test .left))
+    let d = c .before .before in
+    let n = rw (d .before .before .pre .1 .head) at (d .field .ensures) in
+    rw (← n) (pass-end _ _ _ (c .before .loop .inv) (c .loop-test .left))
 
 pub variables-access-spec : {M : Type 1} → statement M
 variables-access-spec =

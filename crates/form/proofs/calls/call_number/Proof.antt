@@ -19,7 +19,7 @@ as-defined c =
     let d = f .before .before in
     let w = d .before .before in
     let a = w .before .before .before .before in
-    let word = a .pre .0 .procedures (w .word .result) (omega arith) (omega arith) in
+    let word = a .pre .procedures (w .word .result) (omega (arith, d .before .byte2 .ensures)) in
     let formals = rw (f .before .procedure-in .ensures) at (f .formals-in .ensures) in
     call-inside _ _ _ _ _ _ (w .before .before .byte .ensures) (w .before .if1 .taken) (w .word .ensures) (d .before .byte2 .ensures) (d .if2 .taken)
     _ _ (formals ∙ word .formals) (c .before .byte3 .ensures) _ (c .actuals-scale .ensures)

@@ -5,28 +5,31 @@ use native.Mathlib.Omega.{arith}
 use borrow.Author.Needs.{needs}
 use Rattle.model.specs.Refusal.{verdict}
 use Rattle.model.proofs.Verdicts.{Passing, pass-start, pass-next, pass-stop, pass-end}
-use Rattle.form.proofs.Laws.{instruction-from, instruction-here}
+use Rattle.sheet.specs.Layout.{instructionFrom}
+use Rattle.form.proofs.Laws.{instruction-counted, instruction-here}
 use Rattle.limits.specs.declared.Limits.{Limits}
 use Rattle.form.specs.WellFormed.{instruction-tests}
 use Rattle.form.proofs.layout.instructions_pass.Statement.{statement}
 use Rattle.form.proofs.layout.instructions_pass.Tie as tie
 
 abbrev Inv-loop : tie.InvT-loop
-Inv-loop s pr l n first i₀ i = Passing (instruction-tests s pr) n i
+Inv-loop s pr start l n first i₀ i = Passing (instruction-tests s pr start) n i
 
 abbrev μ-loop : tie.MeasureT-loop
-μ-loop s pr l n first i₀ i = n - i
+μ-loop s pr start l n first i₀ i = n - i
 
 loop-holds : tie.Need-loop-holds Inv-loop μ-loop
 loop-holds c = pass-start _ _
 
 as-defined : (c : tie.After-instruction-record Inv-loop μ-loop) →
     let a = c .before .before .before .before .before .before .args in
-    c .instruction-record .result ≡ verdict (instruction-tests (a .s .now) (a .pr) (c .before .before .loop .i))
+    c .instruction-record .result ≡ verdict (instruction-tests (a .s .now) (a .pr) (a .start) (c .before .before .loop .i))
 as-defined c =
     let d = c .before .before .before in
-    let at = instruction-from _ _ _ _ (d .instruction-at .ensures .0) in
-    c .instruction-record .ensures ∙ ap verdict (instruction-here _ _ _ _ _ (d .before .limits-at .ensures) at)
+    let a = d .before .before .before .args in
+    let read = d .before .limits-at .ensures in
+    let at = instruction-counted _ _ _ _ (d .instruction-from .ensures .0) ∙ ap (λ (x : Limits). instructionFrom (a .start) (x .variables) (c .before .before .loop .i)) read in
+    c .instruction-record .ensures ∙ ap verdict (instruction-here _ _ _ _ _ _ read at)
 
 returns : tie.Need-returns Inv-loop μ-loop
 returns c =

@@ -5,6 +5,7 @@ use native.Mathlib.Omega.{arith}
 use borrow.Author.Needs.{needs}
 use Rattle.model.specs.Refusal.{verdict}
 use Rattle.model.proofs.Verdicts.{Passing, pass-start, pass-next, pass-stop, pass-end}
+use Rattle.form.proofs.Laws.{placed, started}
 use Rattle.form.specs.WellFormed.{procedure-tests-at, procedure-tests}
 use Rattle.form.proofs.layout.procedures_pass.Statement.{statement}
 use Rattle.form.proofs.layout.procedures_pass.Tie as tie
@@ -18,24 +19,33 @@ abbrev μ-loop : tie.MeasureT-loop
 loop-holds : tie.Need-loop-holds Inv-loop μ-loop
 loop-holds c = pass-start _ _
 
+procedure-pass-requires : tie.Need-procedure-pass-requires Inv-loop μ-loop
+procedure-pass-requires c κs =
+    let w = c .before .before in
+    let l = w .before .before in
+    let word = l .before .before .pre .0 .procedures (l .loop .p) (omega arith) (omega arith) in
+    started _ _ _ _ word (w .procedure-in .ensures) _ (c .before .place-in .ensures) _ (c .start-in .ensures)
+
 as-defined : (c : tie.After-procedure-pass Inv-loop μ-loop) →
-    let l = c .before .before .before in
+    let l = c .before .before .before .before .before in
     c .procedure-pass .result ≡ verdict (procedure-tests (l .before .before .args .s .now) (l .loop .p))
 unfolding procedure-tests
 as-defined c =
-    let l = c .before .before .before in
+    let w = c .before .before .before in
+    let l = w .before .before in
     let a = l .before .before in
-    let at = c .before .place-of .ensures ∙ a .pre .0 .places (l .loop .p) (omega arith) (omega arith) in
+    let word = a .pre .0 .procedures (l .loop .p) (omega arith) (omega arith) in
+    let at = placed _ _ _ _ word (w .procedure-in .ensures) _ (c .before .before .place-in .ensures) in
     c .procedure-pass .ensures ∙ ap (λ (pr : ℕ). verdict (procedure-tests-at (a .args .s .now) (l .loop .p) pr)) at
 
 returns : tie.Need-returns Inv-loop μ-loop
 returns c =
-    let l = c .before .before .before .before in
+    let l = c .before .before .before .before .before .before in
     pass-stop _ _ _ (l .before .loop .inv) (l .loop-test .taken) _ _ _ (as-defined (c .before .before)) (c .enum-told2 .given .1)
 
 loop-again : tie.Need-loop-again Inv-loop μ-loop
 loop-again c =
-    let l = c .before .before .before .before in
+    let l = c .before .before .before .before .before .before in
     pass-next _ _ _ (l .before .loop .inv) (l .loop-test .taken) _ (as-defined (c .before .before)) (c .enum-told .given .1)
 
 returns-2 : tie.Need-returns-2 Inv-loop μ-loop
@@ -50,6 +60,8 @@ procedures-pass-spec =
     loop-holds
     (λ c κs. search needs)
     (λ c κs. search needs)
+    (λ c κs. search needs)
+    procedure-pass-requires
     (λ c. search needs)
     (λ c. search needs)
     returns

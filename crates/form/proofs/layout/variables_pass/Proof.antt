@@ -9,10 +9,10 @@ use Rattle.form.proofs.layout.variables_pass.Statement.{statement}
 use Rattle.form.proofs.layout.variables_pass.Tie as tie
 
 abbrev Inv-loop : tie.InvT-loop
-Inv-loop s pr n x₀ x = Passing (variable-tests s pr) n x
+Inv-loop s pr start n x₀ x = Passing (variable-tests s pr start) n x
 
 abbrev μ-loop : tie.MeasureT-loop
-μ-loop s pr n x₀ x = n - x
+μ-loop s pr start n x₀ x = n - x
 
 loop-holds : tie.Need-loop-holds Inv-loop μ-loop
 loop-holds c = pass-start _ _

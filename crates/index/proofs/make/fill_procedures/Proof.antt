@@ -2,22 +2,23 @@
 use Prim.Native.Nat.{ℕ, _+_, _*_, _-_, _^_, _<_, _≤_}
 use lib.Seq.{getD-set-other}
 use borrow.Author.Tests.{lt-ltb}
-use mathlib.Core.Path.{_≡_, refl, sym, ap, _∙_}
+use mathlib.Core.Path.{_≡_, refl, ap, _∙_}
 use mathlib.Core.Logic.{⊎-elim}
 use lib.ListN.{length, getD, set, length-set}
-use Rattle.sheet.specs.Layout.{proceduresOf, procedureAt, qualsOf, instructionsAt, instructionAt}
-use Rattle.sheet.proofs.Laws.{both-below, one-passed, procedure-next}
+use Rattle.sheet.specs.Layout.{proceduresOf, procedureAt, qualsOf}
+use Rattle.sheet.proofs.Laws.{both-below, one-passed}
 use Rattle.index.specs.Indexed.{ProcedureWord}
 use Rattle.index.specs.Procedures.{place-of, procedure-in}
 use Rattle.index.proofs.Filling.{filled-more, other-kept, end-place}
 use native.Mathlib.Omega.{arith}
+use native.Mathlib.Numerals.{add-one}
 use borrow.Author.Needs.{needs}
 use Rattle.index.proofs.make.fill_procedures.Statement.{statement}
 use Rattle.index.proofs.make.fill_procedures.Tie as tie
 
 abbrev Inv-loop : tie.InvT-loop
 Inv-loop s index₀ p at₀ i₀ index at i =
-    (i ≤ p) × (i ≤ 64) × (length index ≡ 129) × (at ≡ procedureAt s i) × (at ≤ 5000 + i * 600000)
+    (i ≤ p) × (i ≤ 64) × (length index ≡ 129) × (at ≡ procedureAt s i) × (at ≤ 5000 + i * 700000)
     × ((k : ℕ) → k < i → ProcedureWord s k (getD index (64 + k) 0)) × ((k : ℕ) → k < 64 → getD index k 0 ≡ getD index₀ k 0)
 
 abbrev μ-loop : tie.MeasureT-loop
@@ -34,31 +35,31 @@ procedure-entry-requires c κs =
     let b = both-below (l .i) (c .before .before .before .before .byte .result) 64 (c .loop-test .taken) in
     (b .1, omega (arith, l .inv .4))
 
-cast-at-2 : tie.Need-cast-at-2 Inv-loop μ-loop
-cast-at-2 c =
-    omega (arith, c .instruction-at .ensures .1)
+next-from-requires : tie.Need-next-from-requires Inv-loop μ-loop
+next-from-requires c κs =
+    let l = c .before .before .loop in
+    omega (arith, l .inv .1, l .inv .4)
 
 loop-less : tie.Need-loop-less Inv-loop μ-loop
 loop-less c =
-    let l = c .before .before .before .before in
-    let b = both-below (l .loop .i) (l .before .before .before .byte .result) 64 (c .before .before .before .loop-test .taken) in
+    let l = c .before .before .before in
+    let b = both-below (l .loop .i) (l .before .before .before .byte .result) 64 (c .before .before .loop-test .taken) in
     omega arith
 
 loop-again : tie.Need-loop-again Inv-loop μ-loop
-unfolding instructionsAt
 loop-again c =
-    let l = c .before .before .before .before .loop in
-    let d = c .before .before .before .before .before .before .before in
+    let l = c .before .before .before .loop in
+    let d = c .before .before .before .before .before .before in
     let s = d .before .before .args .s .now in
-    let b = both-below (l .i) (d .byte .result) 64 (c .before .before .before .loop-test .taken) in
+    let b = both-below (l .i) (d .byte .result) 64 (c .before .before .loop-test .taken) in
     let here = l .inv .3 in
-    let w = c .before .before .procedure-entry .result in (
+    let w = c .before .procedure-entry .result in (
       omega arith,
       omega arith,
       simp length-set (l .inv .2),
-      c .instruction-at .ensures .0 ∙ ap (instructionAt s (l .at)) (c .before .word .ensures) ∙ procedure-next s (l .i) (l .at) here,
-      omega (arith, c .instruction-at .ensures .1, l .inv .4),
-      filled-more (ProcedureWord s) (λ n. 64 + n) (l .i) w (l .index) (omega (arith, l .inv .2)) (λ n m e. omega arith) (c .before .before .procedure-entry .ensures here) (l .inv .5),
+      rw add-one (c .next-from .ensures .0 here),
+      omega (arith, c .next-from .ensures .1, l .inv .4),
+      filled-more (ProcedureWord s) (λ n. 64 + n) (l .i) w (l .index) (omega (arith, l .inv .2)) (λ n m e. omega arith) (c .before .procedure-entry .ensures here) (l .inv .5),
       λ k h. other-kept (l .index) (d .before .before .args .index .now) (64 + l .i) w k (λ e. omega arith) (l .inv .6 k h),
     )
 
@@ -101,10 +102,7 @@ fill-procedures-spec =
     (λ c. search needs)
     (λ c. search needs)
     (λ c. search needs)
-    (λ c. omega arith)
-    (λ c κs. search needs)
-    (λ c κs. search needs)
-    cast-at-2
+    next-from-requires
     (λ c. search needs)
     loop-less
     loop-again

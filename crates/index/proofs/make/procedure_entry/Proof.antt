@@ -2,22 +2,25 @@
 use mathlib.Core.Path.{ap, _∙_}
 use native.Mathlib.Omega.{arith}
 use denote.Ref.{now}
-use Rattle.sheet.specs.Layout.{formalsAt, variablesAt, instructionAt}
+use Rattle.sheet.specs.Layout.{formalsAt, variablesAt, isBounded, startAt, instructionAt}
 use Rattle.index.proofs.Filling.{entry}
 use borrow.Author.Needs.{needs}
 use Rattle.index.proofs.make.procedure_entry.Statement.{statement}
 use Rattle.index.proofs.make.procedure_entry.Tie as tie
 
 returns : tie.Need-returns
-unfolding formalsAt variablesAt
+unfolding formalsAt variablesAt startAt instructionAt
 returns c here =
-    let args = c .before .before .before .before .before .args in
+    let first = c .before .instruction-from in
+    let start = c .before .before .start-from in
+    let bounded = c .before .before .before .is-bounded in
+    let formals = c .before .before .before .before .byte2 in
+    let variables = c .before .before .before .before .before .byte in
+    let args = c .before .before .before .before .before .before .before .args in
     let s = now (args .s) in
-    let variables = c .before .before .before .byte in
-    let formals = c .before .before .byte2 in
-    let first = c .before .instruction-at in
-    entry s (args .k) _ _ _ _ (omega arith) (omega arith) (omega arith) (omega (arith, first .ensures .1))
-    (variables .ensures ∙ ap (variablesAt s) here) (formals .ensures ∙ ap (formalsAt s) here) (first .ensures .0 ∙ ap (λ (pr : _). instructionAt s pr 0) here)
+    entry s (args .k) _ _ _ _ _ (omega arith) (omega arith) (omega arith) (omega (arith, first .ensures .1, start .ensures .1))
+    (variables .ensures ∙ ap (variablesAt s) here) (formals .ensures ∙ ap (formalsAt s) here) (bounded .ensures ∙ ap (isBounded s (args .k)) here)
+    (first .ensures .0 ∙ rw (start .ensures .0, variables .ensures, here))
     (c .procedure-word .ensures)
 
 pub procedure-entry-spec : {M : Type 1} → statement M
@@ -27,7 +30,10 @@ procedure-entry-spec =
     (λ c κs. search needs)
     (λ c κs. search needs)
     (λ c κs. search needs)
-    (λ c. omega (arith, c .instruction-at .ensures .1))
+    (λ c κs. search needs)
+    (λ c. search needs)
+    (λ c κs. search needs)
+    (λ c. search needs)
     (λ c. search needs)
     (λ c κs. search needs)
     returns)

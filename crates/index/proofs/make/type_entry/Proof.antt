@@ -1,26 +1,22 @@
--- The three parts of the sum do not overlap.
-use Rattle.index.proofs.Filling.{high-byte}
-use Prim.Native.Nat.{_+_, _*_}
-use mathlib.Core.Path.{_≡_, sym, _∙_}
+-- The three parts of the sum are what the record says.
+use mathlib.Core.Path.{sym}
 use Rattle.sheet.specs.Layout.{baseOf, rightsOf, elementOf}
-use Rattle.index.specs.Types.{rights-of, base-of, element-of}
+use Rattle.index.proofs.Filling.{below-element, type-entry}
 use native.Mathlib.Omega.{arith}
 use borrow.Author.Needs.{needs}
 use Rattle.index.proofs.make.type_entry.Statement.{statement}
 use Rattle.index.proofs.make.type_entry.Tie as tie
 
+add-result : tie.Need-add-result
+add-result c = omega (arith, c .shape-and-rights .ensures, below-element (c .before .before .before .byte .result) (c .before .word .result) (omega arith) (omega arith))
+
 returns : tie.Need-returns
-unfolding rights-of base-of element-of baseOf rightsOf elementOf
+unfolding baseOf rightsOf elementOf
 returns c =
-    let at = sym (c .before .before .before .qual-at .ensures .0) in
-    let b : base-of (c .before .before .word .result + 4294967296 * c .before .byte .result + 1099511627776 * c .byte2 .result) ≡ c .before .byte .result = omega arith in
-    let r : rights-of (c .before .before .word .result + 4294967296 * c .before .byte .result + 1099511627776 * c .byte2 .result) ≡ c .before .before .word .result = omega arith in
-    let e : element-of (c .before .before .word .result + 4294967296 * c .before .byte .result + 1099511627776 * c .byte2 .result) ≡ c .byte2 .result = high-byte _ _ (omega arith) (omega arith) in
-    record {
-      base = rw at (b ∙ c .before .byte .ensures);
-      rights = rw at (r ∙ c .before .before .word .ensures);
-      element = rw at (e ∙ c .byte2 .ensures);
-    }
+    let d = c .before .before in
+    let at = sym (d .before .before .qual-at .ensures .0) in
+    type-entry (d .before .byte .result) (c .before .word .result) (d .byte2 .result) (omega arith) (omega arith) (omega arith) _ _ _
+    (rw at (d .before .byte .ensures)) (rw at (c .before .word .ensures)) (rw at (d .byte2 .ensures)) (c .shape-and-rights .ensures)
 
 pub type-entry-spec : {M : Type 1} → statement M
 type-entry-spec =
@@ -28,13 +24,10 @@ type-entry-spec =
     (tie.spec
     (λ c κs. search needs)
     (λ c κs. search needs)
-    (λ c. search needs)
     (λ c κs. search needs)
     (λ c. search needs)
     (λ c κs. search needs)
+    (λ c κs. search needs)
     (λ c. search needs)
-    (λ c. search needs)
-    (λ c. search needs)
-    (λ c. search needs)
-    (λ c. search needs)
+    add-result
     returns)

@@ -10,4 +10,4 @@ unfolding variableAt
 returns c = omega arith
 
 pub variable-at-spec : {M : Type 1} → statement M
-variable-at-spec = tie.close (tie.spec (λ c. search needs) (λ c. search needs) (λ c. search needs) returns)
+variable-at-spec = tie.close (tie.spec (λ c. search needs) (λ c. search needs) returns)

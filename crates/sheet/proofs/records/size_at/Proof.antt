@@ -9,20 +9,22 @@ returns : tie.Need-returns
 unfolding sizeAt markedAt
 returns c =
     rw (
-      c .pick6 .ensures,
-      c .before .pick5 .ensures,
-      c .before .before .pick4 .ensures,
-      c .before .before .before .pick3 .ensures,
-      c .before .before .before .before .pick2 .ensures,
-      c .before .before .before .before .before .pick .ensures,
-      c .before .before .before .before .before .before .byte2 .ensures,
-      c .before .before .before .before .before .before .before .byte .ensures,
+      c .pick7 .ensures,
+      c .before .pick6 .ensures,
+      c .before .before .pick5 .ensures,
+      c .before .before .before .pick4 .ensures,
+      c .before .before .before .before .pick3 .ensures,
+      c .before .before .before .before .before .pick2 .ensures,
+      c .before .before .before .before .before .before .pick .ensures,
+      c .before .before .before .before .before .before .before .byte2 .ensures,
+      c .before .before .before .before .before .before .before .before .byte .ensures,
     )
 
 pub size-at-spec : {M : Type 1} → statement M
 size-at-spec =
     tie.close
     (tie.spec
+    (λ c κs. search needs)
     (λ c κs. search needs)
     (λ c κs. search needs)
     (λ c κs. search needs)

@@ -11,7 +11,7 @@ use Rattle.index.specs.Indexed.{Ready}
 use Rattle.writers.specs.Memory.{Sane, variables-in}
 use Rattle.frames.specs.Fetch.{place-in}
 use Rattle.frames.proofs.Fetched.{named-as, code-operation, code-whole, callable}
-use Rattle.watched_calls.specs.Calls.{PlaceOf}
+use Rattle.watched_calls.specs.Calls.{ScopeHere}
 use Rattle.watched_step.proofs.step.step_at.Statement.{statement}
 use Rattle.watched_step.proofs.step.step_at.Tie as tie
 
@@ -36,11 +36,11 @@ inside c e =
     let pre = c .before .before .before .before .before .before .before .pre in
     (pre .1 .0, (pre .1 .1 .0 .next, named-as (pre .1 .1 .0) (fetched c ∙ e)))
 
--- and one that binds to a declared type, the sheet's index and the place of the PR
+-- and one that binds to a declared type, the sheet's index and the running frame's scope
 owed : (c : tie.After-operation-whole) {op : Operation} → c .operation-whole .result ≡ op
     → let args = c .before .before .before .before .before .before .before .args in
     Ready (now (args .s)) (now (args .index))
-    × (Sane (length (now (args .memory))) (args .r) × ((args .r .next < 1000) × (Named (variables-in (args .r)) op × PlaceOf (args .r) (args .pr))))
+    × (Sane (length (now (args .memory))) (args .r) × ((args .r .next < 1000) × (Named (variables-in (args .r)) op × ScopeHere (now (args .s)) (now (args .memory)) (args .r) (args .p))))
 owed c e =
     let pre = c .before .before .before .before .before .before .before .pre in
     let here = inside c e in
@@ -96,12 +96,12 @@ call-requires c κs =
     let pre = c .before .before .before .before .before .before .before .before .before .before .before .pre in
     let args = c .before .before .before .before .before .before .before .before .before .before .before .args in
     let operation16 = c .before .before .operation16 in
-    (pre .0, (pre .1 .0, callable (now (args .s)) (args .r) _ _ _ (pre .1 .1 .0) (fetched (c .before .before .before .before) ∙ operation16 .given .1)))
+    (pre .0, (pre .1 .0, (callable (now (args .s)) (args .r) _ _ _ (pre .1 .1 .0) (fetched (c .before .before .before .before) ∙ operation16 .given .1), pre .1 .1 .1 .1)))
 
 give-back-requires : tie.Need-give-back-requires
 give-back-requires c κs =
     let pre = c .before .before .before .before .before .before .before .before .before .before .before .pre in
-    (pre .0 .ready, (pre .1 .0, pre .1 .1 .1 .1))
+    (pre .0, (pre .1 .0, pre .1 .1 .1 .1))
 
 returns : tie.Need-returns
 returns c =
@@ -225,76 +225,4 @@ returns-17 c =
 
 pub step-at-spec : {M : Type 1} → statement M
 step-at-spec =
-    tie.close
-    (tie.spec
-    (λ c. search needs)
-    operation-whole-requires
-    (λ c. search needs)
-    set-requires
-    (λ c. search needs)
-    add-requires
-    (λ c. search needs)
-    subtract-requires
-    (λ c. search needs)
-    less-requires
-    (λ c. search needs)
-    jump-zero-requires
-    (λ c. search needs)
-    bind-requires
-    (λ c. search needs)
-    take-requires
-    (λ c. search needs)
-    put-requires
-    (λ c. search needs)
-    new-array-requires
-    (λ c. search needs)
-    fetch-requires
-    (λ c. search needs)
-    store-requires
-    (λ c. search needs)
-    size-requires
-    (λ c. search needs)
-    new-record-requires
-    (λ c. search needs)
-    get-slot-requires
-    (λ c. search needs)
-    set-slot-requires
-    (λ c. search needs)
-    call-requires
-    (λ c. search needs)
-    give-back-requires
-    (λ c. search needs)
-    returns
-    (λ c. search needs)
-    returns-2
-    (λ c. search needs)
-    returns-3
-    (λ c. search needs)
-    returns-4
-    (λ c. search needs)
-    returns-5
-    (λ c. search needs)
-    returns-6
-    (λ c. search needs)
-    returns-7
-    (λ c. search needs)
-    (λ c. search needs)
-    returns-8
-    (λ c. search needs)
-    returns-9
-    (λ c. search needs)
-    returns-10
-    (λ c. search needs)
-    returns-11
-    (λ c. search needs)
-    returns-12
-    (λ c. search needs)
-    returns-13
-    (λ c. search needs)
-    returns-14
-    (λ c. search needs)
-    returns-15
-    (λ c. search needs)
-    returns-16
-    (λ c. search needs)
-    returns-17)
+    tie.close (tie.spec (λ c. search needs) operation-whole-requires (λ c. search needs) set-requires (λ c. search needs) add-requires (λ c. search needs) subtract-requires (λ c. search needs) less-requires (λ c. search needs) jump-zero-requires (λ c. search needs) bind-requires (λ c. search needs) take-requires (λ c. search needs) put-requires (λ c. search needs) new-array-requires (λ c. search needs) fetch-requires (λ c. search needs) store-requires (λ c. search needs) size-requires (λ c. search needs) new-record-requires (λ c. search needs) get-slot-requires (λ c. search needs) set-slot-requires (λ c. search needs) call-requires (λ c. search needs) give-back-requires (λ c. search needs) returns (λ c. search needs) returns-2 (λ c. search needs) returns-3 (λ c. search needs) returns-4 (λ c. search needs) returns-5 (λ c. search needs) returns-6 (λ c. search needs) returns-7 (λ c. search needs) (λ c. search needs) returns-8 (λ c. search needs) returns-9 (λ c. search needs) returns-10 (λ c. search needs) returns-11 (λ c. search needs) returns-12 (λ c. search needs) returns-13 (λ c. search needs) returns-14 (λ c. search needs) returns-15 (λ c. search needs) returns-16 (λ c. search needs) returns-17)

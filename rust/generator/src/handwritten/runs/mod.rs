@@ -1,10 +1,11 @@
-//! Hand-written runs, each with the sentence of document 01 that it tries and
-//! what run and watch must say, written out.
+//! Hand-written runs, each with the sentence of document 01 or 02 that it tries
+//! and what run and watch must say, written out.
 //!
 //! The table needs no engine: it is for every one that has a run and a watch.
 
 mod calls;
 mod depths;
+mod generics;
 mod known;
 mod lengths;
 mod numbers;
@@ -72,6 +73,7 @@ pub fn cases() -> Vec<RunCase> {
     all.extend(lengths::cases());
     all.extend(numbers::cases());
     all.extend(depths::cases());
+    all.extend(generics::cases());
     all
 }
 

@@ -2,7 +2,8 @@
 
 use super::state::{Held, Object, Value};
 use super::Machine;
-use crate::program::{Kind, Operation, Rights};
+use crate::generic::{Form, Read};
+use crate::program::{Kind, Operation};
 
 impl Machine<'_> {
     /// Does the instruction and goes on to the next; None where a value that
@@ -51,7 +52,7 @@ impl Machine<'_> {
     fn object_effect(&mut self, operation: Operation) -> Option<()> {
         match operation {
             Operation::NewArray { to, size } => {
-                let kind = self.program.qualified[self.inner(to)].kind;
+                let kind = self.program.qualified[self.inner(to).qualified].kind;
                 let size = self.word(size)? as usize;
                 self.create(to, kind, size);
             }
@@ -84,14 +85,15 @@ impl Machine<'_> {
         Some(())
     }
 
-    /// Opens a frame whose formals carry the rights of their inner types,
-    /// amplified or bound.
+    /// Opens a frame with the settled set, whose formals carry the rights of
+    /// their inner types, amplified or bound.
     fn enter(&mut self, procedure: usize, first_actual: Option<usize>) -> Option<()> {
         let callee = &self.program.procedures[procedure];
-        let mut frame = self.new_frame(procedure);
+        let set = self.settled(procedure, first_actual).reading.rights();
+        let mut frame = self.new_frame(procedure, set);
         for number in 0..callee.formals {
             let value = self.variable(first_actual? + number)?.value;
-            let rights = self.declared_rights(callee.variables[number].inner);
+            let rights = self.program.read(self.declared(&frame, number)).rights;
             frame.variables[number] = Some(Held { value, rights });
         }
         self.state.frames.push(frame);
@@ -125,13 +127,9 @@ impl Machine<'_> {
         }
     }
 
-    fn declared_rights(&self, qualified: usize) -> Rights {
-        self.program.qualified[qualified].rights
-    }
-
     /// The variable holds the value with the rights it is declared with.
     fn fill(&mut self, to: usize, value: Value) {
-        let rights = self.declared_rights(self.inner(to));
+        let rights = self.declared_type(to).rights;
         let frame = self.state.frames.len() - 1;
         self.state.frames[frame].variables[to] = Some(Held { value, rights });
     }
@@ -140,10 +138,15 @@ impl Machine<'_> {
         self.fill(to, Value::Integer(value));
     }
 
+    /// A new object; in its element, base and set stand in place of ?R.
     fn create(&mut self, to: usize, kind: Kind, cells: usize) {
         let number = self.state.objects.len();
-        let cells = vec![None; cells];
-        self.state.objects.push(Object { kind, cells });
+        let object = Object {
+            kind,
+            reading: self.reading(),
+            cells: vec![None; cells],
+        };
+        self.state.objects.push(object);
         self.fill(to, Value::Object(number));
     }
 
@@ -151,12 +154,12 @@ impl Machine<'_> {
     /// of the type, is declared with.
     fn write(&mut self, object: usize, index: usize, value: Value) -> Option<()> {
         let object = &mut self.state.objects[object];
-        let declared = match object.kind {
-            Kind::Array { element } => element,
-            Kind::Record { of } => self.program.types[of].slots[index],
-            Kind::Integer => return None,
+        let declared = match object.form() {
+            Form::Array { element } => element,
+            Form::Record { of } => Read::unread(self.program.types[of].slots[index]),
+            Form::Integer | Form::Generic { .. } => return None,
         };
-        let rights = self.program.qualified[declared].rights;
+        let rights = self.program.read(declared).rights;
         object.cells[index] = Some(Held { value, rights });
         Some(())
     }

@@ -1,7 +1,8 @@
 //! The tests of an instruction, in the order of document 01: "18 for a
 //! return, or a call keeping a result, against the PR's result; 13 for a
 //! blank variable that is read and not moved; kinds of the values read;
-//! right; 14; then 15, 16 or 17; then moved values in order".
+//! right; 14; then 15, 16 or 17; then moved values in order". What a call
+//! settles is tested "with kinds" (document 02).
 //!
 //! Every test is asked, also after one that fails, as far as there is
 //! something to ask: a blank variable has no kind, and where an index is past
@@ -9,8 +10,9 @@
 
 use super::state::{Cell, Value};
 use super::Machine;
+use crate::generic::{Form, Read};
 use crate::machine::outcome::Stop;
-use crate::program::{Kind, Operation, Rights};
+use crate::program::{Operation, Rights};
 
 /// The parts of a step's order.
 #[derive(Clone, Copy, Debug, PartialEq, Eq, PartialOrd, Ord)]
@@ -20,6 +22,8 @@ pub enum Phase {
     /// Variables that are read and not moved.
     Blank,
     Kind,
+    /// What a call settles: 18 and 19 for what check refuses with 20 and 21.
+    Settling,
     Right,
     Index,
     /// Input, output and memory.
@@ -73,6 +77,7 @@ impl Machine<'_> {
             self.test_kind(number, due, &mut report);
         }
         self.test_new_array(operation, &mut report);
+        self.test_settling(operation, &mut report);
         self.test_right(operation, &mut report);
         self.test_index(operation, &mut report);
         self.test_resource(operation, &mut report);
@@ -99,9 +104,9 @@ impl Machine<'_> {
         let Some(held) = self.variable(number) else {
             return;
         };
-        let holds = match (due, self.state.kind(held.value)) {
-            (Due::Integer, Kind::Integer) | (Due::Array, Kind::Array { .. }) => true,
-            (Due::Owned, Kind::Record { of }) => self.procedure().owner == Some(of),
+        let holds = match (due, self.state.form(held.value)) {
+            (Due::Integer, Form::Integer) | (Due::Array, Form::Array { .. }) => true,
+            (Due::Owned, Form::Record { of }) => self.procedure().owner == Some(of),
             _ => false,
         };
         report.require(holds, Phase::Kind, Stop::WrongKind);
@@ -110,9 +115,23 @@ impl Machine<'_> {
     /// The variable of a new array must be declared an array.
     fn test_new_array(&self, operation: Operation, report: &mut Report) {
         if let Operation::NewArray { to, .. } = operation {
-            let declared = self.program.qualified[self.inner(to)].kind;
-            let is_array = matches!(declared, Kind::Array { .. });
+            let declared = self.declared_type(to).form;
+            let is_array = matches!(declared, Form::Array { .. });
             report.require(is_array, Phase::Kind, Stop::WrongKind);
+        }
+    }
+
+    /// The rights name of a procedure called is settled, and not short.
+    fn test_settling(&self, operation: Operation, report: &mut Report) {
+        if let Operation::Call {
+            procedure,
+            first_actual,
+            ..
+        } = operation
+        {
+            let settled = self.settled(procedure, first_actual);
+            report.require(!settled.is_unsettled(), Phase::Settling, Stop::WrongKind);
+            report.require(!settled.is_short(), Phase::Settling, Stop::MissingRight);
         }
     }
 
@@ -177,13 +196,13 @@ impl Machine<'_> {
     }
 
     /// The element and the cells of the array that a variable holds.
-    pub(super) fn array(&self, number: usize) -> Option<(usize, &[Cell])> {
+    pub(super) fn array(&self, number: usize) -> Option<(Read, &[Cell])> {
         let Value::Object(object) = self.variable(number)?.value else {
             return None;
         };
         let object = &self.state.objects[object];
-        match object.kind {
-            Kind::Array { element } => Some((element, &object.cells)),
+        match object.form() {
+            Form::Array { element } => Some((element, &object.cells)),
             _ => None,
         }
     }
@@ -199,8 +218,8 @@ impl Machine<'_> {
             return None;
         };
         let object = &self.state.objects[object];
-        match object.kind {
-            Kind::Record { of } if Some(of) == self.procedure().owner => {
+        match object.form() {
+            Form::Record { of } if Some(of) == self.procedure().owner => {
                 object.cells.get(slot).copied()
             }
             _ => None,

@@ -11,7 +11,9 @@ mod state;
 
 use super::outcome::{Outcome, Place, Stop};
 use super::{Ended, Need, Resources};
-use crate::program::{Operation, Procedure, Program};
+use crate::generic::{Read, Reading, Type};
+use crate::program::{Operation, Procedure, Program, Rights};
+use crate::settling::Settled;
 pub use failures::{Failure, Phase};
 pub use state::{Cell, Frame, Held, Object, State, Value};
 
@@ -35,7 +37,7 @@ impl<'a> Machine<'a> {
             place: Place::default(),
             most_units: 0,
         };
-        let main = machine.new_frame(0);
+        let main = machine.new_frame(0, Rights::NONE);
         machine.state.frames.push(main);
         if machine.state.units() > resources.memory_words {
             return Err(Stop::MemoryFull);
@@ -159,8 +161,35 @@ impl<'a> Machine<'a> {
     }
 
     /// The declared type of a variable of the frame that works.
-    fn inner(&self, number: usize) -> usize {
-        self.procedure().variables[number].inner
+    fn inner(&self, number: usize) -> Read {
+        self.declared(self.frame(), number)
+    }
+
+    /// The declared type of a variable of a frame, ?R read with its set.
+    fn declared(&self, frame: &Frame, number: usize) -> Read {
+        let procedure = &self.program.procedures[frame.procedure];
+        Read {
+            qualified: procedure.variables[number].inner,
+            reading: procedure.instance(frame.set),
+        }
+    }
+
+    /// What ?R is read as in the frame that works.
+    fn reading(&self) -> Reading {
+        self.procedure().instance(self.frame().set)
+    }
+
+    fn declared_type(&self, number: usize) -> Type {
+        self.program.read(self.inner(number))
+    }
+
+    /// What a call from the frame that works settles, by declared types.
+    fn settled(&self, procedure: usize, first_actual: Option<usize>) -> Settled {
+        let callee = &self.program.procedures[procedure];
+        let actuals = first_actual.into_iter().flat_map(|first| first..);
+        let actuals = actuals.take(callee.formals);
+        let declared = actuals.map(|actual| self.inner(actual));
+        self.program.settled(callee, declared)
     }
 
     /// The variable in which the caller of the frame that works keeps the
@@ -174,12 +203,13 @@ impl<'a> Machine<'a> {
         }
     }
 
-    /// A frame of the procedure, all of its variables blank.
-    fn new_frame(&self, procedure: usize) -> Frame {
+    /// A frame of the procedure with its set, all of its variables blank.
+    fn new_frame(&self, procedure: usize, set: Rights) -> Frame {
         let count = self.program.procedures[procedure].variables.len();
         Frame {
             procedure,
             next: 0,
+            set,
             variables: vec![None; count],
         }
     }

@@ -4,15 +4,12 @@
 use super::failures::{Phase, Report};
 use super::state::Cell;
 use super::Machine;
+use crate::generic::{Form, Read, Type};
 use crate::machine::outcome::Stop;
 use crate::program::{Kind, Operation, Rights, Variable};
 
-/// A value as a binding sees it.
-#[derive(Clone, Copy)]
-struct Carried {
-    kind: Kind,
-    rights: Rights,
-}
+/// A value as a binding sees it: its type and the rights that it carries.
+type Carried = Type;
 
 impl Machine<'_> {
     /// Moved values in their order.
@@ -23,12 +20,12 @@ impl Machine<'_> {
             | Operation::Subtract { to, .. }
             | Operation::Less { to, .. }
             | Operation::Take { to }
-            | Operation::Size { to, .. } => self.bind_new(Kind::Integer, to, report),
+            | Operation::Size { to, .. } => self.bind_new(Form::Integer, to, report),
             Operation::Bind { to, from } => self.bind_variable(from, self.inner(to), report),
             Operation::NewArray { to, .. } => {
-                let kind = self.program.qualified[self.inner(to)].kind;
-                if matches!(kind, Kind::Array { .. }) {
-                    self.bind_new(kind, to, report);
+                let form = self.declared_type(to).form;
+                if matches!(form, Form::Array { .. }) {
+                    self.bind_new(form, to, report);
                 }
             }
             Operation::Fetch { to, array, index } => {
@@ -58,7 +55,7 @@ impl Machine<'_> {
         match operation {
             Operation::NewRecord { to } => {
                 if let Some(of) = self.procedure().owner {
-                    self.bind_new(Kind::Record { of }, to, report);
+                    self.bind_new(Form::Record { of }, to, report);
                 }
             }
             Operation::GetSlot { to, record, slot } => {
@@ -67,31 +64,38 @@ impl Machine<'_> {
                 }
             }
             Operation::SetSlot { slot, from, .. } => {
-                self.bind_variable(from, self.owner_slots()[slot], report);
+                let declared = Read::unread(self.owner_slots()[slot]);
+                self.bind_variable(from, declared, report);
             }
             _ => {}
         }
     }
 
     /// Each actual is bound to need; then it is amplified or bound to inner.
+    /// Both are read with what the call settles.
     fn test_actuals(&self, procedure: usize, first: usize, report: &mut Report) {
         let callee = &self.program.procedures[procedure];
+        let reading = self.settled(procedure, Some(first)).reading;
+        let read = |qualified| Read { qualified, reading };
         let formals = &callee.variables[..callee.formals];
         for (actual, &Variable { inner, need, .. }) in (first..).zip(formals) {
             let Some(need) = need else { continue };
             let carried = self.carried(self.variable(actual));
-            if let Some(bound) = self.bind(carried, need, report) {
-                if !self.amplified(bound.kind, inner, callee.owner) {
-                    self.bind(Some(bound), inner, report);
+            if let Some(bound) = self.bind(carried, read(need), report) {
+                if !self.amplified(bound.form, inner, callee.owner) {
+                    self.bind(Some(bound), read(inner), report);
                 }
             }
         }
     }
 
-    /// Whether the value's type and inner's base are the owner.
-    fn amplified(&self, kind: Kind, inner: usize, owner: Option<usize>) -> bool {
-        let of_owner = |kind| matches!(kind, Kind::Record { of } if Some(of) == owner);
-        of_owner(kind) && of_owner(self.program.qualified[inner].kind)
+    /// Whether the value's type and inner's base are the owner. An inner that
+    /// stands as ?R is of no base: it is never amplified.
+    fn amplified(&self, form: Form, inner: usize, owner: Option<usize>) -> bool {
+        let of_owner = |of| Some(of) == owner;
+        let value = matches!(form, Form::Record { of } if of_owner(of));
+        let inner = self.program.qualified[inner].kind;
+        value && matches!(inner, Kind::Record { of } if of_owner(of))
     }
 
     /// The value is bound to the result, then to the caller's variable.
@@ -99,47 +103,50 @@ impl Machine<'_> {
         let Some(result) = self.procedure().result else {
             return;
         };
+        let result = Read {
+            qualified: result,
+            reading: self.reading(),
+        };
         let bound = self.bind(self.carried(self.variable(value)), result, report);
         if let (Some(bound), Some((caller, to))) = (bound, self.kept()) {
-            let variables = &self.program.procedures[caller.procedure].variables;
-            self.bind(Some(bound), variables[to].inner, report);
+            self.bind(Some(bound), self.declared(caller, to), report);
         }
     }
 
     /// Binds a value to a declared type. What comes out, unless the value is
     /// blank, carries the declared rights.
-    fn bind(&self, source: Option<Carried>, to: usize, report: &mut Report) -> Option<Carried> {
-        let declared = &self.program.qualified[to];
+    fn bind(&self, source: Option<Carried>, to: Read, report: &mut Report) -> Option<Carried> {
+        let declared = self.program.read(to);
         report.require(source.is_some(), Phase::Movement, Stop::Blank);
-        let Carried { kind, rights } = source?;
-        let same = self.program.same_kind(kind, declared.kind);
+        let Carried { form, rights } = source?;
+        let same = self.program.same_form(form, declared.form);
         report.require(same, Phase::Movement, Stop::WrongKind);
         let enough = rights.includes(&declared.rights);
         report.require(enough, Phase::Movement, Stop::MissingRight);
         Some(Carried {
-            kind,
+            form,
             rights: declared.rights,
         })
     }
 
     /// Binds a value that is computed, taken or new, and has all rights of its
     /// type, to a variable.
-    fn bind_new(&self, kind: Kind, to: usize, report: &mut Report) {
-        let rights = match kind {
-            Kind::Integer => Rights::NONE,
-            Kind::Array { .. } => Rights::range(Rights::FETCH, Rights::SIZE),
-            Kind::Record { of } => Rights::range(Rights::OPEN, self.program.types[of].named_rights),
+    fn bind_new(&self, form: Form, to: usize, report: &mut Report) {
+        let rights = match form {
+            Form::Integer | Form::Generic { .. } => Rights::NONE,
+            Form::Array { .. } => Rights::range(Rights::FETCH, Rights::SIZE),
+            Form::Record { of } => Rights::range(Rights::OPEN, self.program.types[of].named_rights),
         };
-        self.bind(Some(Carried { kind, rights }), self.inner(to), report);
+        self.bind(Some(Carried { form, rights }), self.inner(to), report);
     }
 
-    fn bind_variable(&self, from: usize, to: usize, report: &mut Report) {
+    fn bind_variable(&self, from: usize, to: Read, report: &mut Report) {
         self.bind(self.carried(self.variable(from)), to, report);
     }
 
     fn carried(&self, cell: Cell) -> Option<Carried> {
         cell.map(|held| Carried {
-            kind: self.state.kind(held.value),
+            form: self.state.form(held.value),
             rights: held.rights,
         })
     }

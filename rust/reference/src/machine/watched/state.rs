@@ -1,6 +1,7 @@
 //! The state of the watched machine: beside each filled cell its carried
 //! rights, with each object its type and, for arrays, its element.
 
+use crate::generic::{Form, Read, Reading};
 use crate::program::{Kind, Rights};
 
 #[derive(Clone, Copy, Debug, PartialEq, Eq)]
@@ -23,13 +24,33 @@ pub type Cell = Option<Held>;
 #[derive(Clone, Debug, PartialEq)]
 pub struct Object {
     pub kind: Kind,
+    /// Base and set in place of ?R, where the object was made under one.
+    pub reading: Reading,
     pub cells: Vec<Cell>,
+}
+
+impl Object {
+    /// The type of the object, its element read.
+    pub fn form(&self) -> Form {
+        match self.kind {
+            Kind::Array { element: qualified } => {
+                let reading = self.reading;
+                let element = Read { qualified, reading };
+                Form::Array { element }
+            }
+            Kind::Record { of } => Form::Record { of },
+            // No object is made so.
+            Kind::Integer | Kind::Generic => Form::Integer,
+        }
+    }
 }
 
 #[derive(Clone, Debug, PartialEq)]
 pub struct Frame {
     pub procedure: usize,
     pub next: usize,
+    /// The set that the call settled; empty where there is no rights name.
+    pub set: Rights,
     pub variables: Vec<Cell>,
 }
 
@@ -57,6 +78,14 @@ impl State {
         match value {
             Value::Integer(_) => Kind::Integer,
             Value::Object(number) => self.objects[number].kind,
+        }
+    }
+
+    /// The type of a value, the element of an array read.
+    pub fn form(&self, value: Value) -> Form {
+        match value {
+            Value::Integer(_) => Form::Integer,
+            Value::Object(number) => self.objects[number].form(),
         }
     }
 }

@@ -1,0 +1,24 @@
+-- The word says whether there is a GN, which has the least set.
+use mathlib.Core.Path.{sym, _∙_}
+use Rattle.index.proofs.Bounds.{bounded-at, least-some, least-none}
+use borrow.Author.Needs.{needs}
+use Rattle.index.proofs.procedures.least_in.Statement.{statement}
+use Rattle.index.proofs.procedures.least_in.Tie as tie
+
+returns : tie.Need-returns
+returns c k p e =
+    c .word .ensures ∙ sym (least-some _ _ _ (bounded-at _ _ _ p e ∙ sym (c .before .before .is-bounded-in .ensures) ∙ c .before .if1 .taken))
+
+returns-2 : tie.Need-returns-2
+returns-2 c k p e = sym (least-none _ _ _ (bounded-at _ _ _ p e ∙ sym (c .before .is-bounded-in .ensures) ∙ c .if1 .left))
+
+pub least-in-spec : {M : Type 1} → statement M
+least-in-spec =
+    tie.close
+    (tie.spec
+    (λ c κs. search needs)
+    (λ c. search needs)
+    (λ c κs. search needs)
+    (λ c. search needs)
+    returns
+    returns-2)

@@ -1,0 +1,136 @@
+//! Qualified types as a procedure or a frame of it reads them.
+
+use crate::sheet::{Kind, RightsName, Sheet};
+
+/// A qualified type as a tree, ?R read.
+#[derive(Clone, Debug, PartialEq, Eq)]
+pub enum Type {
+    Integer,
+    Declared {
+        of: usize,
+        rights: u32,
+    },
+    Tray {
+        element: Box<Type>,
+        rights: u32,
+    },
+    /// ?R inside its procedure. None where the procedure declares none.
+    Name(Option<RightsName>),
+}
+
+/// What ?R is read as.
+#[derive(Clone, Debug, PartialEq, Eq)]
+pub enum Reading {
+    /// Itself, as the rules of its procedure read it.
+    Name(Option<RightsName>),
+    /// What a call settled it to.
+    As(Type),
+}
+
+/// The right to open a record, right 0.
+const OPEN: u32 = 1;
+
+impl Type {
+    /// The rights at the top; those of ?R are the least.
+    pub fn rights(&self) -> u32 {
+        match self {
+            Type::Integer => 0,
+            Type::Declared { rights, .. } | Type::Tray { rights, .. } => *rights,
+            Type::Name(name) => name.map_or(0, |name| name.least),
+        }
+    }
+
+    /// The type with other rights at the top.
+    pub fn with(&self, new: u32) -> Type {
+        let mut changed = self.clone();
+        if let Type::Declared { rights, .. } | Type::Tray { rights, .. } = &mut changed {
+            *rights = new;
+        }
+        changed
+    }
+
+    /// The declared type that it is of.
+    pub fn declared(&self) -> Option<usize> {
+        match self {
+            Type::Declared { of, .. } => Some(*of),
+            Type::Name(name) => name.map(|name| name.of),
+            Type::Integer | Type::Tray { .. } => None,
+        }
+    }
+
+    /// Whether it is ?R or a tray of what is.
+    pub fn uses_name(&self) -> bool {
+        match self {
+            Type::Name(_) => true,
+            Type::Tray { element, .. } => element.uses_name(),
+            Type::Integer | Type::Declared { .. } => false,
+        }
+    }
+
+    /// Whether a value of this type has the kind of the other: the same base
+    /// and, for trays, equal elements.
+    pub fn is_alike(&self, other: &Type) -> bool {
+        match (self, other) {
+            (Type::Integer, Type::Integer) => true,
+            (Type::Tray { element: one, .. }, Type::Tray { element: two, .. }) => one == two,
+            (Type::Name(one), Type::Name(two)) => one == two,
+            _ => self.declared().is_some() && self.declared() == other.declared(),
+        }
+    }
+
+    /// Whether this has every right of the other: only ?R has those of ?R.
+    pub fn covers(&self, other: &Type) -> bool {
+        match (self, other) {
+            (Type::Name(_), Type::Name(_)) => true,
+            (_, Type::Name(_)) => false,
+            _ => other.rights() & !self.rights() == 0,
+        }
+    }
+
+    /// What an actual of this type settles ?R to in the need of a formal, open
+    /// left out; None where shape or base is another.
+    pub fn settles(&self, need: &Type) -> Option<Type> {
+        match (need, self) {
+            (Type::Tray { element: need, .. }, Type::Tray { element, .. }) => element.settles(need),
+            (Type::Name(Some(name)), actual) if actual.declared() == Some(name.of) => {
+                Some(actual.with(actual.rights() & !OPEN))
+            }
+            _ => None,
+        }
+    }
+
+    /// The same type with ?R read so.
+    pub fn read(&self, reading: &Reading) -> Type {
+        match (self, reading) {
+            (Type::Name(_), Reading::Name(name)) => Type::Name(*name),
+            (Type::Name(_), Reading::As(settled)) => settled.clone(),
+            (Type::Tray { element, rights }, _) => Type::Tray {
+                element: Box::new(element.read(reading)),
+                rights: *rights,
+            },
+            _ => self.clone(),
+        }
+    }
+}
+
+impl Sheet {
+    /// A qualified type with ?R read so.
+    pub fn read_type(&self, number: usize, reading: &Reading) -> Type {
+        let qualified = &self.qualified[number];
+        let rights = qualified.rights;
+        match qualified.kind {
+            Kind::Integer => Type::Integer,
+            Kind::Declared { of } => Type::Declared { of, rights },
+            Kind::Tray { element } => Type::Tray {
+                element: Box::new(self.read_type(element, reading)),
+                rights,
+            },
+            Kind::Name => Type::Name(None).read(reading),
+        }
+    }
+
+    /// ?R as the rules of a procedure read it.
+    pub fn own_name(&self, procedure: usize) -> Reading {
+        Reading::Name(self.procedures[procedure].name)
+    }
+}
