@@ -18,8 +18,8 @@ static void words(void)
 {
     tally(strcmp(wn_word(WN_ACCEPTED), "accepted") == 0, "the first word");
     tally(strcmp(wn_word(WN_DONE), "done") == 0, "a word between");
-    tally(strcmp(wn_word(WN_CARRIED_RIGHT), "unlicensed") == 0, "the last word");
-    tally(strcmp(wn_word(WN_CARRIED_RIGHT + 1), "no such number") == 0, "one number too far");
+    tally(strcmp(wn_word(WN_SHORT), "short") == 0, "the last word");
+    tally(strcmp(wn_word(WN_SHORT + 1), "no such number") == 0, "one number too far");
     tally(strcmp(wn_word(UINT64_C(1) << 32), "no such number") == 0, "a number of 33 bits");
     tally(strcmp(wn_word(UINT64_MAX), "no such number") == 0, "the largest number");
 }

@@ -1,12 +1,13 @@
 -- The table of the types that use ?R: a type by its word in the index, and the table filled so far.
-use Prim.Native.Nat.{ℕ, _+_, _*_, _-_, _<_, _≤_}
-use mathlib.Core.Path.{_≡_, refl, ap, _∙_}
+use Prim.Native.Nat.{ℕ, zero, suc, _+_, _*_, _-_, _<_, _≤_}
+use mathlib.Core.Path.{_≡_, refl, sym, ap, _∙_}
 use mathlib.Core.List.{List, [], _∷_}
 use mathlib.Core.Bool.{Bool, true, false, not, _&&_, _||_, cond}
 use mathlib.Core.Option.{none, some}
+use mathlib.Core.Logic.{_⊎_, ⊎-elim}
 use native.Mathlib.Omega.{arith}
 use lib.Dec.{eqb, ltb, leb}
-use lib.ListN.{length, set}
+use lib.ListN.{length, getD, set, replicate}
 use lib.Seq.{getD-set-same, getD-set-other}
 use borrow.Author.Count.{below-more}
 use borrow.Author.Tests.{ltb-true, ltb-false, lt-ltb, le-ltb, le-leb, lt-leb, eqb-true, eq-eqb, ne-eqb}
@@ -16,8 +17,8 @@ use Rattle.model.specs.Generic.{uses}
 use Rattle.model.specs.Refusal.{off-scale, Test, test, Tests, tests, failure, verdict, each}
 use Rattle.model.specs.declared.Verdict.{Verdict}
 use Rattle.sheet.specs.Bytes.{byteAt}
-use Rattle.sheet.specs.Layout.{typeAt, slotsOf, slotOf, resultAt, isBounded, variableAt, innerAt, needAt}
-use Rattle.sheet.specs.Meaning.{qualOf, slotIn, innerIn, needIn, resultIn}
+use Rattle.sheet.specs.Layout.{qualsOf, typeAt, slotsOf, slotOf, resultAt, isBounded, variableAt, innerAt, needAt}
+use Rattle.sheet.specs.Meaning.{shaped, baseIn, tree, qualOf, slotIn, innerIn, needIn, resultIn}
 use Rattle.index.specs.Types.{word-in, shape-of, element-of, element-below, qualIn}
 use Rattle.index.specs.Indexed.{Ready}
 use Rattle.index.proofs.Trees.{Shape, an-integer, an-array, a-declared, a-generic, shape-is, none-qual, qual-shaped}
@@ -37,6 +38,11 @@ no-uses : (t : List ℕ) (j : ℕ) → 64 ≤ j → uses (qualIn t j) ≡ false
 unfolding uses
 no-uses t j h = rw (none-qual t j h)
 
+-- a number that the sheet has not is of no type
+unbased : (s : List ℕ) (j : ℕ) → qualsOf s ≤ j → false ≡ uses (qualOf s j)
+unfolding uses qualOf tree baseIn shaped
+unbased s j h = rw (le-ltb j (qualsOf s) h)
+
 module _ (t : List ℕ) (j w b : ℕ) (d : w ≡ word-in t j) (s : b ≡ shape-of w) where
   word-uses : uses (qualIn t j) ≡ cond (eqb b 1) (uses (qualIn t (element-below w j))) (leb 256 b)
   word-uses = rw (s, d) (ap uses (qual-shaped t j) ∙ shape-uses (shape-is _ _ _))
@@ -54,17 +60,24 @@ module _ (t : List ℕ) (j w b : ℕ) (d : w ≡ word-in t j) (s : b ≡ shape-o
   name-uses n = rw (word-uses, ne-eqb b 1 n)
 
 -- ---- the table
+-- no entry from n on is filled
+abbrev pub Blank : (u : List Bool) → ℕ → Type 0
+Blank u n = (k : ℕ) → n ≤ k → used-in u k ≡ false
+
 module _ (t : List ℕ) (u : List Bool) where
   abbrev pub Filled : ℕ → Type 0
   Filled n = (k : ℕ) → k < n → used-in u k ≡ uses (qualIn t k)
 
-  pub all-filled : (s : List ℕ) → Ready s t → Filled 64 → Uses s u
-  unfolding used-in
-  all-filled s ready f j = go (ltb j 64) refl
+  -- up to the number of the types, or up to the end of the table
+  pub all-filled : (s : List ℕ) → Ready s t → (n : ℕ) → Filled n → Blank u n → (qualsOf s ≤ n) ⊎ (64 ≤ n) → Uses s u
+  all-filled s ready n f e past j = go (ltb j n) refl
     where
-      go : (b : Bool) → ltb j 64 ≡ b → used-in u j ≡ uses (qualOf s j)
-      go true e = f j (ltb-true j 64 e) ∙ ap uses (ready .types j)
-      go false e = rw (e, ← ready .types j) (rw (no-uses t j (ltb-false j 64 e)))
+      rest : n ≤ j → false ≡ uses (qualOf s j)
+      rest h = ⊎-elim (λ p. unbased s j (omega arith)) (λ p. sym (ap uses (sym (ready .types j)) ∙ no-uses t j (omega arith))) past
+
+      go : (b : Bool) → ltb j n ≡ b → used-in u j ≡ uses (qualOf s j)
+      go true h = f j (ltb-true j n h) ∙ ap uses (ready .types j)
+      go false h = e j (ltb-false j n h) ∙ rest (ltb-false j n h)
 
 pub filled-more : (t : List ℕ) (u : List Bool) (j : ℕ) (b : Bool) → length u ≡ 64 → j < 64 → b ≡ uses (qualIn t j) → Filled t u j → Filled t (set u j b) (j + 1)
 unfolding used-in
@@ -72,6 +85,23 @@ filled-more t u j b l h e f =
     below-more (λ k. used-in (set u j b) k ≡ uses (qualIn t k)) j
     (λ k m. rw (getD-set-other u j k b false (λ z. omega arith)) (f k m))
     (rw (lt-ltb j 64 h, getD-set-same u j b false (omega arith)) e)
+
+blank-get : (n k : ℕ) → getD (replicate n false) k false ≡ false
+blank-get zero k = refl
+blank-get (suc n) zero = refl
+blank-get (suc n) (suc k) = blank-get n k
+
+pub blank-start : (n : ℕ) → Blank (replicate n false) 0
+unfolding used-in
+blank-start n k h = go (ltb k 64)
+  where
+    go : (b : Bool) → cond b (getD (replicate n false) k false) false ≡ false
+    go true = blank-get n k
+    go false = refl
+
+pub blank-more : (u : List Bool) (j : ℕ) (b : Bool) → Blank u j → Blank (set u j b) (j + 1)
+unfolding used-in
+blank-more u j b e k h = rw (getD-set-other u j k b false (λ z. omega arith)) (e k (omega arith))
 
 -- ---- what it says of a record
 -- the test of one slot of the TY at a place

@@ -121,7 +121,7 @@ fn calls(s: &[u8], index: &Index) -> Verdict
     requires { ⌜ Ready (now s) (now index) ⌝ }
     ensures { λ r. ⌜ r ≡ verdict (calls-tests (now (s .entry))) ⌝ }
 {
-    let uses = uses_of(index);
+    let uses = uses_of(index, byte(s, 0, 4));
     let types = slot_uses(s, &uses, byte(s, 0, 3));
     let Verdict::Accepted = types else {
         return types;

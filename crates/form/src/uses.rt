@@ -16,7 +16,7 @@ ghost use Prim.Native.Nat.{ℕ, _+_, _<_};
 ghost use Rattle.model.specs.Refusal.{verdict, failure, test, tests, off-scale, each};
 ghost use Rattle.model.specs.Generic as generic;
 ghost use Rattle.sheet.specs.Bytes.{byteAt};
-ghost use Rattle.sheet.specs.Layout.{variablesAt, isBounded};
+ghost use Rattle.sheet.specs.Layout.{qualsOf, variablesAt, isBounded};
 ghost use Rattle.sheet.specs.Meaning.{qualOf};
 ghost use Rattle.index.specs.Types.{qualIn};
 ghost use Rattle.index.specs.Indexed.{Ready};
@@ -50,13 +50,13 @@ fn uses_in(table: &[bool; 64], j: u8) -> bool
     false
 }
 
-// The table: whether each qualified type uses ?R, itself or as an element.
-pub fn uses_of(index: &Index) -> [bool; 64]
-    ensures { λ t. ⌜ ((s : List ℕ) → Ready s (now (index .entry)) → Uses s t) ⌝ }
+// The table: whether each of q qualified types uses ?R, itself or as an element.
+pub fn uses_of(index: &Index, q: u8) -> [bool; 64]
+    ensures { λ t. ⌜ ((s : List ℕ) → Ready s (now (index .entry)) → q ≡ qualsOf s → Uses s t) ⌝ }
 {
     let mut table = [false; 64];
     let mut j: u8 = 0;
-    while j < 64 {
+    while (j < q) & (j < 64) {
         table[j as usize] = use_of(index, &table, j);
         j += 1;
     }

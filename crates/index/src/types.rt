@@ -83,7 +83,7 @@ pub fn element_in(w: u64, j: u8) -> u8
 }
 
 // The rights of QT j as its record has it, ?R unread, and where ?R is read as a name has it.
-fn rights_by(w: u64) -> u32
+pub fn rights_by(w: u64) -> u32
     ensures { λ r. ⌜ r ≡ cond (eqb (shape-of w) 0) 0 (rights-of w) ⌝ }
 {
     if shape_in(w) == 0 {

@@ -7,9 +7,8 @@ use native.Mathlib.Omega.{arith}
 use lib.Dec.{eqb, ltb, leb}
 use borrow.Author.Tests.{eqb-true, eqb-false, eq-eqb, ne-eqb, ltb-true, ltb-false, lt-ltb, le-ltb, le-leb}
 use Rattle.model.specs.Rights.{Rights}
-use Rattle.model.specs.Qualified.{Qual, integer, array, declared, generic, base, isInteger, same, alike, covers, order}
-use Rattle.model.specs.Refusal.{failure}
-use Rattle.model.specs.Rules.{moves, amplifies}
+use Rattle.model.specs.Qualified.{Qual, integer, array, declared, generic, base, isInteger, same, alike}
+use Rattle.model.specs.Rules.{amplifies}
 use Rattle.model.proofs.Verdicts.{both-true}
 use Rattle.index.specs.Types.{word-in, rights-of, shape-of, element-of, element-below, qualIn, word-as, typeIn}
 use Rattle.index.proofs.Trees.{Shape, an-integer, an-array, a-declared, a-generic, shape-is, qual-shaped}
@@ -145,16 +144,6 @@ amplifies-shape (a-generic b h) o l = rw (ne-eqb b o (λ z. omega arith)) (never
     never : (t : Bool) → false ≡ t && false
     never true = refl
     never false = refl
-
--- a movement that the order allows passes both tests; of another, bases and elements tell 9 from 8
-pub moves-failure : (a b : Qual) → failure (moves a b) ≡ cond (order a b) 0 (cond (alike a b) 9 8)
-unfolding failure moves order
-moves-failure a b = go (alike a b) (covers a b)
-  where
-    go : (t u : Bool) → _≡_ {A = ℕ} (cond t (cond u 0 9) 8) (cond (t && u) 0 (cond t 9 8))
-    go true true = refl
-    go true false = refl
-    go false u = refl
 
 -- ---- of the types of an index
 pub shape-small : (w : ℕ) → shape-of w < 512

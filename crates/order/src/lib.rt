@@ -3,9 +3,8 @@
 use index::Index;
 use index::types::element_in;
 use index::types::element_number;
-use index::types::is_generic;
 use index::types::is_integer;
-use index::types::rights_as;
+use index::types::rights_by;
 use index::types::rights_in;
 use index::types::shape_in;
 use index::types::type_word;
@@ -13,10 +12,12 @@ use index::types::type_word_as;
 use rights::is_within;
 ghost use mathlib.Core.Path.{_≡_};
 ghost use mathlib.Core.Bool.{cond};
+ghost use mathlib.Core.List.{List};
+ghost use Prim.Native.Nat.{ℕ};
 ghost use Rattle.model.specs.Qualified.{same, alike, covers, order};
 ghost use Rattle.model.specs.Refusal.{failure};
 ghost use Rattle.model.specs.Rules.{moves, owned-by, amplifies};
-ghost use Rattle.index.specs.Types.{qualIn, typeIn};
+ghost use Rattle.index.specs.Types.{qualIn, typeIn, word-as};
 
 // Of the owner's type; owner 0 is none. ?R has the base that it is read with.
 pub fn is_owned(index: &Index, name: u64, owner: u8, j: u8) -> bool
@@ -65,12 +66,11 @@ pub fn equal(index: &Index, m: u64, i: u8, n: u64, j: u8) -> bool
     equal_in(index, m, i, n, j)
 }
 
-// Equal shapes and, for arrays, equal elements; ?R and a type of its base.
-fn is_alike(index: &Index, m: u64, i: u8, n: u64, j: u8) -> bool
+// Equal shapes and, for arrays, equal elements; ?R and a type of its base. v and w are the words of the two types, as they are read.
+fn is_alike(index: &Index, m: u64, i: u8, v: u64, n: u64, j: u8, w: u64) -> bool
+    requires { ⌜ (v ≡ word-as (now index) m i) × (w ≡ word-as (now index) n j) ⌝ }
     ensures { λ r. ⌜ r ≡ alike (typeIn (now (index .entry)) m i) (typeIn (now (index .entry)) n j) ⌝ }
 {
-    let v = type_word_as(index, m, i);
-    let w = type_word_as(index, n, j);
     let b = shape_in(v);
     let c = shape_in(w);
     if b == c {
@@ -82,34 +82,36 @@ fn is_alike(index: &Index, m: u64, i: u8, n: u64, j: u8) -> bool
     (2 <= b) & (b + 256 == c) | (2 <= c) & (c + 256 == b)
 }
 
-// The rights of QT j are among those of QT i; only ?R reaches ?R.
-fn is_covered(index: &Index, m: u64, i: u8, n: u64, j: u8) -> bool
-    ensures { λ r. ⌜ r ≡ covers (typeIn (now (index .entry)) m i) (typeIn (now (index .entry)) n j) ⌝ }
+// The rights of the type of a word, w, are among those of another, v; only ?R reaches ?R.
+fn is_covered(v: u64, w: u64) -> bool
+    ensures { λ r. ⌜ ((t : List ℕ) (m i n j : ℕ) → v ≡ word-as t m i → w ≡ word-as t n j → r ≡ covers (typeIn t m i) (typeIn t n j)) ⌝ }
 {
-    if is_generic(index, n, j) {
-        return is_generic(index, m, i);
+    if shape_in(w) < 256 {
+        return is_within(rights_by(w), rights_by(v));
     }
-    is_within(rights_as(index, n, j), rights_as(index, m, i))
-}
-
-// QT i ≥ QT j.
-pub fn is_above(index: &Index, m: u64, i: u8, n: u64, j: u8) -> bool
-    ensures { λ r. ⌜ r ≡ order (typeIn (now (index .entry)) m i) (typeIn (now (index .entry)) n j) ⌝ }
-{
-    is_alike(index, m, i, n, j) & is_covered(index, m, i, n, j)
+    256 <= shape_in(v)
 }
 
 // The number of the refusal of a movement from QT i to QT j: 8, then 9; 0 where there is none.
 pub fn movement(index: &Index, m: u64, i: u8, n: u64, j: u8) -> u8
     ensures { λ r. ⌜ r ≡ failure (moves (typeIn (now (index .entry)) m i) (typeIn (now (index .entry)) n j)) ⌝ }
 {
-    if is_above(index, m, i, n, j) {
-        return 0;
-    }
-    if is_alike(index, m, i, n, j) {
+    let v = type_word_as(index, m, i);
+    let w = type_word_as(index, n, j);
+    if is_alike(index, m, i, v, n, j, w) {
+        if is_covered(v, w) {
+            return 0;
+        }
         return 9;
     }
     8
+}
+
+// QT i ≥ QT j.
+pub fn is_above(index: &Index, m: u64, i: u8, n: u64, j: u8) -> bool
+    ensures { λ r. ⌜ r ≡ order (typeIn (now (index .entry)) m i) (typeIn (now (index .entry)) n j) ⌝ }
+{
+    movement(index, m, i, n, j) == 0
 }
 
 // The rest where a test holds, else a refusal.

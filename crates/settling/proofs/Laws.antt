@@ -5,14 +5,14 @@ use mathlib.Core.List.{List, [], _∷_}
 use mathlib.Core.Bool.{Bool, true, false, false≢true, _&&_, cond}
 use native.Mathlib.Omega.{arith}
 use lib.Dec.{eqb, ltb}
-use borrow.Author.Tests.{eqb-true, eqb-false, eq-eqb, ne-eqb, le-ltb}
+use borrow.Author.Tests.{eqb-true, eqb-false, eq-eqb, ne-eqb, lt-ltb, le-ltb}
 use Rattle.model.specs.Rights.{Rights, less-open}
 use Rattle.model.specs.Qualified.{Qual, integer, array, declared, generic, base, rights, element, isArray, same}
 use Rattle.model.specs.Generic.{only, uses, settles}
-use Rattle.index.specs.Types.{rights-of, shape-of, of-shape, element-of, element-below, named-as, name-type, word-as, typeIn, ElementIn}
-use Rattle.index.proofs.Trees.{Shape, an-integer, an-array, a-declared, a-generic, shape-is, of-generic, array-shape}
+use Rattle.index.specs.Types.{word-in, rights-of, shape-of, of-shape, element-of, element-below, named-as, name-type, word-as, qualIn, typeIn, ElementIn}
+use Rattle.index.proofs.Trees.{Shape, an-integer, an-array, a-declared, a-generic, shape-is, of-generic, array-qual, none-qual}
 use Rattle.index.proofs.Reading.{name-shape, base-named, rights-named, none-type, type-element, type-word-as, generic-word}
-use Rattle.settling.specs.Settles.{settles-as, uses-as, SettlesIs, least-name}
+use Rattle.settling.specs.Settles.{settles-as, uses-as, SettlesIs, Innermost, least-name}
 use Rattle.settling.specs.declared.Settles.{Settles}
 use Rattle.settling.specs.declared.Settles.the-variants as One
 
@@ -104,9 +104,6 @@ settles-plain (a-generic c x) h k a = absurd (omega arith)
 -- ---- Those of an index: a need of number j, read with n, and an actual of number i, read with m
 
 module _ (t : List ℕ) (n j : ℕ) where
-  pub not-array : (shape-of (word-as t n j) ≡ 1 → ⊥) → isArray (typeIn t n j) ≡ false
-  not-array h = ap isArray (type-word-as t n j) ∙ array-shape _ _ _ ∙ ne-eqb _ _ h
-
   is-array : shape-of (word-as t n j) ≡ 1 → typeIn t n j ≡ array (rights-of (word-as t n j)) (typeIn t n (element-below (word-as t n j) j))
   unfolding of-shape
   is-array h = type-word-as t n j ∙ rw h
@@ -123,10 +120,6 @@ module _ (t : List ℕ) (n j : ℕ) where
   generic-uses : 256 ≤ shape-of (word-as t n j) → true ≡ uses (typeIn t n j)
   unfolding uses
   generic-uses h = rw (is-generic h)
-
-  pub element-stands : ltb (element-of (word-as t n j)) j ≡ true → element-below (word-as t n j) j ≡ element-of (word-as t n j)
-  unfolding element-below
-  element-stands l = rw l
 
   -- an element whose number does not fall is read as an integer
   none-below : ltb (element-of (word-as t n j)) j ≡ false → element-below (word-as t n j) j ≡ 255
@@ -180,3 +173,41 @@ module _ (t : List ℕ) (n j : ℕ) where
     settles-none h l =
         let e : typeIn t n (element-below (word-as t n j) j) ≡ integer = ap (typeIn t n) (none-below l) ∙ none-type t n 255 (omega arith) in
         record { settled = rw (is-array h, e); used = rw (is-array h, e) }
+
+-- ---- down to the innermost type of a need
+raw-array : (t : List ℕ) (n j : ℕ) → shape-of (word-in t j) ≡ 1 → word-as t n j ≡ word-in t j
+unfolding word-as
+raw-array t n j h = rw (lt-ltb (shape-of (word-in t j)) 256 (omega (arith, h)))
+
+module _ (t : List ℕ) (j i : ℕ) where
+  pub inner-element : {e y x : ℕ} → shape-of (word-in t j) ≡ 1 → ltb (element-of (word-in t j)) j ≡ true → e ≡ element-of (word-in t j) → ElementIn t i y
+      → Innermost t e y x → Innermost t j i x
+  unfolding element-below
+  inner-element {e} {y} {x} h l d el r =
+      record {
+        plain = r .plain;
+        leads = λ n m s k.
+            let w = raw-array t n j h in
+            settles-element t n j m i (ap shape-of w ∙ h) el (rw (w, l, sym d) (r .leads n m s k));
+      }
+
+  pub inner-none : shape-of (word-in t j) ≡ 1 → ltb (element-of (word-in t j)) j ≡ false → Innermost t j i 65535
+  unfolding isArray settles uses settles-as uses-as
+  inner-none h l =
+      record {
+        plain = rw (none-qual t 255 (omega arith));
+        leads = λ n m s k.
+            let w = raw-array t n j h in
+            let z = settles-none t n j m i (ap shape-of w ∙ h) (rw w l) in
+            let e = none-type t n 255 (omega arith) in
+            record { settled = rw e at (k .settled) ∙ z .settled; used = rw e at (k .used) ∙ z .used };
+      }
+
+  pub inner-base : {x : ℕ} → (shape-of (word-in t j) ≡ 1 → ⊥) → i < 256 → x ≡ j * 256 + i → Innermost t j i x
+  inner-base {x} h l e =
+      let d : x / 256 ≡ j = omega arith in
+      let r : x % 256 ≡ i = omega arith in
+      record {
+        plain = rw d (array-qual t j ∙ ne-eqb _ 1 h);
+        leads = λ n m s k. rw (d, r) at k;
+      }

@@ -1,13 +1,13 @@
 -- What the code answers of settling (document 02, S-1), in the definition's words.
-use Prim.Native.Nat.{ℕ, _%_, _^_}
+use Prim.Native.Nat.{ℕ, _/_, _%_, _^_}
 use mathlib.Core.Path.{_≡_}
 use mathlib.Core.Bool.{Bool, true, false, not}
 use mathlib.Core.List.{List, [], _∷_}
-use Rattle.model.specs.Qualified.{Qual}
+use Rattle.model.specs.Qualified.{Qual, isArray}
 use Rattle.model.specs.Generic.{Bound, no-bound, at-least, own, uses, settles, first-or, settled, all-same, some-uses, is-settled, is-enough}
 use Rattle.model.specs.Rules.{Callee, found-by}
 use Rattle.sheet.specs.Layout.{formalsAt}
-use Rattle.index.specs.Types.{named-as}
+use Rattle.index.specs.Types.{named-as, qualIn, typeIn}
 use Rattle.index.specs.Scope.{innerAs, needAs, resultAs}
 use Rattle.index.specs.declared.procedures.Scope.{Scope}
 use Rattle.settling.specs.declared.Settles.{Settles}
@@ -35,6 +35,11 @@ uses-as (One.To n) = true
 pub record SettlesIs (need actual : Qual) (r : Settles) : Type 0 where
   pub settled : settles-as r ≡ settles need actual
   pub used : uses-as r ≡ uses need
+
+-- what an actual of type i settles for a need of type j is what the types of the two numbers in x do, and the need's is no array
+pub record Innermost (t : List ℕ) (j i x : ℕ) : Type 0 where
+  pub plain : isArray (qualIn t (x / 256)) ≡ false
+  pub leads : (n m : ℕ) (r : Settles) → SettlesIs (typeIn t n (x / 256)) (typeIn t m (x % 256)) r → SettlesIs (typeIn t n j) (typeIn t m i) r
 
 -- the name of the least set, from the name of ?R as its procedure reads it
 unfoldable pub least-name : ℕ → ℕ

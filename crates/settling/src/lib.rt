@@ -8,6 +8,7 @@ use index::types::element_of;
 use index::types::name_rights;
 use index::types::rights_in;
 use index::types::shape_in;
+use index::types::type_word;
 use index::types::type_word_as;
 use rights::is_within;
 use sheet::fields::field;
@@ -23,7 +24,7 @@ ghost use Rattle.sheet.specs.Layout.{formalsAt};
 ghost use Rattle.index.specs.Types.{named-as, typeIn};
 ghost use Rattle.index.specs.Indexed.{Ready};
 ghost use Rattle.index.specs.Scope.{innerAs, needAs};
-ghost use Rattle.settling.specs.Settles.{settles-as, uses-as, SettlesIs, FoundIs, least-name, calleeAs, Settling, BoundOf};
+ghost use Rattle.settling.specs.Settles.{settles-as, uses-as, SettlesIs, Innermost, FoundIs, least-name, calleeAs, Settling, BoundOf};
 
 // What one actual settles: its need does not use ?R; it does, and nothing is settled; what a name has.
 enum Settles {
@@ -73,19 +74,27 @@ fn settles_base(index: &Index, n: u64, j: u8, m: u64, i: u8) -> Settles
     Settles::Nothing
 }
 
-// The same for any need: the shapes must agree down to ?R.
-fn settles_in(index: &Index, n: u64, j: u8, m: u64, i: u8) -> Settles
-    ensures { λ r. ⌜ SettlesIs (typeIn (now (index .entry)) n j) (typeIn (now (index .entry)) m i) r ⌝ }
+// The innermost type of a need of type j, and of an actual of type i the type as deep inside: two numbers in one, so that the compiler makes a loop of it.
+fn innermost(index: &Index, j: u8, i: u8) -> u16
+    ensures { λ x. ⌜ Innermost (now (index .entry)) j i x ⌝ }
 {
-    let w = type_word_as(index, n, j);
+    let w = type_word(index, j);
     if shape_in(w) == 1 {
         let e = element_number(w);
         if e < j {
-            return settles_in(index, n, e, m, element_of(index, i));
+            return innermost(index, e, element_of(index, i));
         }
-        return Settles::Unused;
+        return 65535;
     }
-    settles_base(index, n, j, m, i)
+    (j as u16) * 256 + (i as u16)
+}
+
+// What an actual settles, for any need: the shapes must agree down to ?R.
+fn settles_in(index: &Index, n: u64, j: u8, m: u64, i: u8) -> Settles
+    ensures { λ r. ⌜ SettlesIs (typeIn (now (index .entry)) n j) (typeIn (now (index .entry)) m i) r ⌝ }
+{
+    let x = innermost(index, j, i);
+    settles_base(index, n, (x / 256) as u8, m, (x % 256) as u8)
 }
 
 // Actual j of a call with variables from b on, in scope c, of the procedure of scope `to`.

@@ -1,12 +1,11 @@
--- The two tests are those of the definition, on what the callees ensure.
+-- Nothing refuses a movement exactly if the order allows it.
 use borrow.Author.Needs.{needs}
-use Rattle.model.specs.Qualified.{order}
+use Rattle.model.proofs.Order.{moves-order}
 use Rattle.order.proofs.is_above.Statement.{statement}
 use Rattle.order.proofs.is_above.Tie as tie
 
 returns : tie.Need-returns
-unfolding order
-returns c = rw (c .is-covered .ensures, c .before .is-alike .ensures)
+returns c = rw (c .movement .ensures) (moves-order _ _)
 
 pub is-above-spec : {M : Type 1} → statement M
-is-above-spec = tie.close (tie.spec (λ c κs. search needs) (λ c κs. search needs) returns)
+is-above-spec = tie.close (tie.spec (λ c κs. search needs) returns)
