@@ -52,14 +52,19 @@ static const uint8_t calls[] = {
     'I', 'N', 17, 0, 255, 255, 0, 0                         /* 162: return call */
 };
 
-/* The sheet `calls` with one byte changed */
-static void expect_changed(const char *what, size_t at, uint8_t byte, uint64_t number, uint64_t place)
+/* A sheet of at most as many bytes as `calls`, with one of them changed */
+static void expect_byte(const char *what, const uint8_t *from, size_t length, size_t at, uint8_t byte, uint64_t number, uint64_t place)
 {
     uint8_t sheet[sizeof calls];
 
-    memcpy(sheet, calls, sizeof calls);
+    memcpy(sheet, from, length);
     sheet[at] = byte;
-    expect(what, sheet, sizeof sheet, number, place);
+    expect(what, sheet, length, number, place);
+}
+
+static void expect_changed(const char *what, size_t at, uint8_t byte, uint64_t number, uint64_t place)
+{
+    expect_byte(what, calls, sizeof calls, at, byte, number, place);
 }
 
 static void replies(void)
@@ -164,14 +169,10 @@ static const uint8_t named[] = {
     'I', 'N', 17, 255, 255, 255, 0, 0                       /*  89 */
 };
 
-/* One byte of the sheet with a rights name changed. */
+/* One byte of the sheet with a rights name changed */
 static void expect_named(const char *what, size_t at, uint8_t byte, uint64_t number, uint64_t place)
 {
-    uint8_t sheet[sizeof named];
-
-    memcpy(sheet, named, sizeof sheet);
-    sheet[at] = byte;
-    expect(what, sheet, sizeof sheet, number, place);
+    expect_byte(what, named, sizeof named, at, byte, number, place);
 }
 
 static void rights_names(void)

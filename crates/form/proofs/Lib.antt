@@ -1,5 +1,5 @@
 pub mod Laws
-pub mod Table
+pub mod Misplaced
 pub mod Procedures
 pub mod WellFormed
 pub mod Numbers

@@ -2,7 +2,6 @@
 use crate::layout::layout;
 use crate::uses::head_use;
 use crate::uses::slot_uses;
-use crate::uses::uses_of;
 use crate::uses::variable_uses;
 use index::Index;
 use index::procedures::place_in;
@@ -21,7 +20,6 @@ ghost use Rattle.model.specs.Refusal.{verdict, failure, tests, each};
 ghost use Rattle.sheet.specs.Layout.{proceduresOf, variablesAt, instructionsAt, startFrom};
 ghost use Rattle.index.specs.Indexed.{Indexed, Ready};
 ghost use Rattle.form.specs.WellFormed.{call-tests-at, call-tests, procedure-calls-at, procedure-calls, calls-tests, form-tests};
-ghost use Rattle.form.specs.Uses.{Uses};
 
 // The number of the refusal of the IN at a place, in a procedure with v variables; 0 where there is none.
 fn call_number(s: &[u8], index: &Index, v: u8, at: usize) -> u8
@@ -73,41 +71,32 @@ fn calls_pass(s: &[u8], index: &Index, pr: u32, start: u32) -> Verdict
 }
 
 // Procedure p, at a place: where ?R may not stand in its PR and its VRs, then its calls.
-fn procedure_calls(
-    s: &[u8],
-    index: &Index,
-    uses: &[bool; 64],
-    p: usize,
-    pr: u32,
-    start: u32,
-) -> Verdict
+fn procedure_calls(s: &[u8], index: &Index, p: usize, pr: u32, start: u32) -> Verdict
     requires { ⌜ Ready (now s) (now index) ⌝ }
-    requires { ⌜ Uses (now s) (now uses) ⌝ }
     requires { ⌜ start ≡ startFrom (now s) p pr ⌝ }
     ensures { λ r. ⌜ r ≡ verdict (procedure-calls-at (now (s .entry)) p pr) ⌝ }
 {
     let bounded = is_bounded(s, p, pr);
-    let head = head_use(s, uses, bounded, pr);
+    let head = head_use(s, index, bounded, pr);
     let Verdict::Accepted = head else {
         return head;
     };
-    let variables = variable_uses(s, uses, bounded, pr, start);
+    let variables = variable_uses(s, index, bounded, pr, start);
     let Verdict::Accepted = variables else {
         return variables;
     };
     calls_pass(s, index, pr, start)
 }
 
-fn procedures_calls(s: &[u8], index: &Index, uses: &[bool; 64], n: usize) -> Verdict
+fn procedures_calls(s: &[u8], index: &Index, n: usize) -> Verdict
     requires { ⌜ Ready (now s) (now index) ⌝ }
-    requires { ⌜ Uses (now s) (now uses) ⌝ }
     requires { ⌜ n ≡ proceduresOf (now s) ⌝ }
     ensures { λ r. ⌜ r ≡ verdict (each n (procedure-calls (now (s .entry)))) ⌝ }
 {
     let mut p = 0;
     while p < n {
         let w = procedure_in(index, p);
-        let v = procedure_calls(s, index, uses, p, place_in(w), start_in(w));
+        let v = procedure_calls(s, index, p, place_in(w), start_in(w));
         let Verdict::Accepted = v else {
             return v;
         };
@@ -121,12 +110,11 @@ fn calls(s: &[u8], index: &Index) -> Verdict
     requires { ⌜ Ready (now s) (now index) ⌝ }
     ensures { λ r. ⌜ r ≡ verdict (calls-tests (now (s .entry))) ⌝ }
 {
-    let uses = uses_of(index, byte(s, 0, 4));
-    let types = slot_uses(s, &uses, byte(s, 0, 3));
+    let types = slot_uses(s, index, byte(s, 0, 3));
     let Verdict::Accepted = types else {
         return types;
     };
-    procedures_calls(s, index, &uses, byte(s, 0, 5) as usize)
+    procedures_calls(s, index, byte(s, 0, 5) as usize)
 }
 
 // Refusals 1 to 5.

@@ -1,6 +1,6 @@
 -- One word of an index filled in: the others stay.
 use Prim.Native.Nat.{ℕ, zero, suc, _+_, _-_, _*_, _/_, _%_, _^_, _<_}
-use mathlib.Core.Path.{_≡_, refl, ap, _∙_}
+use mathlib.Core.Path.{_≡_, refl, sym, ap, _∙_}
 use mathlib.Core.List.{List}
 use mathlib.Core.Bool.{Bool, true, false, cond}
 use native.Mathlib.Omega.{arith}
@@ -10,7 +10,7 @@ use lib.Seq.{getD-set-same, getD-set-other}
 use Rattle.sheet.specs.Layout.{baseOf, rightsOf, elementOf, formalsAt, variablesAt, isBounded, startFrom, variableAt, instructionFrom, procedureAt, startAt, instructionAt}
 use Rattle.words.specs.Word.{number-of, variables-of, formals-of, bounded-of, first-of, procedure-word}
 use Rattle.words.proofs.Laws.{procedure-is, number-is, variables-is, formals-is, bounded-is, first-is}
-use Rattle.index.specs.Types.{rights-of, shape-of, element-of}
+use Rattle.index.specs.Types.{rights-of, shape-of, element-of, uses-of, element-below, use-in, UseTold}
 use Rattle.index.specs.Indexed.{TypeWord, ProcedureWord}
 use Rattle.index.specs.Procedures.{start-of, place-of}
 use borrow.Author.Count.{below-more}
@@ -59,6 +59,32 @@ module _ (b r e : ℕ) (h : b < 2 ^ 8) (k : r < 2 ^ 16) (l : e < 2 ^ 8) where
         rights = rw (is, ← base, ← rights) (part-rights (eqb b 255));
         element = rw (is, ← element) (part-element (eqb b 255));
       }
+
+-- a word with the bit above its parts
+module _ (w : ℕ) (h : w < 2 ^ 49) where
+  shape-under-use : (w + 562949953421312) / 2 ^ 32 % 2 ^ 9 ≡ w / 2 ^ 32 % 2 ^ 9
+  shape-under-use = omega arith
+
+  rights-under-use : (w + 562949953421312) % 2 ^ 32 ≡ w % 2 ^ 32
+  rights-under-use = omega arith
+
+  element-under-use : (w + 562949953421312) / 2 ^ 41 % 2 ^ 8 ≡ w / 2 ^ 41 % 2 ^ 8
+  element-under-use = omega arith
+
+  pub with-use : (s t : List ℕ) (j : ℕ) → TypeWord s j w → use-in t j w ≡ true
+      → TypeWord s j (w + 562949953421312) × UseTold t j (w + 562949953421312)
+  unfolding shape-of rights-of element-of uses-of element-below
+  with-use s t j of told =
+      let one : (w + 562949953421312) / 2 ^ 49 % 2 ≡ 1 = omega arith in (
+        record { small = of .small; shape = shape-under-use ∙ of .shape; rights = rights-under-use ∙ of .rights; element = element-under-use ∙ of .element },
+        rw (one, shape-under-use, element-under-use) (sym told),
+      )
+
+  pub without-use : (t : List ℕ) (j : ℕ) → use-in t j w ≡ false → UseTold t j w
+  unfolding uses-of
+  without-use t j told =
+      let none : w / 2 ^ 49 % 2 ≡ 0 = omega arith in
+      rw none (sym told)
 
 -- the word of no variables for a place
 pub end-place : (at : ℕ) → at < 2 ^ 31 → place-of (procedure-word 0 0 0 false (at + 8)) ≡ at

@@ -6,17 +6,17 @@ use mathlib.Core.Bool.{Bool, true, false, cond}
 use mathlib.Core.Option.{none, some}
 use native.Mathlib.Omega.{arith}
 use lib.Dec.{eqb, ltb, leb}
-use borrow.Author.Tests.{ltb-true, ltb-false, eq-eqb}
+use borrow.Author.Tests.{ltb-true, ltb-false, lt-ltb, eq-eqb}
 use Rattle.model.specs.Rights.{Rights}
 use Rattle.model.specs.Qualified.{Qual, integer, array, declared, generic, base, rights, element, isInteger, isArray, isGeneric, same}
 use Rattle.model.specs.Generic.{read, read-result}
 use Rattle.sheet.specs.Layout.{slotOf, resultAt, innerAt, needAt, procedureAt, startAt, rightsOf}
 use Rattle.sheet.specs.Meaning.{nominal, shaped, baseIn, elementIn, tree, qualOf, slotIn, innerIn, needIn, resultIn}
-use Rattle.index.specs.Types.{word-in, rights-of, shape-of, of-shape, element-below, qualIn, named-as, name-type, word-as, typeIn, ElementIn}
+use Rattle.index.specs.Types.{word-in, rights-of, shape-of, of-shape, element-below, qualIn, named-as, name-type, read-word, word-as, typeIn, ElementIn}
 use Rattle.index.specs.Indexed.{PlacedWord, ProcedureWord, Ready}
 use Rattle.index.specs.Scope.{ScopeOf, innerAs, needAs, slotAs, resultAs}
 use Rattle.index.specs.declared.procedures.Scope.{Scope}
-use Rattle.index.proofs.Trees.{of-declared, of-generic, generic-shape, base-shape, rights-shape, read-shape, read-named, none-qual, qual-shaped, depth, element-falls}
+use Rattle.index.proofs.Trees.{of-declared, of-generic, generic-shape, base-shape, rights-shape, read-shape, read-named, none-qual, qual-shaped}
 
 -- ---- what a name has, as the word of a type
 shape-packed : (r x : ℕ) → r < 2 ^ 32 → x < 2 ^ 9 → (r + 2 ^ 32 * x) / 2 ^ 32 % 2 ^ 9 ≡ x
@@ -130,7 +130,7 @@ module _ (t : List ℕ) (n : ℕ) where
 
   -- a type by the word that it is read by, whichever that is
   pub type-word-as : (j : ℕ) → typeIn t n j ≡ of-shape (shape-of (word-as t n j)) (rights-of (word-as t n j)) (typeIn t n (element-below (word-as t n j) j))
-  unfolding word-as
+  unfolding word-as read-word
   type-word-as j = go (ltb (shape-of (word-in t j)) 256) refl
     where
       go : (u : Bool) → ltb (shape-of (word-in t j)) 256 ≡ u
@@ -138,21 +138,23 @@ module _ (t : List ℕ) (n : ℕ) where
       go true h = type-shaped j (ltb-true _ _ h)
       go false h = type-named j (ltb-false _ _ h) ∙ name-word n _
 
-  -- an array is never read as a name, so that the number of its element falls
-  array-word : (j : ℕ) → shape-of (word-as t n j) ≡ 1 → word-as t n j ≡ word-in t j
-  unfolding word-as
+  -- an array is read as it stands
+  pub raw-array : (j : ℕ) → shape-of (word-in t j) ≡ 1 → word-as t n j ≡ word-in t j
+  unfolding word-as read-word
+  raw-array j h = rw (lt-ltb (shape-of (word-in t j)) 256 (omega (arith, h)))
+
+  -- and what is read as an array is one
+  pub array-word : (j : ℕ) → shape-of (word-as t n j) ≡ 1 → word-as t n j ≡ word-in t j
+  unfolding word-as read-word
   array-word j = go (ltb (shape-of (word-in t j)) 256)
     where
       go : (u : Bool) → shape-of (cond u (word-in t j) (name-type n)) ≡ 1 → cond u (word-in t j) (name-type n) ≡ word-in t j
       go true h = refl
       go false h = absurd (let k = name-nominal n in omega arith)
 
-  pub falls-as : (j : ℕ) → shape-of (word-as t n j) ≡ 1 → depth (element-below (word-as t n j) j) < depth j
-  falls-as j h = let w = array-word j h in rw w (element-falls t j (sym (ap shape-of w) ∙ h))
-
   -- ?R is what the name has
   pub generic-word : (j : ℕ) → 256 ≤ shape-of (word-as t n j) → (word-as t n j ≡ name-type n) × (typeIn t n j ≡ named-as n)
-  unfolding word-as
+  unfolding word-as read-word
   generic-word j = go (ltb (shape-of (word-in t j)) 256) refl
     where
       go : (u : Bool) → ltb (shape-of (word-in t j)) 256 ≡ u → 256 ≤ shape-of (cond u (word-in t j) (name-type n))

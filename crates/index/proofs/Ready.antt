@@ -11,8 +11,9 @@ use Rattle.model.specs.Rights.{Rights}
 use Rattle.model.specs.Qualified.{Qual, declared, generic}
 use Rattle.sheet.specs.Layout.{qualsOf, baseOf, rightsOf, elementOf, proceduresOf}
 use Rattle.sheet.specs.Meaning.{nominal, shaped, baseIn, elementIn, tree, qualOf}
-use Rattle.index.specs.Types.{word-in, rights-of, shape-of, of-shape, element-below, tree-in, qualIn}
+use Rattle.index.specs.Types.{word-in, rights-of, shape-of, uses-of, of-shape, element-below, tree-in, qualIn, UseTold}
 use Rattle.index.specs.Indexed.{TypeWord, Indexed, Ready}
+use Rattle.index.proofs.Uses.{told-uses}
 
 -- the word 0 is an integer's
 shape-zero : shape-of 0 ≡ 0
@@ -65,12 +66,22 @@ module _ (s t : List ℕ) (x : Indexed s t) (q : qualsOf s ≤ 64) where
           rw (e, w .shape, w .rights, w .element, deeper (cond (ltb (elementOf s j) j) (elementOf s j) 255)) (byte-shaped (baseOf s j) _ _ (w .small))
       go deeper false e = rw (e, word-none j (ltb-false j (qualsOf s) e), shape-zero) (no-base _ _ _ _)
 
+  -- the word 0 tells of no ?R
+  all-told : (j : ℕ) → UseTold t j (word-in t j)
+  unfolding shape-of uses-of
+  all-told j = go (ltb j (qualsOf s)) refl
+    where
+      go : (b : Bool) → ltb j (qualsOf s) ≡ b → UseTold t j (word-in t j)
+      go true e = let l = ltb-true j (qualsOf s) e in rw (word-is j l) (x .uses-told j l (omega arith))
+      go false e = rw (word-none j (ltb-false j (qualsOf s) e))
+
   pub ready : proceduresOf s ≤ 64 → Ready s t
   unfolding qualIn qualOf
   ready p =
       record {
         few = p;
         types = λ j. same-tree (suc j) j;
+        uses-told = told-uses t all-told;
         places = λ k l. x .places k l (omega arith);
         procedures = λ k l. x .procedures k l (omega arith);
       }

@@ -146,7 +146,7 @@ module _ (t : List ℕ) where
   tree-none (suc n) j h = rw (shape-none j h)
 
   -- an element's number is below its own array's, or names no type
-  falls : (w j : ℕ) → (element-below w j < j) ⊎ (element-below w j ≡ 255)
+  pub falls : (w j : ℕ) → (element-below w j < j) ⊎ (element-below w j ≡ 255)
   unfolding element-below
   falls w j = go (ltb (element-of w) j) refl
     where

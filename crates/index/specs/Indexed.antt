@@ -7,7 +7,7 @@ use lib.Dec.{eqb}
 use lib.ListN.{length, getD}
 use Rattle.sheet.specs.Layout.{qualsOf, baseOf, rightsOf, elementOf, proceduresOf, formalsAt, variablesAt, isBounded, procedureAt, startAt, instructionAt}
 use Rattle.sheet.specs.Meaning.{qualOf}
-use Rattle.index.specs.Types.{rights-of, shape-of, element-of, qualIn}
+use Rattle.index.specs.Types.{rights-of, shape-of, element-of, qualIn, UseTold, UsesTold}
 use Rattle.index.specs.Procedures.{procedure-in, start-of, place-of}
 use Rattle.words.specs.Word.{number-of, variables-of, formals-of, bounded-of, first-of, IsProcedure}
 
@@ -39,6 +39,7 @@ pub record ProcedureWord (s : List ℕ) (k w : ℕ) : Type 0 where
 pub record TypesFilled (s old new : List ℕ) : Type 0 where
   pub long : length new ≡ length old
   pub types : (j : ℕ) → j < qualsOf s → j < 64 → TypeWord s j (getD new j 0)
+  pub uses-told : (j : ℕ) → j < qualsOf s → j < 64 → UseTold new j (getD new j 0)
   pub others : (k : ℕ) → qualsOf s ≤ k → getD new k 0 ≡ getD old k 0
   pub above : (k : ℕ) → 64 ≤ k → getD new k 0 ≡ getD old k 0
 
@@ -51,6 +52,7 @@ pub record ProceduresFilled (s old new : List ℕ) : Type 0 where
 -- the index of any bytes: as many types and procedures as there is room for
 pub record Indexed (s t : List ℕ) : Type 0 where
   pub types : (j : ℕ) → j < qualsOf s → j < 64 → TypeWord s j (getD t j 0)
+  pub uses-told : (j : ℕ) → j < qualsOf s → j < 64 → UseTold t j (getD t j 0)
   pub no-types : (j : ℕ) → qualsOf s ≤ j → j < 64 → getD t j 0 ≡ 0
   pub places : (k : ℕ) → k ≤ proceduresOf s → k ≤ 64 → place-of (procedure-in t k) ≡ procedureAt s k
   pub procedures : (k : ℕ) → k < proceduresOf s → k < 64 → ProcedureWord s k (procedure-in t k)
@@ -59,5 +61,6 @@ pub record Indexed (s t : List ℕ) : Type 0 where
 pub record Ready (s t : List ℕ) : Type 0 where
   pub few : proceduresOf s ≤ 64
   pub types : (j : ℕ) → qualIn t j ≡ qualOf s j
+  pub uses-told : UsesTold t
   pub places : (k : ℕ) → k ≤ proceduresOf s → place-of (procedure-in t k) ≡ procedureAt s k
   pub procedures : (k : ℕ) → k < proceduresOf s → ProcedureWord s k (procedure-in t k)

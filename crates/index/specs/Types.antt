@@ -1,14 +1,14 @@
 -- The qualified types as the words of an index have them: rights in bits 0 to 31, the base in 32 to 39, whether it is ?R in 40, the number of the element in
--- 41 to 48, the others 0.
+-- 41 to 48, whether it uses ?R in 49, the others 0.
 use Prim.Native.Nat.{ℕ, zero, suc, _+_, _-_, _*_, _/_, _%_, _^_, _≤_}
 use mathlib.Core.Path.{_≡_}
 use mathlib.Core.List.{List}
-use mathlib.Core.Bool.{cond}
-use lib.Dec.{eqb, ltb}
+use mathlib.Core.Bool.{Bool, cond}
+use lib.Dec.{eqb, ltb, leb}
 use lib.ListN.{getD}
 use Rattle.model.specs.Rights.{Rights}
 use Rattle.model.specs.Qualified.{Qual, integer, array, declared, generic, element}
-use Rattle.model.specs.Generic.{read}
+use Rattle.model.specs.Generic.{read, uses}
 
 -- word j, of the 64; another number reads as 0, an integer's
 unfoldable pub word-in : List ℕ → ℕ → ℕ
@@ -23,6 +23,9 @@ shape-of w = w / 2 ^ 32 % 2 ^ 9
 
 unfoldable pub element-of : ℕ → ℕ
 element-of w = w / 2 ^ 41 % 2 ^ 8
+
+unfoldable pub uses-of : ℕ → Bool
+uses-of w = eqb (w / 2 ^ 49 % 2) 1
 
 -- the type of a shape; an array has this element
 unfoldable pub of-shape : (shape : ℕ) → Rights → Qual → Qual
@@ -58,8 +61,23 @@ unfoldable pub typeIn : List ℕ → (name j : ℕ) → Qual
 typeIn t n j = read (named-as n) (qualIn t j)
 
 -- and its word
+unfoldable pub read-word : (name w : ℕ) → ℕ
+read-word n w = cond (ltb (shape-of w) 256) w (name-type n)
+
 unfoldable pub word-as : List ℕ → (name j : ℕ) → ℕ
-word-as t n j = cond (ltb (shape-of (word-in t j)) 256) (word-in t j) (name-type n)
+word-as t n j = read-word n (word-in t j)
+
+-- whether the type of a word, of number j, uses ?R: itself, or as its element does
+abbrev pub use-in : List ℕ → (j w : ℕ) → Bool
+use-in t j w = cond (eqb (shape-of w) 1) (uses-of (word-in t (element-below w j))) (leb 256 (shape-of w))
+
+-- the word tells so
+abbrev pub UseTold : List ℕ → (j w : ℕ) → Type 0
+UseTold t j w = uses-of w ≡ use-in t j w
+
+-- all words tell it of their types
+abbrev pub UsesTold : List ℕ → Type 0
+UsesTold t = (j : ℕ) → uses-of (word-in t j) ≡ uses (qualIn t j)
 
 -- a number that stands for the element of type j: it means the element, and where it is not below j, the integer type
 pub record ElementIn (t : List ℕ) (j e : ℕ) : Type 0 where

@@ -1,5 +1,8 @@
 // The index, from any bytes.
 use crate::Index;
+use crate::types::element_in;
+use crate::types::shape_in;
+use crate::types::uses_name;
 use sheet::bytes::byte;
 use sheet::bytes::word;
 use sheet::places::instruction_from;
@@ -13,11 +16,13 @@ ghost use mathlib.Core.Bool.{cond};
 ghost use lib.Dec.{eqb};
 ghost use lib.ListN.{length};
 ghost use Rattle.sheet.specs.Layout.{procedureAt};
+ghost use Rattle.index.specs.Types.{use-in, UseTold};
 ghost use Rattle.index.specs.Indexed.{TypeWord, ProcedureWord, TypesFilled, ProceduresFilled, Indexed};
 
 // The word of the QT of number j, as its record says.
-fn type_entry(s: &[u8], j: u8) -> u64
+fn record_entry(s: &[u8], j: u8) -> u64
     ensures { λ w. ⌜ TypeWord (now (s .entry)) j w ⌝ }
+    ensures { λ w. ⌜ w < 2 ^ 49 ⌝ }
 {
     let at = qual_at(s, j);
     let base = byte(s, at, 2);
@@ -35,6 +40,29 @@ fn shape_and_rights(base: u8, rights: u16) -> u64
     (base as u64) * 4294967296 + (rights as u64)
 }
 
+// Whether the type of such a word uses ?R, where the index has the words of those before it.
+fn uses_by(index: &Index, j: u8, w: u64) -> bool
+    ensures { λ r. ⌜ r ≡ use-in (now (index .entry)) j w ⌝ }
+{
+    let shape = shape_in(w);
+    if shape == 1 {
+        return uses_name(index, element_in(w, j));
+    }
+    256 <= shape
+}
+
+// The word with what it tells of ?R.
+fn type_entry(s: &[u8], index: &Index, j: u8) -> u64
+    ensures { λ w. ⌜ TypeWord (now (s .entry)) j w ⌝ }
+    ensures { λ w. ⌜ UseTold (now (index .entry)) j w ⌝ }
+{
+    let w = record_entry(s, j);
+    if uses_by(index, j, w) {
+        return w + 562949953421312;
+    }
+    w
+}
+
 fn fill_types(s: &[u8], index: &mut Index)
     requires { ⌜ length (now index) ≡ 129 ⌝ }
     ensures { λ _. ⌜ TypesFilled (now (s .entry)) (now (index .entry)) (now (index .exit)) ⌝ }
@@ -42,7 +70,7 @@ fn fill_types(s: &[u8], index: &mut Index)
     let q = byte(s, 0, 4);
     let mut j: u8 = 0;
     while (j < q) & (j < 64) {
-        index[j as usize] = type_entry(s, j);
+        index[j as usize] = type_entry(s, index, j);
         j += 1;
     }
 }

@@ -6,7 +6,7 @@ ghost use mathlib.Core.Bool.{cond};
 ghost use lib.Dec.{eqb};
 ghost use Prim.Native.Nat.{_<_, _≤_};
 ghost use Rattle.model.specs.Qualified.{base, rights, isInteger, isArray, isGeneric};
-ghost use Rattle.index.specs.Types.{word-in, named-as, name-type, word-as, shape-of, rights-of, element-of, element-below, qualIn, typeIn, ElementIn};
+ghost use Rattle.index.specs.Types.{word-in, named-as, name-type, read-word, word-as, shape-of, rights-of, element-of, uses-of, element-below, qualIn, typeIn, ElementIn};
 
 // The word of QT j.
 pub fn type_word(index: &Index, j: u8) -> u64
@@ -40,15 +40,21 @@ pub fn name_rights(name: u64) -> u32
     (name % 4294967296) as u32
 }
 
-// The word of QT j where ?R is read as a name has it.
-pub fn type_word_as(index: &Index, name: u64, j: u8) -> u64
-    ensures { λ w. ⌜ w ≡ word-as (now (index .entry)) name j ⌝ }
+// A word where ?R is read as a name has it.
+pub fn word_read(name: u64, w: u64) -> u64
+    ensures { λ r. ⌜ r ≡ read-word name w ⌝ }
 {
-    let w = type_word(index, j);
     if shape_in(w) < 256 {
         return w;
     }
     name_type(name)
+}
+
+// The word of QT j read so.
+pub fn type_word_as(index: &Index, name: u64, j: u8) -> u64
+    ensures { λ w. ⌜ w ≡ word-as (now (index .entry)) name j ⌝ }
+{
+    word_read(name, type_word(index, j))
 }
 
 // The shape in such a word, 256 more than its base for ?R, and the rights.
@@ -113,6 +119,13 @@ pub fn element_of(index: &Index, j: u8) -> u8
         return element_in(w, j);
     }
     255
+}
+
+// Whether QT j uses ?R, itself or as an element.
+pub fn uses_name(index: &Index, j: u8) -> bool
+    ensures { λ r. ⌜ r ≡ uses-of (word-in (now (index .entry)) j) ⌝ }
+{
+    type_word(index, j) / 562949953421312 % 2 == 1
 }
 
 // An integer, an array: as ?R, however it is read, is neither, it is not read for these.

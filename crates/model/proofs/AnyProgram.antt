@@ -9,7 +9,7 @@ use Rattle.model.specs.declared.Operation.{Operation}
 use Rattle.model.specs.Outcome.{Stop, fuel-spent, wrong-kind, missing-right, Res, ok, stop, stuck}
 use Rattle.model.specs.Modes.{Mode, plain, watched}
 use Rattle.model.specs.Machine.{frame, State, state, View, plan, step}
-use Rattle.model.specs.Run.{End, stopped, stuck-at, words-put, end-in, Snapshot, shot, Moment, running, over, settle, end-of, advance, trace, run}
+use Rattle.model.specs.Run.{End, stopped, stuck-at, words-put, end-in, Snapshot, shot, Moment, running, over, next-moment, end-of, advance, trace, run}
 use Rattle.model.proofs.Plans.{Comes, goes, stops, sticks, plan-comes}
 use Rattle.model.proofs.Ends.{steps-of, Way, run-ended}
 
@@ -67,7 +67,7 @@ module _ (m : Mode) (g : Program) (memory output : ℕ) (input : List ℕ) where
   pub stop-changes-nothing :
       (n : ℕ) (s : State m) (x : Stop) → trace m g memory output input n ≡ running n s → step g memory output s ≡ stop x →
       (k : ℕ) → trace m g memory output input (k + suc n) ≡ over (end-in x n s) (shot s)
-  unfolding trace advance settle
+  unfolding trace advance next-moment
   stop-changes-nothing n s x h e k = over-stays (end-in x n s) (shot s) (suc n) (rw (h, e)) k
 
   -- ---- Fuel

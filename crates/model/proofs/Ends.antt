@@ -10,7 +10,7 @@ use Rattle.model.specs.Program.{Program}
 use Rattle.model.specs.Outcome.{Stop, done, fuel-spent, blank, past-end, input-ended, output-full, memory-full, wrong-kind, missing-right, Res}
 use Rattle.model.specs.Modes.{Mode}
 use Rattle.model.specs.Machine.{frame, State, state, view, Effect, write, take, put, jump, skip, new-array, new-record, store, call, resume, finish, Next, go, finished, apply, step}
-use Rattle.model.specs.Run.{End, stopped, stuck-at, words-put, Snapshot, snapshot, Moment, running, over, settle, end-of, advance, opened, start, trace, run}
+use Rattle.model.specs.Run.{End, stopped, stuck-at, words-put, Snapshot, snapshot, Moment, running, over, next-moment, end-of, advance, opened, start, trace, run}
 use Rattle.model.proofs.Plans.{Unwatched, Stops, Comes, goes, stops, sticks, and-with, Room, plan-comes}
 
 abbrev pub steps-of : End → ℕ
@@ -87,8 +87,8 @@ also-way m F (stuck-at n out p i) w = w
 
 module _ (m : Mode) (g : Program) (memory output : ℕ) where
   settle-stands :
-      (n : ℕ) (s : State m) {r : Res (Next m)} → length (words s) ≤ output → Comes m (Keeps output s) r → Stands m output (suc n) (settle n s r)
-  unfolding settle
+      (n : ℕ) (s : State m) {r : Res (Next m)} → length (words s) ≤ output → Comes m (Keeps output s) r → Stands m output (suc n) (next-moment n s r)
+  unfolding next-moment
   settle-stands n s w (goes {a = go t} e) = on-its-way (e w)
   settle-stands n (state (frame p i z vs) fs os input out) w (goes {a = finished} e) = is-over {e = stopped done (suc n) out p i} (record { within = omega arith; fit = w; way = tt })
   settle-stands n (state (frame p i z vs) fs os input out) w (stops {x} c) = is-over {e = stopped x n out p i} (record { within = omega arith; fit = w; way = c })

@@ -8,7 +8,7 @@ use Rattle.model.specs.Outcome.{Stop, memory-full, Res, ok, stop, stuck,
 use Rattle.model.specs.Program.{Program}
 use Rattle.model.specs.Modes.{Mode, plain, watched, SettledSet, amiss}
 use Rattle.model.specs.Machine.{Cell, Object, Frame, frame, State, state, View, view, Next, go, finished, Effect, write, take, put, jump, skip, new-array, new-record, store, call, resume, finish, plan-array, plan-record, plan-fetch, plan-store, plan-size, plan-get, plan-set, plan-call, into-caller, to-caller, plan-return, gives, branch, plan, apply, step}
-use Rattle.model.specs.Run.{stopped, snapshot, Moment, running, over, settle, advance, opened, start, trace}
+use Rattle.model.specs.Run.{stopped, snapshot, Moment, running, over, next-moment, advance, opened, start, trace}
 use Rattle.model.specs.Inside.{At, Waiting, bottom, waits, Inside}
 use Rattle.model.proofs.Formed.{Formed, Formed-at}
 use Rattle.model.specs.declared.Operation.{Operation}
@@ -141,8 +141,8 @@ module _ (m : Mode) (g : Program) where
 
     -- ---- So no run does
 
-    settle-inside : (n : ℕ) (t : State m) {r : Res (Next m)} → Yields (Next-inside g) r → Moment-inside g (settle n t r)
-    unfolding settle
+    settle-inside : (n : ℕ) (t : State m) {r : Res (Next m)} → Yields (Next-inside g) r → Moment-inside g (next-moment n t r)
+    unfolding next-moment
     settle-inside n t (yield {a = go u} p) = p
     settle-inside n t (yield {a = finished} p) = tt
     settle-inside n t stops = tt

@@ -14,7 +14,7 @@ use Rattle.model.specs.declared.Verdict.the-variants.{Accepted}
 use Rattle.model.specs.Outcome.{Stop, done, fuel-spent, memory-full, Res}
 use Rattle.model.specs.Modes.{plain, watched}
 use Rattle.model.specs.Machine.{empty, Object, State, Next}
-use Rattle.model.specs.Run.{End, stopped, stuck-at, words-put, end-in, Snapshot, snapshot, shot, finished-shot, Moment, running, over, settle, end-of, left-by, advance, opened, start, trace, run, state-after, written}
+use Rattle.model.specs.Run.{End, stopped, stuck-at, words-put, end-in, Snapshot, snapshot, shot, finished-shot, Moment, running, over, next-moment, end-of, left-by, advance, opened, start, trace, run, state-after, written}
 use Rattle.model.specs.Claim.{heads, Regular-stop, Regular, Typed, Condition3}
 use Rattle.model.proofs.Formed.{Formed}
 use Rattle.model.proofs.Read.{Good}
@@ -50,8 +50,8 @@ finished-left (states l v st ob) = none-live ob
 
 settle-ok :
     {g : Program} (n : ℕ) {t : State watched} {t′ : State plain} {r : Res (Next watched)} {r′ : Res (Next plain)} →
-    StateRel g t t′ → Agree (NextRel g) r r′ → MomentRel g (settle n t r) (settle n t′ r′)
-unfolding settle
+    StateRel g t t′ → Agree (NextRel g) r r′ → MomentRel g (next-moment n t r) (next-moment n t′ r′)
+unfolding next-moment
 settle-ok n h (both (nexts r)) = both-running r
 settle-ok n h (both ends) = both-over (end-same done tt (suc n) h) (finished-left h)
 settle-ok n h (halt {s = x} c) = both-over (end-same x c n h) (live h)

@@ -15,7 +15,7 @@ use Rattle.model.specs.Rules.{optional, keeps, called, found-by}
 use Rattle.model.specs.Outcome.{memory-full, Res, ok, _>>=_, _>>_, ensure}
 use Rattle.model.specs.Modes.{Mode, SettledSet, in-frame, settle-set, demand}
 use Rattle.model.specs.Machine.{Cell, Object, Frame, frame, State, state, View, caller-place, view, Effect, write, take, put, jump, skip, new-array, new-record, store, call, resume, finish, kept, declared-as, array-at, record-at, moved, give, integers, one-integer, plan-array, plan-record, plan-fetch, plan-store, plan-size, slot-there, plan-get, plan-set, settle-call, actual, actuals, plan-call, handed, into-caller, to-caller, plan-return, gives, branch, plan, apply, step}
-use Rattle.model.specs.Run.{Moment, running, over, settle, end-of, left-by, advance, opened, start, trace, run, state-after}
+use Rattle.model.specs.Run.{Moment, running, over, next-moment, end-of, left-by, advance, opened, start, trace, run, state-after}
 use Rattle.model.specs.Inside.{At, Waiting, bottom, waits}
 use Rattle.model.specs.Same.{Same}
 use Rattle.model.specs.declared.Operation.{Operation}
@@ -204,7 +204,7 @@ module _ {g h : Program} (formed : Formed g) (operands : Operands g) (same : Sam
     module _ (memory output : ℕ) where
       same-advance : (a : Moment m) → Moment-inside g a → advance m g memory output a ≡ advance m h memory output a
       unfolding advance
-      same-advance (running n (state (frame p i z vs) fs os input out)) x = ap (settle n (here p i z vs fs os input out)) (same-step p i z vs fs os input out memory output (x .0) (x .1))
+      same-advance (running n (state (frame p i z vs) fs os input out)) x = ap (next-moment n (here p i z vs fs os input out)) (same-step p i z vs fs os input out memory output (x .0) (x .1))
       same-advance (over e y) x = refl
 
       pub same-trace : (input : List ℕ) (n : ℕ) → trace m g memory output input n ≡ trace m h memory output input n

@@ -42,11 +42,11 @@ pub data Moment (m : Mode) : Type 0 where
   over : End → Snapshot m → Moment m
 
 -- "A step that stops changes nothing and isn't counted; the return giving 11 is."
-unfoldable pub settle : {m : Mode} → ℕ → State m → Res (Next m) → Moment m
-settle n s (ok (go t)) = running (suc n) t
-settle n s (ok finished) = over (end-in done (suc n) s) (finished-shot s)
-settle n s (stop x) = over (end-in x n s) (shot s)
-settle n s stuck = over (stuck-in n s) (shot s)
+unfoldable pub next-moment : {m : Mode} → ℕ → State m → Res (Next m) → Moment m
+next-moment n s (ok (go t)) = running (suc n) t
+next-moment n s (ok finished) = over (end-in done (suc n) s) (finished-shot s)
+next-moment n s (stop x) = over (end-in x n s) (shot s)
+next-moment n s stuck = over (stuck-in n s) (shot s)
 
 -- "before each step, 12 if steps = fuel": a run that is still on its way when its fuel is counted
 abbrev pub end-of : {m : Mode} → Moment m → End
@@ -60,7 +60,7 @@ left-by (over e x) = x
 module _ (m : Mode) (g : Program) (memory output : ℕ) where
   -- "each step takes the state that the last one left"
   unfoldable pub advance : Moment m → Moment m
-  advance (running n s) = settle n s (step g memory output s)
+  advance (running n s) = next-moment n s (step g memory output s)
   advance (over e x) = over e x
 
   -- "Main's frame is opened first, at no step.", with no set, for main has no rights name; "17 before main opens gives 0, 0"

@@ -1,27 +1,27 @@
 -- Equality and order of two qualified types by their words, as the code asks them.
-use Prim.Native.Nat.{ℕ, zero, suc, _+_, _-_, _%_, _<_, _≤_}
+use Prim.Native.Nat.{ℕ, zero, suc, _+_, _-_, _/_, _%_, _^_, _<_, _≤_}
 use mathlib.Core.Path.{_≡_, refl, sym, ap, ap₂, _∙_}
 use mathlib.Core.List.{List}
-use mathlib.Core.Bool.{Bool, true, false, false≢true, _&&_, _||_, cond}
+use mathlib.Core.Bool.{Bool, true, false, false≢true, not, _&&_, _||_, cond}
 use native.Mathlib.Omega.{arith}
 use lib.Dec.{eqb, ltb, leb}
 use borrow.Author.Tests.{eqb-true, eqb-false, eq-eqb, ne-eqb, ltb-true, ltb-false, lt-ltb, le-ltb, le-leb}
 use Rattle.model.specs.Rights.{Rights}
 use Rattle.model.specs.Qualified.{Qual, integer, array, declared, generic, base, isInteger, same, alike}
-use Rattle.model.specs.Rules.{amplifies}
+use Rattle.model.specs.Refusal.{failure}
+use Rattle.model.specs.Rules.{moves, amplifies}
+use Rattle.model.proofs.Order.{order-refl, moves-order}
 use Rattle.model.proofs.Verdicts.{both-true}
-use Rattle.index.specs.Types.{word-in, rights-of, shape-of, element-of, element-below, qualIn, word-as, typeIn}
+use Rattle.index.specs.Types.{word-in, rights-of, shape-of, element-of, uses-of, element-below, qualIn, word-as, typeIn, UsesTold}
 use Rattle.index.proofs.Trees.{Shape, an-integer, an-array, a-declared, a-generic, shape-is, qual-shaped}
-use Rattle.index.proofs.Reading.{type-integer, base-as, none-type, type-word-as}
+use Rattle.index.proofs.Uses.{unused-type}
+use Rattle.index.proofs.Reading.{type-integer, base-as, none-type, raw-array, array-word, type-word-as}
+use Rattle.order.specs.Heads.{same-heads}
 
 -- ---- two types by their shapes
 -- same rights, of two types of shape b; an integer has none
 abbrev same-rights : (b r u : ℕ) → Bool
 same-rights b r u = eqb b 0 || eqb r u
-
--- of two heads that agree, of arrays
-pub array-head : (b r u : ℕ) → same-rights b r u && eqb b 1 ≡ true → b ≡ 1
-array-head b r u h = eqb-true b 1 (both-true (same-rights b r u) (eqb b 1) h .1)
 
 -- where two heads agree the elements are compared, of arrays only
 and-then : (t x : Bool) → cond (t && true) x t ≡ t && x
@@ -35,6 +35,10 @@ and-no false x = refl
 and-if : (t x y : Bool) → (t ≡ false → y ≡ false) → t && x ≡ cond t x y
 and-if true x y h = refl
 and-if false x y h = sym (h refl)
+
+or-yes : (t : Bool) → t || true ≡ true
+or-yes true = refl
+or-yes false = refl
 
 or-no : (t : Bool) → t ≡ t || false
 or-no true = refl
@@ -145,6 +149,31 @@ amplifies-shape (a-generic b h) o l = rw (ne-eqb b o (λ z. omega arith)) (never
     never true = refl
     never false = refl
 
+-- shape and rights side by side
+side-by-side : (v w : ℕ) → v % 2 ^ 41 ≡ w % 2 ^ 41 → (v / 2 ^ 32 % 2 ^ 9 ≡ w / 2 ^ 32 % 2 ^ 9) × (v % 2 ^ 32 ≡ w % 2 ^ 32)
+side-by-side v w e = (omega arith, omega arith)
+
+both-sides : (v w : ℕ) → v / 2 ^ 32 % 2 ^ 9 ≡ w / 2 ^ 32 % 2 ^ 9 → v % 2 ^ 32 ≡ w % 2 ^ 32 → v % 2 ^ 41 ≡ w % 2 ^ 41
+both-sides v w e f = omega arith
+
+pub heads-at-once : (v w : ℕ) → eqb (shape-of v) 1 && eqb (v % 2 ^ 41) (w % 2 ^ 41) ≡ eqb (shape-of v) 1 && same-heads v w
+unfolding same-heads shape-of rights-of
+heads-at-once v w = go (eqb (shape-of v) 1) refl (eqb (v % 2 ^ 41) (w % 2 ^ 41)) refl
+  where
+    go : (a : Bool) → eqb (v / 2 ^ 32 % 2 ^ 9) 1 ≡ a → (b : Bool) → eqb (v % 2 ^ 41) (w % 2 ^ 41) ≡ b
+        → a && b ≡ a && (eqb (v / 2 ^ 32 % 2 ^ 9) (w / 2 ^ 32 % 2 ^ 9) && (eqb (v / 2 ^ 32 % 2 ^ 9) 0 || eqb (v % 2 ^ 32) (w % 2 ^ 32)))
+    go false k b l = refl
+    go true k true l = let s = side-by-side v w (eqb-true _ _ l) in rw (eq-eqb _ _ (s .0), eq-eqb _ _ (s .1)) (sym (or-yes (eqb (v / 2 ^ 32 % 2 ^ 9) 0)))
+    go true k false l =
+        let one : v / 2 ^ 32 % 2 ^ 9 ≡ 1 = eqb-true _ 1 k in
+        rw (ne-eqb (v / 2 ^ 32 % 2 ^ 9) 0 (λ z. omega arith))
+        (never (eqb (v / 2 ^ 32 % 2 ^ 9) (w / 2 ^ 32 % 2 ^ 9)) refl (eqb (v % 2 ^ 32) (w % 2 ^ 32)) refl)
+      where
+        never : (p : Bool) → eqb (v / 2 ^ 32 % 2 ^ 9) (w / 2 ^ 32 % 2 ^ 9) ≡ p → (q : Bool) → eqb (v % 2 ^ 32) (w % 2 ^ 32) ≡ q → false ≡ p && q
+        never true e true f = absurd (eqb-false _ _ l (both-sides v w (eqb-true _ _ e) (eqb-true _ _ f)))
+        never true e false f = refl
+        never false e q f = refl
+
 -- ---- of the types of an index
 pub shape-small : (w : ℕ) → shape-of w < 512
 unfolding shape-of
@@ -157,6 +186,38 @@ module _ (t : List ℕ) where
       (same (typeIn t m (element-below (word-as t m i) i)) (typeIn t n (element-below (word-as t n j) j)))
       (same-rights (shape-of (word-as t m i)) (rights-of (word-as t m i)) (rights-of (word-as t n j)))
   same-words m i n j = ap₂ same (type-word-as t m i) (type-word-as t n j) ∙ same-shapes (shape-is _ _ _) (shape-is _ _ _)
+
+  -- of two arrays with the same rights, the elements
+  pub same-arrays : (m i n j : ℕ) → eqb (shape-of (word-in t i)) 1 && same-heads (word-in t i) (word-in t j) ≡ true
+      → same (typeIn t m i) (typeIn t n j) ≡ same (typeIn t m (element-below (word-in t i) i)) (typeIn t n (element-below (word-in t j) j))
+  unfolding same-heads
+  same-arrays m i n j h =
+      let a = both-true (eqb (shape-of (word-in t i)) 1) _ h in
+      let b : shape-of (word-in t i) ≡ 1 = eqb-true _ 1 (a .0) in
+      let s = both-true (eqb (shape-of (word-in t i)) (shape-of (word-in t j))) _ (a .1) in
+      let c : shape-of (word-in t j) ≡ 1 = sym (eqb-true _ _ (s .0)) ∙ b in
+      same-words m i n j ∙ rw (raw-array t m i b, raw-array t n j c, s .0, s .1, a .0)
+
+  -- of other types, their words as they are read
+  pub same-others : (m i n j : ℕ) → eqb (shape-of (word-in t i)) 1 && same-heads (word-in t i) (word-in t j) ≡ false
+      → same (typeIn t m i) (typeIn t n j) ≡ same-heads (word-as t m i) (word-as t n j)
+  unfolding same-heads
+  same-others m i n j h =
+      same-words m i n j
+      ∙ go (eqb (shape-of (word-as t m i)) (shape-of (word-as t n j))) refl
+      (same-rights (shape-of (word-as t m i)) (rights-of (word-as t m i)) (rights-of (word-as t n j))) refl (eqb (shape-of (word-as t m i)) 1) refl _
+    where
+      go : (s : Bool) → eqb (shape-of (word-as t m i)) (shape-of (word-as t n j)) ≡ s
+          → (r : Bool) → same-rights (shape-of (word-as t m i)) (rights-of (word-as t m i)) (rights-of (word-as t n j)) ≡ r
+          → (a : Bool) → eqb (shape-of (word-as t m i)) 1 ≡ a → (x : Bool) → s && cond (r && a) x r ≡ s && r
+      go false k r l a e x = refl
+      go true k false l a e x = refl
+      go true k true l false e x = refl
+      go true k true l true e x =
+          let b : shape-of (word-as t m i) ≡ 1 = eqb-true _ 1 e in
+          let v = array-word t m i b in
+          let w = array-word t n j (sym (eqb-true _ _ k) ∙ b) in
+          absurd (false≢true (sym h ∙ rw (rw v at e, rw (v, w) at k, rw (v, w) at l)))
 
   pub alike-words : (m i n j : ℕ) → alike (typeIn t m i) (typeIn t n j)
       ≡ cond (eqb (shape-of (word-as t m i)) (shape-of (word-as t n j)))
@@ -216,3 +277,18 @@ same-outside t m n v w i j h =
     go true true l = absurd (false≢true (sym l))
     go true false l = rw (none-type t n 255 (omega arith)) (same-integer (typeIn t m (element-of v)))
     go false b l = rw (none-type t m 255 (omega arith)) (integer-same (typeIn t n (cond b (element-of w) 255)))
+
+-- ---- a type moves to itself, and is the same where it is read alike
+still : (q : Qual) → 0 ≡ failure (moves q q)
+still q = sym (eqb-true (failure (moves q q)) 0 (moves-order q q ∙ order-refl q))
+
+pub moves-itself : (p q : Qual) → p ≡ q → 0 ≡ failure (moves p q)
+moves-itself p q e = still p ∙ ap (λ (x : Qual). failure (moves p x)) e
+
+pub read-alike : (t : List ℕ) → UsesTold t → (m n i j : ℕ) → i ≡ j → eqb m n || not (uses-of (word-in t i)) ≡ true → typeIn t m i ≡ typeIn t n j
+read-alike t told m n i j e h = go (eqb m n) refl (uses-of (word-in t i)) refl h ∙ ap (typeIn t n) e
+  where
+    go : (a : Bool) → eqb m n ≡ a → (u : Bool) → uses-of (word-in t i) ≡ u → a || not u ≡ true → typeIn t m i ≡ typeIn t n i
+    go true a u k l = ap (λ (x : ℕ). typeIn t x i) (eqb-true m n a)
+    go false a false k l = unused-type t told m n i k
+    go false a true k l = absurd (false≢true l)

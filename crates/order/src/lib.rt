@@ -9,15 +9,19 @@ use index::types::rights_in;
 use index::types::shape_in;
 use index::types::type_word;
 use index::types::type_word_as;
+use index::types::uses_name;
+use index::types::word_read;
 use rights::is_within;
 ghost use mathlib.Core.Path.{_≡_};
-ghost use mathlib.Core.Bool.{cond};
+ghost use mathlib.Core.Bool.{true, cond, _&&_};
+ghost use lib.Dec.{eqb};
 ghost use mathlib.Core.List.{List};
 ghost use Prim.Native.Nat.{ℕ};
 ghost use Rattle.model.specs.Qualified.{same, alike, covers, order};
 ghost use Rattle.model.specs.Refusal.{failure};
 ghost use Rattle.model.specs.Rules.{moves, owned-by, amplifies};
-ghost use Rattle.index.specs.Types.{qualIn, typeIn, word-as};
+ghost use Rattle.index.specs.Types.{shape-of, qualIn, typeIn, word-as, UsesTold};
+ghost use Rattle.order.specs.Heads.{same-heads};
 
 // Of the owner's type; owner 0 is none. ?R has the base that it is read with.
 pub fn is_owned(index: &Index, name: u64, owner: u8, j: u8) -> bool
@@ -33,27 +37,37 @@ pub fn is_amplified(index: &Index, owner: u8, j: u8) -> bool
     (2 <= owner) & (shape_in(type_word(index, j)) == (owner as u16))
 }
 
-// Same shape, same rights, which an integer does not have, and equal elements all the way down.
+// Same shape and same rights, which an integer does not have, of the types of two words: all there is to ask but for two arrays.
+fn is_same_head(v: u64, w: u64) -> bool
+    ensures { λ r. ⌜ r ≡ same-heads v w ⌝ }
+{
+    let b = shape_in(v);
+    (b == shape_in(w)) & ((b == 0) | (rights_in(v) == rights_in(w)))
+}
+
+// Two arrays with the same rights: shape and rights stand side by side in their words, so that they are compared at once.
+fn is_same_array(v: u64, w: u64) -> bool
+    ensures { λ r. ⌜ r ≡ (eqb (shape-of v) 1 && same-heads v w) ⌝ }
+{
+    (shape_in(v) == 1) & (v % 2199023255552 == w % 2199023255552)
+}
+
+// Two arrays with the same rights and equal elements all the way down; of no other types is an element asked for.
 fn equal_in(index: &Index, m: u64, i: u8, n: u64, j: u8) -> bool
     ensures { λ r. ⌜ r ≡ same (typeIn (now (index .entry)) m i) (typeIn (now (index .entry)) n j) ⌝ }
 {
-    let v = type_word_as(index, m, i);
-    let w = type_word_as(index, n, j);
-    let b = shape_in(v);
-    if b == shape_in(w) {
-        let head = (b == 0) | (rights_in(v) == rights_in(w));
-        if head & (b == 1) {
-            let e = element_number(v);
-            let f = element_number(w);
-            // An element's number falls; one that does not is read as an integer.
-            if (e < i) & (f < j) {
-                return equal_in(index, m, e, n, f);
-            }
-            return is_integer(index, element_in(v, i)) & is_integer(index, element_in(w, j));
+    let v = type_word(index, i);
+    let w = type_word(index, j);
+    if is_same_array(v, w) {
+        let e = element_number(v);
+        let f = element_number(w);
+        // An element's number falls; one that does not is read as an integer.
+        if (e < i) & (f < j) {
+            return equal_in(index, m, e, n, f);
         }
-        return head;
+        return is_integer(index, element_in(v, i)) & is_integer(index, element_in(w, j));
     }
-    false
+    is_same_head(word_read(m, v), word_read(n, w))
 }
 
 // Two names of one QT, read alike, are equal at once: a test by itself, so that it is inlined where the walk is not.
@@ -92,8 +106,8 @@ fn is_covered(v: u64, w: u64) -> bool
     256 <= shape_in(v)
 }
 
-// The number of the refusal of a movement from QT i to QT j: 8, then 9; 0 where there is none.
-pub fn movement(index: &Index, m: u64, i: u8, n: u64, j: u8) -> u8
+// The refusal of a movement between two types, by their words.
+fn movement_of_words(index: &Index, m: u64, i: u8, n: u64, j: u8) -> u8
     ensures { λ r. ⌜ r ≡ failure (moves (typeIn (now (index .entry)) m i) (typeIn (now (index .entry)) n j)) ⌝ }
 {
     let v = type_word_as(index, m, i);
@@ -107,8 +121,31 @@ pub fn movement(index: &Index, m: u64, i: u8, n: u64, j: u8) -> u8
     8
 }
 
+// One QT, read alike on both sides, as one without ?R always is.
+fn is_itself(index: &Index, m: u64, i: u8, n: u64, j: u8) -> bool
+    requires { ⌜ UsesTold (now index) ⌝ }
+    ensures { λ r. ⌜ (r ≡ true → typeIn (now (index .entry)) m i ≡ typeIn (now (index .entry)) n j) ⌝ }
+{
+    if i == j {
+        return (m == n) | !uses_name(index, i);
+    }
+    false
+}
+
+// The number of the refusal of a movement from QT i to QT j: 8, then 9; 0 where there is none, as of a type to itself.
+pub fn movement(index: &Index, m: u64, i: u8, n: u64, j: u8) -> u8
+    requires { ⌜ UsesTold (now index) ⌝ }
+    ensures { λ r. ⌜ r ≡ failure (moves (typeIn (now (index .entry)) m i) (typeIn (now (index .entry)) n j)) ⌝ }
+{
+    if is_itself(index, m, i, n, j) {
+        return 0;
+    }
+    movement_of_words(index, m, i, n, j)
+}
+
 // QT i ≥ QT j.
 pub fn is_above(index: &Index, m: u64, i: u8, n: u64, j: u8) -> bool
+    requires { ⌜ UsesTold (now index) ⌝ }
     ensures { λ r. ⌜ r ≡ order (typeIn (now (index .entry)) m i) (typeIn (now (index .entry)) n j) ⌝ }
 {
     movement(index, m, i, n, j) == 0

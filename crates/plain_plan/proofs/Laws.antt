@@ -35,9 +35,9 @@ pub due : {A R : Type 0} {s t : Res A} → s ≡ t → (s ≡ t → R) → Unles
 due {s = s} e f = claimed s (f e)
 
 -- .. or else it is stuck
-pub settle : {A P R : Type 0} {s : Res A} → (s ≡ stuck) ⊎ P → (P → R) → Unless-stuck s R
-settle (inl e) f = rw e tt
-settle {s = s} (inr p) f = claimed s (f p)
+pub stuck-or : {A P R : Type 0} {s : Res A} → (s ≡ stuck) ⊎ P → (P → R) → Unless-stuck s R
+stuck-or (inl e) f = rw e tt
+stuck-or {s = s} (inr p) f = claimed s (f p)
 
 -- ---- what the words read say of the variables of the view
 

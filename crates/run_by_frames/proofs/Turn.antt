@@ -11,7 +11,7 @@ use Rattle.model.specs.Refusal.{verdict}
 use Rattle.model.specs.Program.{Program}
 use Rattle.model.specs.Modes.{Mode}
 use Rattle.model.specs.Machine.{frame, State, state, Next, go, finished, view, plan, step}
-use Rattle.model.specs.Run.{End, stopped, end-in, stuck-in, snapshot, running, over, settle, end-of, advance, opened, start, trace, run}
+use Rattle.model.specs.Run.{End, stopped, end-in, stuck-in, snapshot, running, over, next-moment, end-of, advance, opened, start, trace, run}
 use Rattle.model.specs.Inside.{Inside}
 use Rattle.model.proofs.AnyProgram.{IsOver, over-run}
 use Rattle.model.proofs.Inside.{yielded, step-inside, opened-inside}
@@ -26,7 +26,7 @@ use Rattle.writers.specs.declared.Registers.{Registers}
 use Rattle.writers.specs.declared.Stepped.{Stepped}
 use Rattle.writers.specs.declared.Stepped.the-variants as S
 use Rattle.writers.specs.Memory.{Given, number-in, first-in, Sane, StandsFor}
-use Rattle.writers.specs.Steps.{After, at-next}
+use Rattle.writers.specs.Steps.{After, at-next, running-set}
 use Rattle.frames.specs.Performs.{Loaded, performed}
 use Rattle.frames.specs.Fetch.{place-in, Fetchable, CodeOf}
 use Rattle.frames.proofs.Kept.{place-is}
@@ -45,7 +45,7 @@ abbrev pub told : Registers → (number steps : ℕ) → Ended
 told r k n = record { number = k; steps = n; put = r .put; procedure = number-in r; instruction = r .next }
 
 module _ (m : Mode) (c : Given) (words out : List ℕ) (r : Registers) where
-  sane : (t : State m) → StandsFor m c words out r t → Sane (length words) r
+  pub sane : (t : State m) → StandsFor m c words out r t → Sane (length words) r
   sane (state (frame p i z vs) fs os input put) S = S .sane
 
   fetchable : verdict (form-tests (c .sheet)) ≡ Accepted → (t : State m) → StandsFor m c words out r t → Inside (programOf (c .sheet)) t → Fetchable (c .sheet) r
@@ -72,15 +72,15 @@ module _ (m : Mode) (c : Given) (words out : List ℕ) (r : Registers) where
   module _ (words′ out′ : List ℕ) where
     module _ (n : ℕ) (t : State m) (s : StandsFor m c words out r t) where
       halted : (k : ℕ) (q : Res (Next m)) → (q ≡ stuck → ⊥) → After m c words′ out out′ r t (S.Halt k) q
-          → IsOver (settle n t q) × EndedIs (told r k n) (c .output) out′ (end-of (settle n t q))
-      unfolding settle
+          → IsOver (next-moment n t q) × EndedIs (told r k n) (c .output) out′ (end-of (next-moment n t q))
+      unfolding next-moment
       halted k (ok x) free h = absurd h
       halted k (stop x) free h = (tt, ends t s x k n out′ (h .number) (h .output-kept))
       halted k stuck free h = absurd (free refl)
 
       finishes : (q : Res (Next m)) → (q ≡ stuck → ⊥) → After m c words′ out out′ r t S.Done q
-          → IsOver (settle n t q) × EndedIs (told r 11 (n + 1)) (c .output) out′ (end-of (settle n t q))
-      unfolding settle
+          → IsOver (next-moment n t q) × EndedIs (told r 11 (n + 1)) (c .output) out′ (end-of (next-moment n t q))
+      unfolding next-moment
       finishes (ok (go u)) free h = absurd h
       finishes (ok finished) free h = (tt, rw add-one (ends t s done 11 (suc n) out′ refl h))
       finishes (stop x) free h = absurd h
@@ -88,8 +88,8 @@ module _ (m : Mode) (c : Given) (words out : List ℕ) (r : Registers) where
 
     -- one that goes on gives the next state, in the same frame or in another
     went : (b : State m) (q : Registers) (p : Res (Next m)) → (p ≡ stuck → ⊥) → After m c words′ out out′ r b (S.Go q) p
-        → (q ≡ at-next r (q .next)) × ((t : State m) × ((p ≡ ok (go t)) × StandsFor m c words′ out′ q t))
-    went b q (ok (go t)) free h = (h .0, (t, (refl, h .1)))
+        → (q ≡ at-next r (q .next)) × ((t : State m) × ((running-set t ≡ running-set b) × ((p ≡ ok (go t)) × StandsFor m c words′ out′ q t)))
+    went b q (ok (go t)) free h = (h .0, (t, (h .1 .0, (refl, h .1 .1))))
     went b q (ok finished) free h = absurd h
     went b q (stop x) free h = absurd h
     went b q stuck free h = absurd (free refl)
@@ -103,19 +103,19 @@ module _ (m : Mode) (c : Given) (words out : List ℕ) (r : Registers) where
 
 -- a run that stands at a state after n steps, and has fuel for one more
 module _ (m : Mode) (g : Program) (memory output : ℕ) (input : List ℕ) (fuel n : ℕ) (t : State m) (at : trace m g memory output input n ≡ running n t) (h : n < fuel) where
-  settles : trace m g memory output input (suc n) ≡ settle n t (step g memory output t)
+  settles : trace m g memory output input (suc n) ≡ next-moment n t (step g memory output t)
   unfolding trace advance
   settles = rw at
 
   one-more : (u : State m) → step g memory output t ≡ ok (go u) → trace m g memory output input (n + 1) ≡ running (n + 1) u
-  unfolding settle
+  unfolding next-moment
   one-more u e = rw add-one (settles ∙ rw e)
 
-  ends-there : IsOver (settle n t (step g memory output t)) → run m g memory output input fuel ≡ end-of (settle n t (step g memory output t))
+  ends-there : IsOver (next-moment n t (step g memory output t)) → run m g memory output input fuel ≡ end-of (next-moment n t (step g memory output t))
   ends-there o = over-run m g memory output input (suc n) fuel _ settles o (omega arith)
 
   one-stuck : step g memory output t ≡ stuck → run m g memory output input fuel ≡ stuck-in n t
-  unfolding settle
+  unfolding next-moment
   one-stuck e = rw e at (ends-there (rw e tt))
 
 not-stuck-in : (m : Mode) (n : ℕ) (t : State m) (x : End) → Never-stuck x → x ≡ stuck-in n t → ⊥
@@ -218,8 +218,8 @@ module _ (m : Mode) (s index input : List ℕ) (loaded : Loaded s index) (until 
         (one-stuck m (programOf (c .sheet)) memory (length (c .output)) (c .input) (d .fuel) (r .steps) (G .now) (G .reached) paid-for e)
 
     ended-as : (e : Ended)
-        → IsOver (settle (r .steps) (G .now) (step (programOf (c .sheet)) memory (length (c .output)) (G .now)))
-        × EndedIs e (c .output) out′ (end-of (settle (r .steps) (G .now) (step (programOf (c .sheet)) memory (length (c .output)) (G .now))))
+        → IsOver (next-moment (r .steps) (G .now) (step (programOf (c .sheet)) memory (length (c .output)) (G .now)))
+        × EndedIs e (c .output) out′ (end-of (next-moment (r .steps) (G .now) (step (programOf (c .sheet)) memory (length (c .output)) (G .now))))
         → EndedIs e (c .output) out′ (whole-run m c memory (d .fuel))
     ended-as e a =
         rw (ends-there m (programOf (c .sheet)) memory (length (c .output)) (c .input) (d .fuel) (r .steps) (G .now) (G .reached) paid-for (a .0)) (a .1)
@@ -249,13 +249,17 @@ module _ (m : Mode) (s index input : List ℕ) (loaded : Loaded s index) (until 
             free = G .free;
           }
 
-      -- in the frame that was entered with the registers `start`
-      goes-on : (start q : Registers) → r ≡ kept-with start r → o ≡ S.Go q → (q .steps ≡ r .steps + 1) × Going m c memory (d .fuel) words′ out′ (kept-with start q)
+      -- in the frame that was entered with the registers `start`, whose set stays
+      abbrev SameFrame : Registers → Type 0
+      SameFrame q = (N : Going m c memory (d .fuel) words′ out′ q) × (running-set (N .now) ≡ running-set (G .now))
+
+      pub goes-on : (start q : Registers) → r ≡ kept-with start r → o ≡ S.Go q → (q .steps ≡ r .steps + 1) × SameFrame (kept-with start q)
+      unfolding reaches
       goes-on start q e is =
           let b = turned-go r (did .stepped) q (sym (did .counts) ∙ is) in
           let a = went m c words out r words′ out′ (G .now) (b .0) (step (programOf (c .sheet)) memory (length (c .output)) (G .now)) never (rw (b .1 .0) at taken) in
-          subst (λ (x : Registers). (x .steps ≡ r .steps + 1) × Going m c memory (d .fuel) words′ out′ (kept-with start x)) (b .1 .1)
-          (refl, subst (λ (x : Registers). Going m c memory (d .fuel) words′ out′ x) (same-frame start r (b .0) e (a .0)) (reaches (b .0) (a .1)))
+          subst (λ (x : Registers). (x .steps ≡ r .steps + 1) × SameFrame (kept-with start x)) (b .1 .1)
+          (refl, subst SameFrame (same-frame start r (b .0) e (a .0)) (reaches (b .0) (a .1 .0, a .1 .1 .1), a .1 .1 .0))
 
       pub enters : (q : Registers) → o ≡ S.Enter q → (q .steps ≡ r .steps + 1) × Going m c memory (d .fuel) words′ out′ q
       enters q is =
@@ -271,7 +275,7 @@ module _ {m : Mode} {s index input : List ℕ} (loaded : Loaded s index) {until 
       → (q .steps ≡ r .steps + 1) × Kept m s input until (length words₀) words₀ out₀ start words′ out′ (kept-with start q)
   keeps-on q e is = (
     goes-on m s index input loaded until (B .some-run) (length words₀) words out r (begun-kept K B) h words′ out′ o did lw lo start q e is .0,
-    λ d G. goes-on m s index input loaded until d (length words₀) words out r (K d G) h words′ out′ o did lw lo start q e is .1,
+    λ d G. goes-on m s index input loaded until d (length words₀) words out r (K d G) h words′ out′ o did lw lo start q e is .1 .0,
   )
 
 -- ---- one frame

@@ -9,8 +9,10 @@ use Rattle.model.specs.Machine.{State}
 use Rattle.model.specs.Run.{End, stuck-at, running, trace, run}
 use Rattle.model.specs.Inside.{Inside}
 use Rattle.sheet.specs.Meaning.{programOf}
+use Rattle.index.specs.declared.procedures.Scope.{Scope}
 use Rattle.writers.specs.declared.Registers.{Registers}
 use Rattle.writers.specs.Memory.{Given, StandsFor}
+use Rattle.watched_calls.specs.Calls.{ScopeHere}
 use Rattle.run_by_frames.specs.declared.Paused.{Paused}
 use Rattle.run_by_frames.specs.declared.Paused.the-variants as P
 use Rattle.run_by_frames.specs.declared.Halted.{Halted}
@@ -21,6 +23,11 @@ use Rattle.run_by_frames.specs.Reply.{EndedIs}
 abbrev pub mode-of : Bool → Mode
 mode-of false = plain
 mode-of true = watched
+
+-- p is the scope of the running frame of the watched machine; the plain one asks for none
+abbrev pub ScopeFor : Bool → (s words : List ℕ) → Registers → Scope → Type 0
+ScopeFor false s words r p = Unit {0}
+ScopeFor true s words r p = ScopeHere s words r p
 
 -- an end that is a stop; condition 3 says that an accepted sheet has no other
 abbrev pub Never-stuck : End → Type 0

@@ -3,10 +3,12 @@ use crate::Ended;
 use crate::Halted;
 use crate::Paused;
 use frames::instructions_of;
+use frames::set_in;
 use index::Index;
+use index::procedures::Scope;
+use index::procedures::frame_scope;
 use index::procedures::procedure_in;
 use lent_step::count;
-use lent_step::count_step;
 use lent_step::step_by;
 use watched_step::step::guarded_step;
 use words::clear;
@@ -23,12 +25,12 @@ ghost use Rattle.model.specs.Modes.{Mode};
 ghost use Rattle.model.specs.Run.{run, opened};
 ghost use Rattle.sheet.specs.Layout.{variablesAt, procedureAt};
 ghost use Rattle.sheet.specs.Meaning.{programOf};
-ghost use Rattle.writers.specs.Memory.{StandsFor, number-in};
+ghost use Rattle.writers.specs.Memory.{Sane, StandsFor, number-in};
 ghost use Rattle.frames.specs.Performs.{Loaded};
 ghost use Rattle.frames.specs.Fetch.{CodeOf};
-ghost use Rattle.lent_step.specs.Counts.{Steppable, TurnIs};
+ghost use Rattle.lent_step.specs.Counts.{Steppable, TurnIs, turned};
 ghost use Rattle.run_by_frames.specs.Reply.{EndedIs};
-ghost use Rattle.run_by_frames.specs.Turn.{mode-of, Never-stuck, Begun, FrameRuns, RunsUntil};
+ghost use Rattle.run_by_frames.specs.Turn.{mode-of, ScopeFor, Never-stuck, Begun, FrameRuns, RunsUntil};
 
 // Main's frame, at the end of the memory; no frame waits for it.
 fn open_main(s: &[u8], index: &Index, memory: &mut [u64], v: usize) -> Registers
@@ -64,11 +66,28 @@ fn ended(number: u8, r: Registers) -> Ended
     }
 }
 
-// One counted step of the watched machine, or of the plain one. Each library has the flag as a constant, so that neither pays for the other.
+// The scope of the running frame, for the watched machine alone: it is the same as long as the frame runs on.
+fn scope_of(s: &[u8], memory: &[u64], r: Registers, watch: bool) -> Scope
+    requires { ⌜ Sane (length (now memory)) r ⌝ }
+    ensures { λ p. ⌜ ((index : List ℕ) → Loaded (now (s .entry)) index → ScopeFor watch (now (s .entry)) (now (memory .entry)) r p) ⌝ }
+{
+    if watch {
+        return frame_scope(s, r.procedure, set_in(memory, r));
+    }
+    Scope {
+        head: 0,
+        start: 0,
+        name: 0,
+    }
+}
+
+// One step of the watched machine, in the scope of the running frame, or of the plain one, which counts itself: its caller counts either. Each library has
+// the flag as a constant, so that neither pays for the other.
 fn turn(
     s: &[u8],
     index: &Index,
     code: &[u8],
+    p: Scope,
     input: &[u32],
     memory: &mut [u64],
     output: &mut [u32],
@@ -76,11 +95,11 @@ fn turn(
     watch: bool,
 ) -> Stepped
     requires { ⌜ Steppable (now s) (now index) (now code) (now memory) r ⌝ }
-    ensures { λ o. ⌜ TurnIs (mode-of watch) (now (s .entry)) (now (input .entry)) (now (memory .entry)) (now (memory .exit)) (now (output .entry)) (now (output .exit)) r o ⌝ }
+    requires { ⌜ ScopeFor watch (now s) (now memory) r p ⌝ }
+    ensures { λ o. ⌜ TurnIs (mode-of watch) (now (s .entry)) (now (input .entry)) (now (memory .entry)) (now (memory .exit)) (now (output .entry)) (now (output .exit)) r (turned r o) ⌝ }
 {
     if watch {
-        let o = guarded_step(s, index, code, input, memory, output, r);
-        return count_step(r, o);
+        return guarded_step(s, index, code, p, input, memory, output, r);
     }
     step_by(s, index, code, input, memory, output, r)
 }
@@ -108,9 +127,10 @@ fn run_frame(
     let used = start.used;
     let taken = start.taken;
     let put = start.put;
+    let p = scope_of(s, memory, start, watch);
     let mut r = start;
     while r.steps < until {
-        match turn(s, index, code, input, memory, output, r, watch) {
+        match turn(s, index, code, p, input, memory, output, r, watch) {
             Stepped::Go(q) => {
                 r = Registers {
                     procedure,
@@ -119,11 +139,11 @@ fn run_frame(
                     used,
                     taken,
                     put,
-                    steps: q.steps,
+                    steps: r.steps + 1,
                 };
             }
             Stepped::Enter(q) => {
-                return Paused::Enter(q);
+                return Paused::Enter(count(r, q));
             }
             Stepped::Halt(k) => {
                 return Paused::End(ended(k, r));

@@ -5,13 +5,13 @@ use mathlib.Core.List.{List, [], _∷_}
 use mathlib.Core.Bool.{Bool, true, false, false≢true, _&&_, cond}
 use native.Mathlib.Omega.{arith}
 use lib.Dec.{eqb, ltb}
-use borrow.Author.Tests.{eqb-true, eqb-false, eq-eqb, ne-eqb, lt-ltb, le-ltb}
+use borrow.Author.Tests.{eqb-true, eqb-false, eq-eqb, ne-eqb}
 use Rattle.model.specs.Rights.{Rights, less-open}
-use Rattle.model.specs.Qualified.{Qual, integer, array, declared, generic, base, rights, element, isArray, same}
+use Rattle.model.specs.Qualified.{Qual, integer, array, declared, generic, base, rights, isArray, same}
 use Rattle.model.specs.Generic.{only, uses, settles}
-use Rattle.index.specs.Types.{word-in, rights-of, shape-of, of-shape, element-of, element-below, named-as, name-type, word-as, qualIn, typeIn, ElementIn}
+use Rattle.index.specs.Types.{word-in, rights-of, shape-of, of-shape, element-of, element-below, named-as, word-as, typeIn, ElementIn}
 use Rattle.index.proofs.Trees.{Shape, an-integer, an-array, a-declared, a-generic, shape-is, of-generic, array-qual, none-qual}
-use Rattle.index.proofs.Reading.{name-shape, base-named, rights-named, none-type, type-element, type-word-as, generic-word}
+use Rattle.index.proofs.Reading.{name-shape, base-named, rights-named, none-type, type-element, type-word-as, raw-array, generic-word}
 use Rattle.settling.specs.Settles.{settles-as, uses-as, SettlesIs, Innermost, least-name}
 use Rattle.settling.specs.declared.Settles.{Settles}
 use Rattle.settling.specs.declared.Settles.the-variants as One
@@ -175,10 +175,6 @@ module _ (t : List ℕ) (n j : ℕ) where
         record { settled = rw (is-array h, e); used = rw (is-array h, e) }
 
 -- ---- down to the innermost type of a need
-raw-array : (t : List ℕ) (n j : ℕ) → shape-of (word-in t j) ≡ 1 → word-as t n j ≡ word-in t j
-unfolding word-as
-raw-array t n j h = rw (lt-ltb (shape-of (word-in t j)) 256 (omega (arith, h)))
-
 module _ (t : List ℕ) (j i : ℕ) where
   pub inner-element : {e y x : ℕ} → shape-of (word-in t j) ≡ 1 → ltb (element-of (word-in t j)) j ≡ true → e ≡ element-of (word-in t j) → ElementIn t i y
       → Innermost t e y x → Innermost t j i x

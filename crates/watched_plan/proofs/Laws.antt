@@ -3,14 +3,14 @@ use Prim.Native.Nat.{ℕ, _+_, _%_, _^_, _<_, _≤_}
 use native.Mathlib.Omega.{arith}
 use native.Mathlib.Nat.{mod-lt, div-eq-of-lt}
 use mathlib.Core.Path.{_≡_, refl, sym, ap, _∙_}
-use mathlib.Core.Bool.{Bool, true, false, _&&_, false≢true}
+use mathlib.Core.Bool.{Bool, true, false, _&&_, _||_, false≢true, cond}
 use mathlib.Core.List.{List}
 use mathlib.Core.Logic.{_⊎_, inl, inr}
 use lib.Dec.{eqb, ltb}
 use lib.Bits.{and-mask}
 use lib.ListN.{getD}
 use lib.Pow.{pow-pos}
-use borrow.Author.Tests.{lt-ltb, le-ltb, eqb-true, eq-eqb}
+use borrow.Author.Tests.{lt-ltb, le-ltb, eqb-true, eq-eqb, eqb-false}
 use Rattle.model.specs.Rights.{Rights, within, has, none-above, record-rights, fetch-right, store-right, size-right, open-right}
 use Rattle.model.specs.Qualified.{Qual, integer, array, declared, generic, rights, element, isInteger, isArray}
 use Rattle.model.specs.Outcome.{blank, past-end, wrong-kind, missing-right, Res, ok, stop, stuck, _>>=_, _>>_, ensure}
@@ -102,9 +102,21 @@ found-word q w c not0 e = by c (cell-word q w c e) e
     by empty (blank-in z) k = absurd (not0 z)
     by (filled x m) r k = found x m k
 
+module _ {q : ℕ → Qual} {v : View watched} {f h : List ℕ} (s : Sees watched q v f h) {x w : ℕ} (at : w ≡ getD f x 0) where
+  zero-seen : w ≡ 0 → v .variable x ≡ empty
+  zero-seen = blank-word watched q w (ap (slot-in watched q) at ∙ s .variable x)
+
+  word-seen : (w ≡ 0 → ⊥) → Found q w (v .variable x)
+  word-seen not0 = found-word q w (v .variable x) not0 (ap (slot-in watched q) at ∙ s .variable x)
+
+-- an integer's word is not blank
+tagged : (w : ℕ) → tag w ≡ 1 → w ≡ 0 → ⊥
+unfolding tag
+tagged w t z = omega arith
+
 module _ {q : ℕ → Qual} {v : View watched} {f h : List ℕ} (s : Sees watched q v f h) {x w : ℕ} {r : Read} (at : w ≡ getD f x 0) (is : r ≡ read-as w) where
   pub blank-seen : r ≡ Blank → v .variable x ≡ empty
-  blank-seen told = blank-word watched q w (ap (slot-in watched q) at ∙ s .variable x) (told-blank is told)
+  blank-seen told = zero-seen s at (told-blank is told)
 
   pub filled-seen : {y : ℕ} → r ≡ Filled y → Found q y (v .variable x)
   filled-seen {y} told =
@@ -143,6 +155,18 @@ module _ (g : Program) (v : View watched) (b : ℕ) where
     where
       by : {c : Cell watched} → Found q y c → number-as watched n ≡ (held c >>= λ x. as-integer watched (x .0))
       by (found x m e) = is x m e
+
+-- by the word that a variable has
+module _ {q : ℕ → Qual} {v : View watched} {f h : List ℕ} (s : Sees watched q v f h) (g : Program) (b : ℕ) {w t : ℕ} (at : w ≡ getD f b 0) (is : t ≡ tag w) where
+  pub one-word : {n : ℕ} → n ≡ low w → t ≡ 1 → number-as watched (N.Is n) ≡ one-integer watched g v b
+  one-word n told = one-found g v b _ (word-seen s at (tagged w (sym is ∙ told))) (λ x m e. integer-is q w e n (sym is ∙ told))
+
+  pub no-word : {n : ℕ} → (t ≡ 1 → ⊥) → n ≡ cond (eqb w 0) 13 18 → number-as watched (N.Halt n) ≡ one-integer watched g v b
+  no-word {n} told why = go (eqb w 0) refl
+    where
+      go : (z : Bool) → eqb w 0 ≡ z → number-as watched (N.Halt n) ≡ one-integer watched g v b
+      go true e = rw (why, e) (one-blank g v b (zero-seen s at (eqb-true w 0 e)))
+      go false e = rw (why, e) (one-found g v b (N.Halt 18) (word-seen s at (eqb-false w 0 e)) (λ x m k. no-integer q w k (λ l. told (is ∙ l))))
 
 -- the two that an instruction reads, b before c
 module _ (g : Program) (v : View watched) (b c : ℕ) where
@@ -192,6 +216,22 @@ module _ (g : Program) (v : View watched) (b c : ℕ) where
 
         by : {d e : Cell watched} → Found q x d → Found q y e → stop wrong-kind ≡ both d e
         by (found z k a) (found w l b) = inner (value-word q x z k a) (value-word q y w l b)
+
+-- by the words that they have
+module _ {q : ℕ → Qual} {v : View watched} {f h : List ℕ} (s : Sees watched q v f h) (g : Program) (b c : ℕ) {x y t u : ℕ}
+    (at-b : x ≡ getD f b 0) (at-c : y ≡ getD f c 0) (tx : t ≡ tag x) (ty : u ≡ tag y) where
+  pub both-words : {m n : ℕ} → m ≡ low x → n ≡ low y → eqb t 1 && eqb u 1 ≡ true → pair-as (P.Are m n) ≡ integers watched g v b c
+  both-words m n told =
+      let k = both-true (eqb t 1) (eqb u 1) told in
+      two-words g v b c (word-seen s at-b (tagged x (sym tx ∙ eqb-true t 1 (k .0)))) (word-seen s at-c (tagged y (sym ty ∙ eqb-true u 1 (k .1)))) tx ty m n told
+
+  pub no-words : {n : ℕ} → eqb t 1 && eqb u 1 ≡ false → n ≡ cond (eqb x 0 || eqb y 0) 13 18 → pair-as (P.Halt n) ≡ integers watched g v b c
+  no-words {n} told why = go (eqb x 0) refl (eqb y 0) refl
+    where
+      go : (i : Bool) → eqb x 0 ≡ i → (j : Bool) → eqb y 0 ≡ j → pair-as (P.Halt n) ≡ integers watched g v b c
+      go true e j k = rw (why, e) (first-blank g v b c (zero-seen s at-b (eqb-true x 0 e)))
+      go false e true k = rw (why, e, k) (second-blank g v b c (word-seen s at-b (eqb-false x 0 e)) (zero-seen s at-c (eqb-true y 0 k)))
+      go false e false k = rw (why, e, k) (not-two-words g v b c (word-seen s at-b (eqb-false x 0 e)) (word-seen s at-c (eqb-false y 0 k)) tx ty told)
 
 -- ---- rights
 

@@ -32,20 +32,20 @@ use words::word_at;
 ghost use mathlib.Core.Path.{_≡_};
 ghost use mathlib.Core.List.{List};
 ghost use Prim.Native.Nat.{ℕ, _<_};
+ghost use mathlib.Core.Bool.{cond};
 ghost use lib.ListN.{length};
 ghost use lib.Dec.{ltb};
 ghost use Rattle.model.specs.Qualified.{Qual, rights, element, isInteger};
 ghost use Rattle.model.specs.Generic as generic;
 ghost use Rattle.model.specs.Program.{Program};
 ghost use Rattle.model.specs.Modes.{watched};
-ghost use Rattle.model.specs.Machine.{Value, filled, View, as-integer, integers, one-integer, gives, flag};
+ghost use Rattle.model.specs.Machine.{View, integers, one-integer, gives, flag};
 ghost use Rattle.model.specs.declared.Operation.the-variants as Op;
 ghost use Rattle.sheet.specs.Layout.{ownerAt};
 ghost use Rattle.sheet.specs.Meaning.{qualOf, programOf};
 ghost use Rattle.index.specs.Types.{named-as};
 ghost use Rattle.index.specs.Indexed.{Ready};
 ghost use Rattle.index.specs.Scope.{innerAs};
-ghost use Rattle.words.specs.Word.{cell, slot-in};
 ghost use Rattle.words.specs.Sees.{Sees};
 ghost use Rattle.words.specs.Answers.{MovedOk, StoredOk, InObject, number-as, given, stored};
 ghost use Rattle.binding.specs.Binds.{InScope, moved-cell};
@@ -64,25 +64,23 @@ enum Spot {
     Halt(u8),
 }
 
-// The integer of a filled cell.
-fn integer_of(w: u64) -> Number
-    ensures { λ r. ⌜ ((q : ℕ → Qual) (x : Value) (m : ℕ) → slot-in watched q w ≡ cell (filled x m) → number-as watched r ≡ as-integer watched x) ⌝ }
+// Why a word is no integer: it is blank, or of another kind.
+fn no_integer(blank: bool) -> u8
+    ensures { λ n. ⌜ n ≡ cond blank 13 18 ⌝ }
 {
-    if tag_of(w) == 1 {
-        return Number::Is(low_of(w));
-    }
-    Number::Halt(18)
+    if blank { 13 } else { 18 }
 }
 
-// The integer in variable x.
+// The integer in variable x. The tag tells it; why there is none is asked only then.
 pub fn integer_in(f: &[u64], x: u8) -> Number
     requires { ⌜ x < length (now f) ⌝ }
     ensures { λ r. ⌜ ((q : ℕ → Qual) (g : Program) (v : View watched) (h : List ℕ) → Sees watched q v (now (f .entry)) h → number-as watched r ≡ one-integer watched g v x) ⌝ }
 {
-    let Cell::Filled(w) = cell_of(word_at(f, x)) else {
-        return Number::Halt(13);
-    };
-    integer_of(w)
+    let w = word_at(f, x);
+    if tag_of(w) == 1 {
+        return Number::Is(low_of(w));
+    }
+    Number::Halt(no_integer(w == 0))
 }
 
 // The integers in variables b and c.
@@ -90,16 +88,12 @@ fn two_integers(f: &[u64], b: u8, c: u8) -> Pair
     requires { ⌜ (b < length (now f)) × (c < length (now f)) ⌝ }
     ensures { λ r. ⌜ ((q : ℕ → Qual) (g : Program) (v : View watched) (h : List ℕ) → Sees watched q v (now (f .entry)) h → pair-as r ≡ integers watched g v b c) ⌝ }
 {
-    let Cell::Filled(x) = cell_of(word_at(f, b)) else {
-        return Pair::Halt(13);
-    };
-    let Cell::Filled(y) = cell_of(word_at(f, c)) else {
-        return Pair::Halt(13);
-    };
+    let x = word_at(f, b);
+    let y = word_at(f, c);
     if (tag_of(x) == 1) & (tag_of(y) == 1) {
         return Pair::Are(low_of(x), low_of(y));
     }
-    Pair::Halt(18)
+    Pair::Halt(no_integer((x == 0) | (y == 0)))
 }
 
 // The input that a take finds may go into variable a.

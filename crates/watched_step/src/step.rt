@@ -1,8 +1,6 @@
 // One instruction.
-use frames::set_in;
 use index::Index;
 use index::procedures::Scope;
-use index::procedures::frame_scope;
 use model::Operation;
 use sheet::fetch::operation_whole;
 use watched_calls::call;
@@ -32,8 +30,8 @@ ghost use Rattle.frames.specs.Performs.{Loaded, Performs};
 ghost use Rattle.frames.specs.Fetch.{Fetchable, CodeOf, place-in};
 ghost use Rattle.watched_calls.specs.Calls.{ScopeHere};
 
-// The same in the scope of the running frame.
-fn step_at(
+// One instruction of the watched machine, in the scope of the running frame.
+pub fn guarded_step(
     s: &[u8],
     index: &Index,
     code: &[u8],
@@ -70,32 +68,4 @@ fn step_at(
         Operation::Call(a, b, k) => call(s, index, p, memory, r, a, b, k),
         Operation::Return(a) => give_back(s, index, p, memory, r, a),
     }
-}
-
-// One instruction of the watched machine.
-pub fn guarded_step(
-    s: &[u8],
-    index: &Index,
-    code: &[u8],
-    input: &[u32],
-    memory: &mut [u64],
-    output: &mut [u32],
-    r: Registers,
-) -> Stepped
-    requires { ⌜ Loaded (now s) (now index) ⌝ }
-    requires { ⌜ Sane (length (now memory)) r ⌝ }
-    requires { ⌜ Fetchable (now s) r ⌝ }
-    requires { ⌜ CodeOf (now s) r (now code) ⌝ }
-    ensures { λ o. ⌜ Performs watched (now (s .entry)) (now (input .entry)) (now (memory .entry)) (now (memory .exit)) (now (output .entry)) (now (output .exit)) r o (operationAt (now (s .entry)) (place-in r)) ⌝ }
-{
-    step_at(
-        s,
-        index,
-        code,
-        frame_scope(s, r.procedure, set_in(memory, r)),
-        input,
-        memory,
-        output,
-        r,
-    )
 }

@@ -254,7 +254,7 @@ module _ {m : Mode} {c : Given} {words out : List ℕ} {r : Registers} {p i : �
 pub does-write : (m : Mode) (c : Given) (words words′ out : List ℕ) (r : Registers) (a : ℕ) (d : Cell m) → Put (slot-in m (qualOf (c .sheet))) words words′ r a (cell d)
     → Does m c words words′ out out r (Go (at-next r (r .next + 1))) (ok (M.write a d))
 unfolding apply _>>=_
-does-write m c words words′ out r a d P (state (frame p i z vs) fs os input put) S = (refl, wrote S words′ a d P)
+does-write m c words words′ out r a d P (state (frame p i z vs) fs os input put) S = (refl, (refl, wrote S words′ a d P))
 
 pub does-take : (m : Mode) (c : Given) (words words′ out : List ℕ) (r : Registers) (a : ℕ) (d : Cell m) → Put (slot-in m (qualOf (c .sheet))) words words′ r a (cell d)
     → Does m c words words′ out out r (Enter (onward r (r .next + 1) (r .used) (r .taken + 1) (r .put))) (ok (M.take a d))
@@ -264,12 +264,12 @@ does-take m c words words′ out r a d P (state (frame p i z vs) fs os input put
 pub does-skip : (m : Mode) (c : Given) (words out : List ℕ) (r : Registers)
     → Does m c words words out out r (Go (at-next r (r .next + 1))) (ok M.skip)
 unfolding apply _>>=_
-does-skip m c words out r (state (frame p i z vs) fs os input put) S = (refl, went S (r .next + 1) (suc i) (add-one (r .next) ∙ ap suc (S .next)))
+does-skip m c words out r (state (frame p i z vs) fs os input put) S = (refl, (refl, went S (r .next + 1) (suc i) (add-one (r .next) ∙ ap suc (S .next))))
 
 pub does-jump : (m : Mode) (c : Given) (words out : List ℕ) (r : Registers) (k : ℕ)
     → Does m c words words out out r (Go (at-next r k)) (ok (M.jump k))
 unfolding apply _>>=_
-does-jump m c words out r k (state (frame p i z vs) fs os input put) S = (refl, went S k k refl)
+does-jump m c words out r k (state (frame p i z vs) fs os input put) S = (refl, (refl, went S k k refl))
 
 pub does-put : (m : Mode) (c : Given) (words out : List ℕ) (r : Registers) (x : ℕ) → r .put < length out
     → Does m c words words out (set out (r .put) x) r (Enter (onward r (r .next + 1) (r .used) (r .taken) (r .put + 1))) (ok (M.put x))
@@ -322,7 +322,7 @@ pub does-store : (m : Mode) (c : Given) (words words′ out : List ℕ) (r : Reg
     → words′ ≡ set (object-part r words) (a + 1 + j) w ++ drop (r .used) words
     → Does m c words words′ out out r (Go (at-next r (r .next + 1))) (ok (M.store a j d))
 unfolding apply _>>=_
-does-store m c words words′ out r a j w d is I e (state (frame p i z vs) fs os input put) S = (refl, stored-at S words′ a j w d is I e)
+does-store m c words words′ out r a j w d is I e (state (frame p i z vs) fs os input put) S = (refl, (refl, stored-at S words′ a j w d is I e))
 
 -- ---- a new object
 

@@ -9,8 +9,8 @@ use lib.ListN as list
 use Rattle.model.specs.Outcome.{Stop, stop-number, input-ended, output-full, memory-full, Res, ok, stop, stuck, ensure, found, _>>=_, _>>_}
 use Rattle.model.specs.Rights.{array-rights, record-rights}
 use Rattle.model.specs.Qualified.{Qual, element}
-use Rattle.model.specs.Modes.{Mode, carried, element-info, type-info, array-kind, record-kind, bind}
-use Rattle.model.specs.Machine.{word, empty, filled, State, Next, go, finished, Effect, put, take, jump, skip, new-array, new-record, apply}
+use Rattle.model.specs.Modes.{Mode, SettledSet, carried, element-info, type-info, array-kind, record-kind, bind}
+use Rattle.model.specs.Machine.{word, empty, filled, frame, State, state, Next, go, finished, Effect, put, take, jump, skip, new-array, new-record, apply}
 use Rattle.sheet.specs.Meaning.{programOf}
 use Rattle.words.specs.Word.{cell, slot-in}
 use Rattle.words.specs.Answers.{number-as}
@@ -43,12 +43,16 @@ pub record Unchanged (m : Mode) (c : Given) (words before output : List ℕ) (r 
   pub output-kept : output ≡ before
   pub still : StandsFor m c words output r t
 
--- the words after, the output before and after, the registers and the state before, and the answer: Go at another instruction alone, Enter with any
--- registers.
+-- the set of the running frame
+abbrev pub running-set : {m : Mode} → State m → SettledSet m
+running-set (state (frame p i z vs) fs os input output) = z
+
+-- the words after, the output before and after, the registers and the state before, and the answer: Go at another instruction of the same frame, whose set
+-- is as it was, Enter with any registers.
 -- Where the definition is stuck nothing is said: of an accepted program condition 3 says that it never is.
 abbrev pub After : (m : Mode) → Given → (words before output : List ℕ) → Registers → State m → Stepped → Res (Next m) → Type 0
 After m c words before output r t (Go q) (ok (go u)) =
-    (q ≡ at-next r (q .next)) × StandsFor m c words output q u
+    (q ≡ at-next r (q .next)) × ((running-set u ≡ running-set t) × StandsFor m c words output q u)
 After m c words before output r t (Go q) (ok finished) = ⊥
 After m c words before output r t (Go q) (stop x) = ⊥
 After m c words before output r t (Go q) stuck = Unit {0}

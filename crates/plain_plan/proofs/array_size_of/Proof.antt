@@ -2,7 +2,7 @@
 use mathlib.Core.Path.{sym}
 use Rattle.model.specs.Machine.{plan}
 use Rattle.words.specs.Answers.{given, halted}
-use Rattle.plain_plan.proofs.Laws.{due, settle, blank-there, filled-there, size-blank, size-filled}
+use Rattle.plain_plan.proofs.Laws.{due, stuck-or, blank-there, filled-there, size-blank, size-filled}
 use borrow.Author.Needs.{needs}
 use Rattle.plain_plan.proofs.array_size_of.Statement.{statement}
 use Rattle.plain_plan.proofs.array_size_of.Tie as tie
@@ -27,7 +27,7 @@ returns-2 c =
     let name-of = c .before .before .name-of in
     let read = c .before .read in
     let size-of = c .size-of in
-    λ q g v a s. settle (size-filled g v a _ s (filled-there s (word-at .ensures) (cell-of .ensures) (x .given .1)) (name-of .ensures) (read .ensures) (size-of .ensures)) sym
+    λ q g v a s. stuck-or (size-filled g v a _ s (filled-there s (word-at .ensures) (cell-of .ensures) (x .given .1)) (name-of .ensures) (read .ensures) (size-of .ensures)) sym
 
 pub array-size-of-spec : {M : Type 1} → statement M
 array-size-of-spec =

@@ -4,7 +4,7 @@ use Rattle.model.specs.Rights.{open-right}
 use Rattle.model.specs.Modes.{plain}
 use Rattle.model.specs.Machine.{plan, plan-get, declared-as}
 use Rattle.words.specs.Answers.{moved-to, halted}
-use Rattle.plain_plan.proofs.Laws.{due, settle, blank-there, filled-there, slot-blank, slot-filled, getting, moved-is}
+use Rattle.plain_plan.proofs.Laws.{due, stuck-or, blank-there, filled-there, slot-blank, slot-filled, getting, moved-is}
 use borrow.Author.Needs.{needs}
 use Rattle.plain_plan.proofs.get_of.Statement.{statement}
 use Rattle.plain_plan.proofs.get_of.Tie as tie
@@ -31,7 +31,7 @@ returns-2 c =
     let name-of = c .before .before .name-of in
     let read = c .before .read in
     let filled-word = c .filled-word in
-    λ q g v a s. settle (slot-filled g v open-right (g .owner (v .procedure)) _ _ (getting g v a (args .k)) (filled-there s (word-at .ensures) (cell-of .ensures) (x .given .1)) (name-of .ensures)) (λ there. moved-is q g v (declared-as plain g v a) a (s .cell _ _ _ (there .head) (there .below)) (read .ensures) (filled-word .ensures) (there .is))
+    λ q g v a s. stuck-or (slot-filled g v open-right (g .owner (v .procedure)) _ _ (getting g v a (args .k)) (filled-there s (word-at .ensures) (cell-of .ensures) (x .given .1)) (name-of .ensures)) (λ there. moved-is q g v (declared-as plain g v a) a (s .cell _ _ _ (there .head) (there .below)) (read .ensures) (filled-word .ensures) (there .is))
 
 pub get-of-spec : {M : Type 1} → statement M
 get-of-spec =

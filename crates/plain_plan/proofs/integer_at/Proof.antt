@@ -2,7 +2,7 @@
 use mathlib.Core.Path.{_∙_, ap, sym}
 use Rattle.model.specs.Outcome.{ok}
 use Rattle.words.specs.Answers.{number-as, halted}
-use Rattle.plain_plan.proofs.Laws.{due, settle, blank-there, filled-there, one-blank, one-filled}
+use Rattle.plain_plan.proofs.Laws.{due, stuck-or, blank-there, filled-there, one-blank, one-filled}
 use borrow.Author.Needs.{needs}
 use Rattle.plain_plan.proofs.integer_at.Statement.{statement}
 use Rattle.plain_plan.proofs.integer_at.Tie as tie
@@ -25,7 +25,7 @@ returns-2 c =
     let cell-of = c .before .before .before .before .cell-of in
     let w = c .before .before .w in
     let low-of = c .low-of in
-    λ q g v h s. settle (one-filled g v _ (filled-there s (word-at .ensures) (cell-of .ensures) (w .given .1))) (λ e. ap ok (low-of .ensures) ∙ sym e)
+    λ q g v h s. stuck-or (one-filled g v _ (filled-there s (word-at .ensures) (cell-of .ensures) (w .given .1))) (λ e. ap ok (low-of .ensures) ∙ sym e)
 
 pub integer-at-spec : {M : Type 1} → statement M
 integer-at-spec =

@@ -4,7 +4,7 @@ use lib.Dec.{ltb}
 use borrow.Author.Tests.{lt-ltb, le-ltb}
 use Rattle.model.specs.Machine.{plan, flag}
 use Rattle.words.specs.Answers.{given, halted}
-use Rattle.plain_plan.proofs.Laws.{due, settle, blank-there, filled-there, first-blank, second-blank, computed}
+use Rattle.plain_plan.proofs.Laws.{due, stuck-or, blank-there, filled-there, first-blank, second-blank, computed}
 use borrow.Author.Needs.{needs}
 use Rattle.plain_plan.proofs.less_of.Statement.{statement}
 use Rattle.plain_plan.proofs.less_of.Tie as tie
@@ -43,7 +43,7 @@ returns-3 c =
     let low-of = c .before .before .low-of in
     let low-of2 = c .before .low-of2 in
     let if1 = c .if1 in
-    λ q g v h a s. settle (computed g v a _ _ (λ x y. flag (ltb x y)) (filled-there s (word-at .ensures) (cell-of .ensures) (x .given .1)) (filled-there s (word-at2 .ensures) (cell-of2 .ensures) (y .given .1)) (rw (← low-of .ensures, ← low-of2 .ensures, lt-ltb _ _ (if1 .taken)))) sym
+    λ q g v h a s. stuck-or (computed g v a _ _ (λ x y. flag (ltb x y)) (filled-there s (word-at .ensures) (cell-of .ensures) (x .given .1)) (filled-there s (word-at2 .ensures) (cell-of2 .ensures) (y .given .1)) (rw (← low-of .ensures, ← low-of2 .ensures, lt-ltb _ _ (if1 .taken)))) sym
 
 returns-4 : tie.Need-returns-4
 unfolding plan given flag
@@ -57,7 +57,7 @@ returns-4 c =
     let low-of = c .before .before .low-of in
     let low-of2 = c .before .low-of2 in
     let if1 = c .if1 in
-    λ q g v h a s. settle (computed g v a _ _ (λ x y. flag (ltb x y)) (filled-there s (word-at .ensures) (cell-of .ensures) (x .given .1)) (filled-there s (word-at2 .ensures) (cell-of2 .ensures) (y .given .1)) (rw (← low-of .ensures, ← low-of2 .ensures, le-ltb _ _ (if1 .left)))) sym
+    λ q g v h a s. stuck-or (computed g v a _ _ (λ x y. flag (ltb x y)) (filled-there s (word-at .ensures) (cell-of .ensures) (x .given .1)) (filled-there s (word-at2 .ensures) (cell-of2 .ensures) (y .given .1)) (rw (← low-of .ensures, ← low-of2 .ensures, le-ltb _ _ (if1 .left)))) sym
 
 pub less-of-spec : {M : Type 1} → statement M
 less-of-spec =

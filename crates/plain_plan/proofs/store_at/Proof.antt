@@ -5,7 +5,7 @@ use Rattle.model.specs.Modes.{plain}
 use Rattle.model.specs.Machine.{plan, plan-store}
 use Rattle.words.specs.Answers.{stored, halted}
 use Rattle.words.proofs.Laws.{is-cell}
-use Rattle.plain_plan.proofs.Laws.{due, settle, blank-there, filled-there, element-blank, element-blank-index, element-past, element-at, storing, storing-blank, storing-filled, inside}
+use Rattle.plain_plan.proofs.Laws.{due, stuck-or, blank-there, filled-there, element-blank, element-blank-index, element-past, element-at, storing, storing-blank, storing-filled, inside}
 use borrow.Author.Needs.{needs}
 use Rattle.plain_plan.proofs.store_at.Statement.{statement}
 use Rattle.plain_plan.proofs.store_at.Tie as tie
@@ -49,7 +49,7 @@ returns-3 c =
     let read = c .before .before .read in
     let size-of = c .before .size-of in
     let if1 = c .if1 in
-    λ q g v s. settle (element-past g v store-right _ _ (λ o i. storing g v (args .c) (o .0) i) s (filled-there s (word-at .ensures) (cell-of .ensures) (x .given .1)) (filled-there s (word-at2 .ensures) (cell-of2 .ensures) (y .given .1)) (name-of .ensures) (low-of .ensures) (read .ensures) (size-of .ensures) (if1 .taken)) (λ e. (tt, sym e))
+    λ q g v s. stuck-or (element-past g v store-right _ _ (λ o i. storing g v (args .c) (o .0) i) s (filled-there s (word-at .ensures) (cell-of .ensures) (x .given .1)) (filled-there s (word-at2 .ensures) (cell-of2 .ensures) (y .given .1)) (name-of .ensures) (low-of .ensures) (read .ensures) (size-of .ensures) (if1 .taken)) (λ e. (tt, sym e))
 
 returns-4 : tie.Need-returns-4
 unfolding plan plan-store stored halted
@@ -69,7 +69,7 @@ returns-4 c =
     let word-at3 = c .before .before .before .word-at3 in
     let cell-of3 = c .before .before .cell-of3 in
     let enum-told3 = c .enum-told3 in
-    λ q g v s. settle (element-at g v store-right _ _ (λ o i. storing g v (args .c) (o .0) i) s (filled-there s (word-at .ensures) (cell-of .ensures) (x .given .1)) (filled-there s (word-at2 .ensures) (cell-of2 .ensures) (y .given .1)) (name-of .ensures) (low-of .ensures) (read .ensures) (size-of .ensures) (if1 .left)) (λ e. (tt, sym (e .1 ∙ storing-blank g v _ _ _ (blank-there s (word-at3 .ensures) (cell-of3 .ensures) (enum-told3 .given .1)))))
+    λ q g v s. stuck-or (element-at g v store-right _ _ (λ o i. storing g v (args .c) (o .0) i) s (filled-there s (word-at .ensures) (cell-of .ensures) (x .given .1)) (filled-there s (word-at2 .ensures) (cell-of2 .ensures) (y .given .1)) (name-of .ensures) (low-of .ensures) (read .ensures) (size-of .ensures) (if1 .left)) (λ e. (tt, sym (e .1 ∙ storing-blank g v _ _ _ (blank-there s (word-at3 .ensures) (cell-of3 .ensures) (enum-told3 .given .1)))))
 
 returns-5 : tie.Need-returns-5
 unfolding plan plan-store stored
@@ -89,7 +89,7 @@ returns-5 c =
     let word-at3 = c .before .before .before .before .word-at3 in
     let cell-of3 = c .before .before .before .cell-of3 in
     let w = c .before .w in
-    λ q g v s. settle (element-at g v store-right _ _ (λ o i. storing g v (args .c) (o .0) i) s (filled-there s (word-at .ensures) (cell-of .ensures) (x .given .1)) (filled-there s (word-at2 .ensures) (cell-of2 .ensures) (y .given .1)) (name-of .ensures) (low-of .ensures) (read .ensures) (size-of .ensures) (if1 .left)) (λ e. let W = filled-there s (word-at3 .ensures) (cell-of3 .ensures) (w .given .1) in ((is-cell plain q _ (W .slot), inside q v _ _ s _ _ _ (e .0) (if1 .left)), sym (e .1 ∙ storing-filled g v _ _ _ W)))
+    λ q g v s. stuck-or (element-at g v store-right _ _ (λ o i. storing g v (args .c) (o .0) i) s (filled-there s (word-at .ensures) (cell-of .ensures) (x .given .1)) (filled-there s (word-at2 .ensures) (cell-of2 .ensures) (y .given .1)) (name-of .ensures) (low-of .ensures) (read .ensures) (size-of .ensures) (if1 .left)) (λ e. let W = filled-there s (word-at3 .ensures) (cell-of3 .ensures) (w .given .1) in ((is-cell plain q _ (W .slot), inside q v _ _ s _ _ _ (e .0) (if1 .left)), sym (e .1 ∙ storing-filled g v _ _ _ W)))
 
 pub store-at-spec : {M : Type 1} → statement M
 store-at-spec =

@@ -2,7 +2,7 @@
 use mathlib.Core.Path.{sym}
 use Rattle.model.specs.Machine.{plan, minus}
 use Rattle.words.specs.Answers.{given, halted}
-use Rattle.plain_plan.proofs.Laws.{due, settle, blank-there, filled-there, first-blank, second-blank, computed}
+use Rattle.plain_plan.proofs.Laws.{due, stuck-or, blank-there, filled-there, first-blank, second-blank, computed}
 use native.Mathlib.Omega.{arith}
 use borrow.Author.Needs.{needs}
 use Rattle.plain_plan.proofs.subtract_of.Statement.{statement}
@@ -42,7 +42,7 @@ returns-3 c =
     let low-of = c .before .before .low-of in
     let low-of2 = c .before .low-of2 in
     let wrapping-sub-u32 = c .wrapping-sub-u32 in
-    λ q g v h a s. settle (computed g v a _ _ minus (filled-there s (word-at .ensures) (cell-of .ensures) (x .given .1)) (filled-there s (word-at2 .ensures) (cell-of2 .ensures) (y .given .1)) (omega (arith, wrapping-sub-u32 .ensures, low-of .ensures, low-of2 .ensures))) sym
+    λ q g v h a s. stuck-or (computed g v a _ _ minus (filled-there s (word-at .ensures) (cell-of .ensures) (x .given .1)) (filled-there s (word-at2 .ensures) (cell-of2 .ensures) (y .given .1)) (omega (arith, wrapping-sub-u32 .ensures, low-of .ensures, low-of2 .ensures))) sym
 
 pub subtract-of-spec : {M : Type 1} → statement M
 subtract-of-spec =

@@ -21,7 +21,7 @@ returns-2 c =
     let h = v .before .before .before in
     let b = h .before in
     let a = b .before .before in
-    let variables = v .variable-uses .ensures ∙ ap verdict (variables-here _ (a .args .p) _ _ (a .pre .1 .1) _ (b .is-bounded .ensures)) in
+    let variables = v .variable-uses .ensures ∙ ap verdict (variables-here _ (a .args .p) _ _ (a .pre .1) _ (b .is-bounded .ensures)) in
     go-on _ _ _ _ (h .head-use .ensures _ (b .is-bounded .ensures)) (v .before .enum-told .given .1)
     (stop-here _ _ _ _ _ variables (c .enum-told4 .given .1))
 
@@ -32,8 +32,8 @@ returns-3 c =
     let h = v .before .before .before in
     let b = h .before in
     let a = b .before .before in
-    let variables = v .variable-uses .ensures ∙ ap verdict (variables-here _ (a .args .p) _ _ (a .pre .1 .1) _ (b .is-bounded .ensures)) in
-    let calls = c .calls-pass .ensures ∙ ap verdict (calls-here _ (a .args .p) _ _ (a .pre .1 .1)) in
+    let variables = v .variable-uses .ensures ∙ ap verdict (variables-here _ (a .args .p) _ _ (a .pre .1) _ (b .is-bounded .ensures)) in
+    let calls = c .calls-pass .ensures ∙ ap verdict (calls-here _ (a .args .p) _ _ (a .pre .1)) in
     go-on _ _ _ _ (h .head-use .ensures _ (b .is-bounded .ensures)) (v .before .enum-told .given .1)
     (go-on _ _ _ _ variables (c .before .enum-told3 .given .1) calls)
 

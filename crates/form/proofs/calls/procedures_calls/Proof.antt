@@ -11,10 +11,10 @@ use Rattle.form.proofs.calls.procedures_calls.Statement.{statement}
 use Rattle.form.proofs.calls.procedures_calls.Tie as tie
 
 abbrev Inv-loop : tie.InvT-loop
-Inv-loop s index uses n p₀ p = Passing (procedure-calls s) n p
+Inv-loop s index n p₀ p = Passing (procedure-calls s) n p
 
 abbrev μ-loop : tie.MeasureT-loop
-μ-loop s index uses n p₀ p = n - p
+μ-loop s index n p₀ p = n - p
 
 loop-holds : tie.Need-loop-holds Inv-loop μ-loop
 loop-holds c = pass-start _ _
@@ -25,7 +25,7 @@ procedure-calls-requires c κs =
     let l = w .before .before in
     let a = l .before .before in
     let word = a .pre .0 .procedures (l .loop .p) (omega arith) in
-    (a .pre .0, (a .pre .1 .0, started _ _ _ _ word (w .procedure-in .ensures) _ (c .before .place-in .ensures) _ (c .start-in .ensures)))
+    (a .pre .0, started _ _ _ _ word (w .procedure-in .ensures) _ (c .before .place-in .ensures) _ (c .start-in .ensures))
 
 as-defined : (c : tie.After-procedure-calls Inv-loop μ-loop) →
     let l = c .before .before .before .before .before in

@@ -6,26 +6,26 @@ use native.Mathlib.Omega.{arith}
 use borrow.Author.Needs.{needs}
 use Rattle.model.specs.Refusal.{failure}
 use Rattle.model.proofs.Verdicts.{Testing, test-start, test-next, test-stop, test-end}
-use Rattle.form.proofs.Table.{slot-test, slot-here}
+use Rattle.form.proofs.Misplaced.{slot-test, slot-here}
 use Rattle.form.proofs.uses.slot_use.Statement.{statement}
 use Rattle.form.proofs.uses.slot_use.Tie as tie
 
 abbrev Inv-loop : tie.InvT-loop
-Inv-loop s uses at slots k₀ k = Testing (slot-test s at) slots k
+Inv-loop s index at slots k₀ k = Testing (slot-test s at) slots k
 
 abbrev μ-loop : tie.MeasureT-loop
-μ-loop s uses at slots k₀ k = slots - k
+μ-loop s index at slots k₀ k = slots - k
 
 loop-holds : tie.Need-loop-holds Inv-loop μ-loop
 loop-holds c = test-start _ _
 
-as-defined : (c : tie.After-uses-in Inv-loop μ-loop) →
+as-defined : (c : tie.After-uses-name Inv-loop μ-loop) →
     let l = c .before .before .before in
     let a = l .before .before .before .args in
-    cond (c .uses-in .result) 5 0 ≡ failure (slot-test (a .s .now) (a .at) (l .loop .k))
+    cond (c .uses-name .result) 5 0 ≡ failure (slot-test (a .s .now) (a .at) (l .loop .k))
 as-defined c =
     let a = c .before .before .before .before .before .before in
-    slot-here _ _ (a .pre) _ _ _ _ (c .before .byte2 .ensures) (c .uses-in .ensures)
+    slot-here _ _ (a .pre) _ _ _ _ (c .before .byte2 .ensures) (c .uses-name .ensures)
 
 returns : tie.Need-returns Inv-loop μ-loop
 returns c =

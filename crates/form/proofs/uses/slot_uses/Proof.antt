@@ -6,16 +6,16 @@ use borrow.Author.Needs.{needs}
 use Rattle.model.specs.Refusal.{verdict}
 use Rattle.model.specs.declared.Verdict.the-variants.{Accepted, Refused}
 use Rattle.model.proofs.Verdicts.{Passing, pass-start, pass-next, pass-stop, pass-end, tests-pass, tests-stop}
-use Rattle.form.proofs.Table.{slots-here}
+use Rattle.form.proofs.Misplaced.{slots-here}
 use Rattle.form.specs.WellFormed.{slot-uses}
 use Rattle.form.proofs.uses.slot_uses.Statement.{statement}
 use Rattle.form.proofs.uses.slot_uses.Tie as tie
 
 abbrev Inv-loop : tie.InvT-loop
-Inv-loop s uses n i₀ i = Passing (slot-uses s) n i
+Inv-loop s index n i₀ i = Passing (slot-uses s) n i
 
 abbrev μ-loop : tie.MeasureT-loop
-μ-loop s uses n i₀ i = n - i
+μ-loop s index n i₀ i = n - i
 
 loop-holds : tie.Need-loop-holds Inv-loop μ-loop
 loop-holds c = pass-start _ _

@@ -1,6 +1,6 @@
 -- The one test, from what the calls ensure.
 use borrow.Author.Needs.{needs}
-use Rattle.form.proofs.Table.{variable-here}
+use Rattle.form.proofs.Misplaced.{variable-here}
 use Rattle.form.proofs.uses.variable_use.Statement.{statement}
 use Rattle.form.proofs.uses.variable_use.Tie as tie
 
@@ -9,7 +9,7 @@ returns c =
     let d = c .before .before in
     let i = d .before .before in
     variable-here _ _ (i .before .before .before .pre) _ _ _ _ _ _ _ _ _
-    (c .before .variable-at .ensures) (i .before .inner-of .ensures) (d .before .need-of .ensures) (i .uses-in .ensures) (d .uses-in2 .ensures) (c .misplaced .ensures)
+    (c .before .variable-at .ensures) (i .before .inner-of .ensures) (d .before .need-of .ensures) (i .uses-name .ensures) (d .uses-name2 .ensures) (c .misplaced .ensures)
 
 pub variable-use-spec : {M : Type 1} → statement M
 variable-use-spec =

@@ -9,10 +9,10 @@ use Rattle.form.proofs.uses.variable_uses.Statement.{statement}
 use Rattle.form.proofs.uses.variable_uses.Tie as tie
 
 abbrev Inv-loop : tie.InvT-loop
-Inv-loop s uses bounded pr start n x₀ x = Passing (variable-uses s bounded start) n x
+Inv-loop s index bounded pr start n x₀ x = Passing (variable-uses s bounded start) n x
 
 abbrev μ-loop : tie.MeasureT-loop
-μ-loop s uses bounded pr start n x₀ x = n - x
+μ-loop s index bounded pr start n x₀ x = n - x
 
 loop-holds : tie.Need-loop-holds Inv-loop μ-loop
 loop-holds c = pass-start _ _

@@ -1,6 +1,4 @@
--- The test is the definition's.
-use mathlib.Core.Path.{sym}
-use borrow.Author.Tests.{lt-ltb, le-ltb}
+-- The word of the type, read so.
 use Rattle.index.specs.Types.{word-as}
 use borrow.Author.Needs.{needs}
 use Rattle.index.proofs.types.type_word_as.Statement.{statement}
@@ -8,12 +6,7 @@ use Rattle.index.proofs.types.type_word_as.Tie as tie
 
 returns : tie.Need-returns
 unfolding word-as
-returns c = rw (sym (c .before .before .type-word .ensures), sym (c .before .shape-in .ensures), lt-ltb _ _ (c .if1 .taken))
-
-returns-2 : tie.Need-returns-2
-unfolding word-as
-returns-2 c =
-    rw (c .name-type .ensures, sym (c .before .before .before .type-word .ensures), sym (c .before .before .shape-in .ensures), le-ltb _ _ (c .before .if1 .left))
+returns c = rw (c .word-read .ensures, c .before .type-word .ensures)
 
 pub type-word-as-spec : {M : Type 1} → statement M
-type-word-as-spec = tie.close (tie.spec (λ c κs. search needs) (λ c κs. search needs) returns (λ c κs. search needs) returns-2)
+type-word-as-spec = tie.close (tie.spec (λ c κs. search needs) (λ c κs. search needs) returns)
