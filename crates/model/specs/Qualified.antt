@@ -73,7 +73,8 @@ same (generic t l) (declared u s) = false
 abbrev pub elements : Qual → Qual → Bool
 elements e f = same e f
 
--- Q1 ≥ Q2 but for the rights at the top: "the bases are equal and, for trays, the elements are equal"; ?R has the base of its bound
+-- Q1 ≥ Q2 but for the rights at the top: "the bases are equal and, for trays, the elements are equal"; ?R has the base of its bound, and two
+-- with other least sets, of two procedures, are never compared
 unfoldable pub alike : Qual → Qual → Bool
 alike integer integer = true
 alike (array r e) (array s f) = elements e f

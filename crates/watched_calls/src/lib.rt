@@ -233,6 +233,7 @@ fn resume_with(s: &[u8], index: &Index, memory: &mut [u64], r: Registers, w: u64
     }
 }
 
+// A return of variable a from the frame of scope p; 255 is none. What it hands over is bound to the result, then to the variable that the call keeps.
 pub fn give_back(
     s: &[u8],
     index: &Index,
