@@ -2,6 +2,7 @@ pub mod Formed
 pub mod Verdicts
 pub mod Rights
 pub mod Order
+pub mod OutsideIn
 pub mod Read
 pub mod Settling
 pub mod Allowed

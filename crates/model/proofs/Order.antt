@@ -14,7 +14,7 @@ pub same-sound : (a b : Qual) → same a b ≡ true → a ≡ b
 unfolding same
 same-sound integer integer h = refl
 same-sound (array r e) (array s f) h =
-    let z = both-true (eqb r s) (same e f) h in ap₂ array (eqb-true r s (z .0)) (same-sound e f (z .1))
+    let z = both-true (same e f) (eqb r s) h in ap₂ array (eqb-true r s (z .1)) (same-sound e f (z .0))
 same-sound (declared t r) (declared u s) h =
     let z = both-true (eqb t u) (eqb r s) h in ap₂ declared (eqb-true t u (z .0)) (eqb-true r s (z .1))
 same-sound (generic t l) (generic u m) h =
@@ -35,7 +35,7 @@ same-sound (generic t l) (declared u s) h = absurd (false≢true h)
 pub same-refl : (a : Qual) → same a a ≡ true
 unfolding same
 same-refl integer = refl
-same-refl (array r e) = rw (eq-eqb r r refl) (same-refl e)
+same-refl (array r e) = rw (same-refl e) (eq-eqb r r refl)
 same-refl (declared t r) = rw (eq-eqb t t refl) (eq-eqb r r refl)
 same-refl (generic t l) = rw (eq-eqb t t refl) (eq-eqb l l refl)
 

@@ -1,5 +1,6 @@
 pub mod Rights
 pub mod Qualified
+pub mod OutsideIn
 pub mod Generic
 pub mod Program
 pub mod Refusal

@@ -50,10 +50,11 @@ isGeneric (array r e) = false
 isGeneric (declared t r) = false
 isGeneric (generic t l) = true
 
--- "equal: same base, same rights, equal elements all the way down"
+-- "equal: same base, same rights, equal elements all the way down"; document 02, S-2: "settle the innermost level before the levels around it", so that
+-- the rights of two arrays are asked once their elements are found equal
 unfoldable pub same : Qual → Qual → Bool
 same integer integer = true
-same (array r e) (array s f) = eqb r s && same e f
+same (array r e) (array s f) = same e f && eqb r s
 same (declared t r) (declared u s) = eqb t u && eqb r s
 same (generic t l) (generic u m) = eqb t u && eqb l m
 same integer (array s f) = false
@@ -97,6 +98,7 @@ alike (generic t l) (array s f) = false
 unfoldable pub covers : Qual → Qual → Bool
 covers a b = cond (isGeneric b) (isGeneric a) (within (rights b) (rights a))
 
--- "Q1 ≥ Q2 when the bases are equal, every right of Q2 is in Q1, and, for trays, the elements are equal"
+-- "Q1 ≥ Q2 when the bases are equal, every right of Q2 is in Q1, and, for trays, the elements are equal"; the elements, which `alike` asks, before the
+-- rights around them (S-2)
 unfoldable pub order : Qual → Qual → Bool
 order a b = alike a b && covers a b

@@ -1,36 +1,32 @@
 -- Equality and order of two qualified types by their words, as the code asks them.
 use Prim.Native.Nat.{ℕ, zero, suc, _+_, _-_, _/_, _%_, _^_, _<_, _≤_}
 use mathlib.Core.Path.{_≡_, refl, sym, ap, ap₂, _∙_}
-use mathlib.Core.List.{List}
+use mathlib.Core.List.{List, [], _∷_}
 use mathlib.Core.Bool.{Bool, true, false, false≢true, not, _&&_, _||_, cond}
 use native.Mathlib.Omega.{arith}
 use lib.Dec.{eqb, ltb, leb}
+use lib.ListN.{getD}
 use borrow.Author.Tests.{eqb-true, eqb-false, eq-eqb, ne-eqb, ltb-true, ltb-false, lt-ltb, le-ltb, le-leb}
 use Rattle.model.specs.Rights.{Rights}
-use Rattle.model.specs.Qualified.{Qual, integer, array, declared, generic, base, isInteger, same, alike}
+use Rattle.model.specs.Qualified.{Qual, base, same, alike}
 use Rattle.model.specs.Refusal.{failure}
 use Rattle.model.specs.Rules.{moves, amplifies}
 use Rattle.model.proofs.Order.{order-refl, moves-order}
-use Rattle.model.proofs.Verdicts.{both-true}
-use Rattle.index.specs.Types.{word-in, rights-of, shape-of, element-of, uses-of, element-below, qualIn, word-as, typeIn, UsesTold}
+use Rattle.index.specs.Types.{word-in, rights-of, shape-of, element-of, uses-of, of-shape, element-below, qualIn, read-word, word-as, typeIn, UsesTold}
 use Rattle.index.proofs.Trees.{Shape, an-integer, an-array, a-declared, a-generic, shape-is, qual-shaped}
 use Rattle.index.proofs.Uses.{unused-type}
-use Rattle.index.proofs.Reading.{type-integer, base-as, none-type, raw-array, array-word, type-word-as}
-use Rattle.order.specs.Heads.{same-heads}
+use Rattle.index.proofs.Reading.{base-as, none-type, raw-array, array-word, type-word-as}
+use Rattle.order.specs.Words.{same-heads, typeOf, ElementThere}
 
 -- ---- two types by their shapes
 -- same rights, of two types of shape b; an integer has none
 abbrev same-rights : (b r u : ℕ) → Bool
 same-rights b r u = eqb b 0 || eqb r u
 
--- where two heads agree the elements are compared, of arrays only
-and-then : (t x : Bool) → cond (t && true) x t ≡ t && x
-and-then true x = refl
-and-then false x = refl
-
-and-no : (t x : Bool) → cond (t && false) x t ≡ t
-and-no true x = refl
-and-no false x = refl
+-- where the heads differ nothing else counts
+and-no : (t : Bool) → false ≡ t && false
+and-no true = refl
+and-no false = refl
 
 and-if : (t x y : Bool) → (t ≡ false → y ≡ false) → t && x ≡ cond t x y
 and-if true x y h = refl
@@ -72,27 +68,26 @@ abbrev one-named : (b c : ℕ) → Bool
 one-named b c = (leb 2 b && eqb (b + 256) c) || (leb 2 c && eqb (c + 256) b)
 
 module _ {r u : Rights} {e f : Qual} where
+  -- the elements of an array first, then shape and rights
   same-shapes : {b c : ℕ} {p q : Qual} → Shape r e b p → Shape u f c q
-      → same p q ≡ eqb b c && cond (same-rights b r u && eqb b 1) (same e f) (same-rights b r u)
+      → same p q ≡ cond (eqb b 1) (same e f) true && (eqb b c && same-rights b r u)
   unfolding same
   same-shapes an-integer an-integer = refl
   same-shapes an-integer an-array = refl
   same-shapes an-integer (a-declared c l m) = rw (ne-eqb 0 c (λ z. omega arith))
   same-shapes an-integer (a-generic c l) = rw (ne-eqb 0 c (λ z. omega arith))
-  same-shapes an-array an-integer = refl
-  same-shapes an-array an-array = rw (and-then (eqb r u) (same e f))
-  same-shapes an-array (a-declared c l m) = rw (ne-eqb 1 c (λ z. omega arith))
-  same-shapes an-array (a-generic c l) = rw (ne-eqb 1 c (λ z. omega arith))
-  same-shapes (a-declared b h k) an-integer = rw (ne-eqb b 0 (λ z. omega arith))
+  same-shapes an-array an-integer = and-no (same e f)
+  same-shapes an-array an-array = refl
+  same-shapes an-array (a-declared c l m) = rw (ne-eqb 1 c (λ z. omega arith)) (and-no (same e f))
+  same-shapes an-array (a-generic c l) = rw (ne-eqb 1 c (λ z. omega arith)) (and-no (same e f))
+  same-shapes (a-declared b h k) an-integer = rw (ne-eqb b 1 (λ z. omega arith), ne-eqb b 0 (λ z. omega arith))
   same-shapes (a-declared b h k) an-array = rw (ne-eqb b 1 (λ z. omega arith))
-  same-shapes (a-declared b h k) (a-declared c l m) =
-      rw (ne-eqb b 0 (λ z. omega arith), ne-eqb b 1 (λ z. omega arith), and-no (eqb r u) (same e f))
-  same-shapes (a-declared b h k) (a-generic c l) = rw (ne-eqb b c (λ z. omega arith))
-  same-shapes (a-generic b h) an-integer = rw (ne-eqb b 0 (λ z. omega arith))
+  same-shapes (a-declared b h k) (a-declared c l m) = rw (ne-eqb b 0 (λ z. omega arith), ne-eqb b 1 (λ z. omega arith))
+  same-shapes (a-declared b h k) (a-generic c l) = rw (ne-eqb b 1 (λ z. omega arith), ne-eqb b c (λ z. omega arith))
+  same-shapes (a-generic b h) an-integer = rw (ne-eqb b 1 (λ z. omega arith), ne-eqb b 0 (λ z. omega arith))
   same-shapes (a-generic b h) an-array = rw (ne-eqb b 1 (λ z. omega arith))
-  same-shapes (a-generic b h) (a-declared c l m) = rw (ne-eqb b c (λ z. omega arith))
-  same-shapes (a-generic b h) (a-generic c l) =
-      rw (less-eqb b c h l, ne-eqb b 0 (λ z. omega arith), ne-eqb b 1 (λ z. omega arith), and-no (eqb r u) (same e f))
+  same-shapes (a-generic b h) (a-declared c l m) = rw (ne-eqb b 1 (λ z. omega arith), ne-eqb b c (λ z. omega arith))
+  same-shapes (a-generic b h) (a-generic c l) = rw (less-eqb b c h l, ne-eqb b 0 (λ z. omega arith), ne-eqb b 1 (λ z. omega arith))
 
   alike-shapes : {b c : ℕ} {p q : Qual} → Shape r e b p → Shape u f c q → b < 512 → c < 512
       → alike p q ≡ cond (eqb b c) (cond (eqb b 1) (same e f) (ltb b 256 || eqb r u)) (one-named b c)
@@ -179,45 +174,50 @@ pub shape-small : (w : ℕ) → shape-of w < 512
 unfolding shape-of
 shape-small w = omega arith
 
-module _ (t : List ℕ) where
-  pub same-words : (m i n j : ℕ) → same (typeIn t m i) (typeIn t n j)
-      ≡ eqb (shape-of (word-as t m i)) (shape-of (word-as t n j))
-      && cond (same-rights (shape-of (word-as t m i)) (rights-of (word-as t m i)) (rights-of (word-as t n j)) && eqb (shape-of (word-as t m i)) 1)
-      (same (typeIn t m (element-below (word-as t m i) i)) (typeIn t n (element-below (word-as t n j) j)))
-      (same-rights (shape-of (word-as t m i)) (rights-of (word-as t m i)) (rights-of (word-as t n j)))
-  same-words m i n j = ap₂ same (type-word-as t m i) (type-word-as t n j) ∙ same-shapes (shape-is _ _ _) (shape-is _ _ _)
+-- the word of an array is not read, and what is read as an array is one
+read-array : (n w : ℕ) → shape-of w ≡ 1 → read-word n w ≡ w
+unfolding word-in word-as
+read-array n w h = raw-array (w ∷ []) n 0 h
 
-  -- of two arrays with the same rights, the elements
-  pub same-arrays : (m i n j : ℕ) → eqb (shape-of (word-in t i)) 1 && same-heads (word-in t i) (word-in t j) ≡ true
-      → same (typeIn t m i) (typeIn t n j) ≡ same (typeIn t m (element-below (word-in t i) i)) (typeIn t n (element-below (word-in t j) j))
+array-read : (n w : ℕ) → shape-of (read-word n w) ≡ 1 → read-word n w ≡ w
+unfolding word-in word-as
+array-read n w h = array-word (w ∷ []) n 0 h
+
+module _ (t : List ℕ) where
+  -- the type of a number is that of its word
+  pub type-of : (n j : ℕ) → typeIn t n j ≡ typeOf t n j (word-in t j)
+  unfolding word-as typeOf
+  type-of n j = type-word-as t n j
+
+  -- the elements of an array first, then shape and rights
+  same-words : (m i v n j w : ℕ) → same (typeOf t m i v) (typeOf t n j w)
+      ≡ cond (eqb (shape-of (read-word m v)) 1) (same (typeIn t m (element-below (read-word m v) i)) (typeIn t n (element-below (read-word n w) j))) true
+      && same-heads (read-word m v) (read-word n w)
+  unfolding same-heads typeOf
+  same-words m i v n j w = same-shapes (shape-is _ _ _) (shape-is _ _ _)
+
+  -- of an array: what is none has another head, also as it is read
+  pub same-arrays : (m i v n j w : ℕ) → shape-of v ≡ 1
+      → same (typeOf t m i v) (typeOf t n j w)
+      ≡ same (typeIn t m (element-below v i)) (typeIn t n (element-below w j)) && (eqb (shape-of v) 1 && same-heads v w)
   unfolding same-heads
-  same-arrays m i n j h =
-      let a = both-true (eqb (shape-of (word-in t i)) 1) _ h in
-      let b : shape-of (word-in t i) ≡ 1 = eqb-true _ 1 (a .0) in
-      let s = both-true (eqb (shape-of (word-in t i)) (shape-of (word-in t j))) _ (a .1) in
-      let c : shape-of (word-in t j) ≡ 1 = sym (eqb-true _ _ (s .0)) ∙ b in
-      same-words m i n j ∙ rw (raw-array t m i b, raw-array t n j c, s .0, s .1, a .0)
+  same-arrays m i v n j w b = same-words m i v n j w ∙ rw (read-array m v b, b) (go (eqb (shape-of w) 1) refl)
+    where
+      go : (u : Bool) → eqb (shape-of w) 1 ≡ u
+          → same (typeIn t m (element-below v i)) (typeIn t n (element-below (read-word n w) j))
+          && (eqb 1 (shape-of (read-word n w)) && eqb (rights-of v) (rights-of (read-word n w)))
+          ≡ same (typeIn t m (element-below v i)) (typeIn t n (element-below w j)) && (eqb 1 (shape-of w) && eqb (rights-of v) (rights-of w))
+      go true c = rw (read-array n w (eqb-true _ 1 c))
+      go false c =
+          let k = eqb-false _ 1 c in
+          rw (ne-eqb 1 (shape-of w) (λ z. k (sym z)), ne-eqb 1 (shape-of (read-word n w)) (λ z. k (ap shape-of (sym (array-read n w (sym z))) ∙ sym z)))
+          (sym (and-no (same (typeIn t m (element-below v i)) (typeIn t n (element-below (read-word n w) j))))
+          ∙ and-no (same (typeIn t m (element-below v i)) (typeIn t n (element-below w j))))
 
   -- of other types, their words as they are read
-  pub same-others : (m i n j : ℕ) → eqb (shape-of (word-in t i)) 1 && same-heads (word-in t i) (word-in t j) ≡ false
-      → same (typeIn t m i) (typeIn t n j) ≡ same-heads (word-as t m i) (word-as t n j)
-  unfolding same-heads
-  same-others m i n j h =
-      same-words m i n j
-      ∙ go (eqb (shape-of (word-as t m i)) (shape-of (word-as t n j))) refl
-      (same-rights (shape-of (word-as t m i)) (rights-of (word-as t m i)) (rights-of (word-as t n j))) refl (eqb (shape-of (word-as t m i)) 1) refl _
-    where
-      go : (s : Bool) → eqb (shape-of (word-as t m i)) (shape-of (word-as t n j)) ≡ s
-          → (r : Bool) → same-rights (shape-of (word-as t m i)) (rights-of (word-as t m i)) (rights-of (word-as t n j)) ≡ r
-          → (a : Bool) → eqb (shape-of (word-as t m i)) 1 ≡ a → (x : Bool) → s && cond (r && a) x r ≡ s && r
-      go false k r l a e x = refl
-      go true k false l a e x = refl
-      go true k true l false e x = refl
-      go true k true l true e x =
-          let b : shape-of (word-as t m i) ≡ 1 = eqb-true _ 1 e in
-          let v = array-word t m i b in
-          let w = array-word t n j (sym (eqb-true _ _ k) ∙ b) in
-          absurd (false≢true (sym h ∙ rw (rw v at e, rw (v, w) at k, rw (v, w) at l)))
+  pub same-others : (m i v n j w : ℕ) → (shape-of v ≡ 1 → ⊥) → same (typeOf t m i v) (typeOf t n j w) ≡ same-heads (read-word m v) (read-word n w)
+  same-others m i v n j w h =
+      same-words m i v n j w ∙ rw (ne-eqb (shape-of (read-word m v)) 1 (λ z. h (ap shape-of (sym (array-read m v z)) ∙ z)))
 
   pub alike-words : (m i n j : ℕ) → alike (typeIn t m i) (typeIn t n j)
       ≡ cond (eqb (shape-of (word-as t m i)) (shape-of (word-as t n j)))
@@ -243,40 +243,70 @@ module _ (t : List ℕ) where
   pub amplifies-word : (o j : ℕ) → o < 256 → amplifies o (qualIn t j) ≡ leb 2 o && eqb (shape-of (word-in t j)) o
   amplifies-word o j h = ap (amplifies o) (qual-shaped t j) ∙ amplifies-shape (shape-is _ _ _) o h
 
--- ---- of two elements, by their numbers as they stand
--- below their arrays' they are read as they stand
-pub elements-stand : (v w i j : ℕ) → ltb (element-of v) i && ltb (element-of w) j ≡ true
-    → (element-below v i ≡ element-of v) × (element-below w j ≡ element-of w)
-unfolding element-below
-elements-stand v w i j h = let b = both-true (ltb (element-of v) i) (ltb (element-of w) j) h in (rw (b .0), rw (b .1))
+-- ---- the walk from an array to its element, by the number as it stands
+-- an element by its number, or an integer by none
+data Element (t : List ℕ) (w j : ℕ) : (number word : ℕ) → Type 0 where
+  below : element-of w < j → Element t w j (element-of w) (word-in t (element-of w))
+  none : Element t w j 255 0
 
-same-integer : (q : Qual) → same q integer ≡ isInteger q && isInteger integer
-unfolding same isInteger
-same-integer integer = refl
-same-integer (array r e) = refl
-same-integer (declared t r) = refl
-same-integer (generic t l) = refl
-
-integer-same : (q : Qual) → same integer q ≡ isInteger integer && isInteger q
-unfolding same isInteger
-integer-same integer = refl
-integer-same (array r e) = refl
-integer-same (declared t r) = refl
-integer-same (generic t l) = refl
-
--- where one is not, it is read as an integer, and the other must be one too
-pub same-outside : (t : List ℕ) (m n v w i j : ℕ) → ltb (element-of v) i && ltb (element-of w) j ≡ false
-    → same (typeIn t m (element-below v i)) (typeIn t n (element-below w j)) ≡ isInteger (qualIn t (element-below v i)) && isInteger (qualIn t (element-below w j))
-unfolding element-below
-same-outside t m n v w i j h =
-    go (ltb (element-of v) i) (ltb (element-of w) j) h ∙ ap₂ (λ (x y : Bool). x && y) (type-integer t m _) (type-integer t n _)
+element-is : (t : List ℕ) (w j : ℕ) → Element t w j (element-below w j) (word-in t (element-below w j))
+unfolding word-in element-below
+element-is t w j = go (ltb (element-of w) j) refl
   where
-    go : (a b : Bool) → a && b ≡ false
-        → same (typeIn t m (cond a (element-of v) 255)) (typeIn t n (cond b (element-of w) 255))
-        ≡ isInteger (typeIn t m (cond a (element-of v) 255)) && isInteger (typeIn t n (cond b (element-of w) 255))
-    go true true l = absurd (false≢true (sym l))
-    go true false l = rw (none-type t n 255 (omega arith)) (same-integer (typeIn t m (element-of v)))
-    go false b l = rw (none-type t m 255 (omega arith)) (integer-same (typeIn t n (cond b (element-of w) 255)))
+    go : (u : Bool) → ltb (element-of w) j ≡ u → Element t w j (cond u (element-of w) 255) (word-in t (cond u (element-of w) 255))
+    go true h = below (ltb-true (element-of w) j h)
+    go false h = none
+
+-- the word that is read of it
+pub word-read-there : (t : List ℕ) (w j : ℕ) → ElementThere w j → element-of w < j → getD t (element-of w) 0 ≡ word-in t (element-below w j)
+unfolding word-in element-below
+word-read-there t w j there h = rw (lt-ltb (element-of w) j h, lt-ltb (element-of w) 64 (there h))
+
+pub word-read-none : (t : List ℕ) (w j : ℕ) → j ≤ element-of w → 0 ≡ word-in t (element-below w j)
+unfolding word-in element-below
+word-read-none t w j h = rw (le-ltb (element-of w) j h)
+
+-- its type, whichever number it is passed on with
+pub type-of-element : (t : List ℕ) (n w j : ℕ) → typeOf t n (element-of w) (word-in t (element-below w j)) ≡ typeIn t n (element-below w j)
+unfolding shape-of of-shape read-word typeOf
+type-of-element t n w j = go _ _ (element-is t w j)
+  where
+    go : (e x : ℕ) → Element t w j e x → typeOf t n (element-of w) x ≡ typeIn t n e
+    go _ _ (below h) = sym (type-of t n (element-of w))
+    go _ _ none = sym (none-type t n 255 (omega arith))
+
+-- an element of the element is one of the 64 too, as an element of any type of the index is
+pub element-there : (t : List ℕ) (j : ℕ) → ElementThere (word-in t j) j
+unfolding word-in element-of
+element-there t j = go (ltb j 64) refl
+  where
+    go : (u : Bool) → ltb j 64 ≡ u → ElementThere (cond u (getD t j 0) 0) j
+    go true h l = let k = ltb-true j 64 h in omega arith
+    go false h l = omega arith
+
+pub element-there-below : (t : List ℕ) (w j : ℕ) → ElementThere w j → ElementThere (word-in t (element-below w j)) (element-of w)
+unfolding element-of
+element-there-below t w j there = go _ _ (element-is t w j)
+  where
+    go : (e x : ℕ) → Element t w j e x → ElementThere x (element-of w)
+    go _ _ (below h) l = let k = there h in omega arith
+    go _ _ none l = omega arith
+
+-- how often the walk can go on
+unfoldable pub levels : (j w : ℕ) → ℕ
+levels j w = cond (eqb (shape-of w) 1) (suc j) 0
+
+pub levels-fall : (t : List ℕ) (j w : ℕ) → shape-of w ≡ 1 → levels (element-of w) (word-in t (element-below w j)) < levels j w
+unfolding shape-of levels
+levels-fall t j w b = rw (eq-eqb (shape-of w) 1 b) (go _ _ (element-is t w j))
+  where
+    most : (u : Bool) (n : ℕ) → cond u (suc n) 0 ≤ suc n
+    most true n = omega arith
+    most false n = omega arith
+
+    go : (e x : ℕ) → Element t w j e x → cond (eqb (shape-of x) 1) (suc (element-of w)) 0 < suc j
+    go _ _ (below h) = let m = most (eqb (shape-of (word-in t (element-of w))) 1) (element-of w) in omega arith
+    go _ _ none = omega arith
 
 -- ---- a type moves to itself, and is the same where it is read alike
 still : (q : Qual) → 0 ≡ failure (moves q q)
@@ -285,8 +315,8 @@ still q = sym (eqb-true (failure (moves q q)) 0 (moves-order q q ∙ order-refl 
 pub moves-itself : (p q : Qual) → p ≡ q → 0 ≡ failure (moves p q)
 moves-itself p q e = still p ∙ ap (λ (x : Qual). failure (moves p x)) e
 
-pub read-alike : (t : List ℕ) → UsesTold t → (m n i j : ℕ) → i ≡ j → eqb m n || not (uses-of (word-in t i)) ≡ true → typeIn t m i ≡ typeIn t n j
-read-alike t told m n i j e h = go (eqb m n) refl (uses-of (word-in t i)) refl h ∙ ap (typeIn t n) e
+pub read-alike : (t : List ℕ) → UsesTold t → (m n i : ℕ) → eqb m n || not (uses-of (word-in t i)) ≡ true → typeIn t m i ≡ typeIn t n i
+read-alike t told m n i h = go (eqb m n) refl (uses-of (word-in t i)) refl h
   where
     go : (a : Bool) → eqb m n ≡ a → (u : Bool) → uses-of (word-in t i) ≡ u → a || not u ≡ true → typeIn t m i ≡ typeIn t n i
     go true a u k l = ap (λ (x : ℕ). typeIn t x i) (eqb-true m n a)

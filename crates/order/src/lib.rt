@@ -3,7 +3,6 @@
 use index::Index;
 use index::types::element_in;
 use index::types::element_number;
-use index::types::is_integer;
 use index::types::rights_by;
 use index::types::rights_in;
 use index::types::shape_in;
@@ -20,8 +19,8 @@ ghost use Prim.Native.Nat.{ℕ};
 ghost use Rattle.model.specs.Qualified.{same, alike, covers, order};
 ghost use Rattle.model.specs.Refusal.{failure};
 ghost use Rattle.model.specs.Rules.{moves, owned-by, amplifies};
-ghost use Rattle.index.specs.Types.{shape-of, qualIn, typeIn, word-as, UsesTold};
-ghost use Rattle.order.specs.Heads.{same-heads};
+ghost use Rattle.index.specs.Types.{word-in, shape-of, element-below, qualIn, typeIn, word-as, UsesTold};
+ghost use Rattle.order.specs.Words.{same-heads, typeOf, ElementThere};
 
 // Of the owner's type; owner 0 is none. ?R has the base that it is read with.
 pub fn is_owned(index: &Index, name: u64, owner: u8, j: u8) -> bool
@@ -52,32 +51,42 @@ fn is_same_array(v: u64, w: u64) -> bool
     (shape_in(v) == 1) & (v % 2199023255552 == w % 2199023255552)
 }
 
-// Two arrays with the same rights and equal elements all the way down; of no other types is an element asked for.
-fn equal_in(index: &Index, m: u64, i: u8, n: u64, j: u8) -> bool
-    ensures { λ r. ⌜ r ≡ same (typeIn (now (index .entry)) m i) (typeIn (now (index .entry)) n j) ⌝ }
+// The word of an array's element, by the number in the array's own word, w. That number falls; one that does not is read as an integer.
+fn element_word(index: &Index, w: u64, j: u8) -> u64
+    requires { ⌜ ElementThere w j ⌝ }
+    ensures { λ r. ⌜ r ≡ word-in (now (index .entry)) (element-below w j) ⌝ }
 {
-    let v = type_word(index, i);
-    let w = type_word(index, j);
-    if is_same_array(v, w) {
-        let e = element_number(v);
-        let f = element_number(w);
-        // An element's number falls; one that does not is read as an integer.
-        if (e < i) & (f < j) {
-            return equal_in(index, m, e, n, f);
-        }
-        return is_integer(index, element_in(v, i)) & is_integer(index, element_in(w, j));
+    let e = element_number(w);
+    if e < j {
+        return index[e as usize];
+    }
+    0
+}
+
+// Equal all the way down, from the inside out (document 02, S-2): the elements answer first, and only then are shape and rights around them compared. The
+// way down asks no more than whether there is a level below. v and w are the words of the two types, i and j their numbers. By & and not by a branch, so that
+// the compiler makes a loop of it, which takes no stack.
+fn equal_in(index: &Index, m: u64, i: u8, v: u64, n: u64, j: u8, w: u64) -> bool
+    requires { ⌜ ElementThere v i × ElementThere w j ⌝ }
+    ensures { λ r. ⌜ r ≡ same (typeOf (now (index .entry)) m i v) (typeOf (now (index .entry)) n j w) ⌝ }
+{
+    if shape_in(v) == 1 {
+        let e = element_word(index, v, i);
+        let f = element_word(index, w, j);
+        return equal_in(index, m, element_number(v), e, n, element_number(w), f)
+            & is_same_array(v, w);
     }
     is_same_head(word_read(m, v), word_read(n, w))
 }
 
-// Two names of one QT, read alike, are equal at once: a test by itself, so that it is inlined where the walk is not.
+// Two names of one QT, read alike, are equal at once.
 pub fn equal(index: &Index, m: u64, i: u8, n: u64, j: u8) -> bool
     ensures { λ r. ⌜ r ≡ same (typeIn (now (index .entry)) m i) (typeIn (now (index .entry)) n j) ⌝ }
 {
     if (i == j) & (m == n) {
         return true;
     }
-    equal_in(index, m, i, n, j)
+    equal_in(index, m, i, type_word(index, i), n, j, type_word(index, j))
 }
 
 // Equal shapes and, for arrays, equal elements; ?R and a type of its base. v and w are the words of the two types, as they are read.
@@ -106,7 +115,7 @@ fn is_covered(v: u64, w: u64) -> bool
     256 <= shape_in(v)
 }
 
-// The refusal of a movement between two types, by their words.
+// The refusal of a movement between two types, by their words: here too the elements of arrays come before the rights around them.
 fn movement_of_words(index: &Index, m: u64, i: u8, n: u64, j: u8) -> u8
     ensures { λ r. ⌜ r ≡ failure (moves (typeIn (now (index .entry)) m i) (typeIn (now (index .entry)) n j)) ⌝ }
 {
@@ -121,24 +130,25 @@ fn movement_of_words(index: &Index, m: u64, i: u8, n: u64, j: u8) -> u8
     8
 }
 
-// One QT, read alike on both sides, as one without ?R always is.
-fn is_itself(index: &Index, m: u64, i: u8, n: u64, j: u8) -> bool
+// A QT read alike as two names, as one without ?R always is.
+fn is_read_alike(index: &Index, m: u64, n: u64, i: u8) -> bool
     requires { ⌜ UsesTold (now index) ⌝ }
-    ensures { λ r. ⌜ (r ≡ true → typeIn (now (index .entry)) m i ≡ typeIn (now (index .entry)) n j) ⌝ }
+    ensures { λ r. ⌜ (r ≡ true → typeIn (now (index .entry)) m i ≡ typeIn (now (index .entry)) n i) ⌝ }
 {
-    if i == j {
-        return (m == n) | !uses_name(index, i);
-    }
-    false
+    (m == n) | !uses_name(index, i)
 }
 
-// The number of the refusal of a movement from QT i to QT j: 8, then 9; 0 where there is none, as of a type to itself.
+// The number of the refusal of a movement from QT i to QT j: 8, then 9; 0 where there is none, as of a type to itself. Two calls, so that the compiler keeps
+// the words out of the way of most movements, which are of one type.
 pub fn movement(index: &Index, m: u64, i: u8, n: u64, j: u8) -> u8
     requires { ⌜ UsesTold (now index) ⌝ }
     ensures { λ r. ⌜ r ≡ failure (moves (typeIn (now (index .entry)) m i) (typeIn (now (index .entry)) n j)) ⌝ }
 {
-    if is_itself(index, m, i, n, j) {
-        return 0;
+    if i == j {
+        if is_read_alike(index, m, n, i) {
+            return 0;
+        }
+        return movement_of_words(index, m, i, n, i);
     }
     movement_of_words(index, m, i, n, j)
 }

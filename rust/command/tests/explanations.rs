@@ -87,6 +87,12 @@ fn in_main(line: &str) -> String {
     format!("{TYPES}procedure main\n{VARIABLES}\n    {line}\n    return\n{OTHERS}")
 }
 
+/// A value of the one type bound to a variable of the other.
+fn bound(needs: &str, has: &str) -> String {
+    let variables = format!("    variable needs: {needs}\n    variable has: {has}");
+    format!("{TYPES}procedure main\n{variables}\n    bind needs <- has\n    return\n")
+}
+
 /// A line in a procedure of the type call, with two more variables.
 fn in_module(line: &str) -> String {
     let own = "    variable open: call{open}\n    variable closed: call{read}";
@@ -123,6 +129,10 @@ fn case(text: String, number: u8, marked: &'static str, lines: &'static [&'stati
 fn movements() -> Vec<Case> {
     vec![
         case(in_main("bind calls <- boths"), 8, "boths", &["needs tray[call{read}]{fetch,store,size}        (calls)", "has   tray[call{read,amend}]{fetch,store,size}  (boths)", "the elements of trays must be equal, not more and not less: needs call{read}, has call{read,amend}"]),
+        case(bound("tray[tray[tray[call{read}]{fetch}]{fetch}]{fetch}", "tray[tray[tray[call{read,amend}]{fetch}]{fetch}]{fetch}"), 8, "has", &["needs tray[tray[tray[call{read}]{fetch}]{fetch}]{fetch}        (needs)", "has   tray[tray[tray[call{read,amend}]{fetch}]{fetch}]{fetch}  (has)", "the elements of trays must be equal, not more and not less: 3 levels down, needs call{read}, has call{read,amend}"]),
+        case(bound("tray[tray[tray[call{read}]{fetch}]{fetch}]{fetch}", "tray[tray[tray[call{read}]{store}]{store}]{fetch}"), 8, "has", &["needs tray[tray[tray[call{read}]{fetch}]{fetch}]{fetch}  (needs)", "has   tray[tray[tray[call{read}]{store}]{store}]{fetch}  (has)", "the elements of trays must be equal, not more and not less: 2 levels down, needs tray[call{read}]{fetch}, has tray[call{read}]{store}"]),
+        case(bound("tray[tray[call{read}]{fetch}]{fetch}", "tray[tray[call{read}]{store}]{fetch}"), 8, "has", &["needs tray[tray[call{read}]{fetch}]{fetch}  (needs)", "has   tray[tray[call{read}]{store}]{fetch}  (has)", "the elements of trays must be equal, not more and not less: needs tray[call{read}]{fetch}, has tray[call{read}]{store}"]),
+        case(bound("tray[tray[integer]{fetch}]{fetch}", "tray[tray[tray[integer]{fetch}]{fetch}]{fetch}"), 8, "has", &["needs tray[tray[integer]{fetch}]{fetch}               (needs)", "has   tray[tray[tray[integer]{fetch}]{fetch}]{fetch}  (has)", "the elements of trays must be equal, not more and not less: 2 levels down, needs integer, has tray[integer]{fetch}"]),
         case(in_main("bind n <- calls"), 8, "calls", &["needs integer                             (n)", "has   tray[call{read}]{fetch,store,size}  (calls)", "needs integer, has tray"]),
         case(in_main("bind both <- reads"), 9, "reads", &["needs call{read,amend}  (both)", "has   call{read}        (reads)", "needs amend, has read"]),
         case(in_main("bind both <- none"), 9, "none", &["needs call{read,amend}  (both)", "has   call{}            (none)", "needs read,amend, has no right"]),

@@ -35,22 +35,31 @@ pub fn mostly_instructions(bytes: usize) -> Sheet {
 /// Two chains of arrays, each 31 deep, equal all the way down without sharing
 /// a record, and binds between the ends of the two.
 pub fn two_deep_arrays(bytes: usize) -> Sheet {
-    bound_chains(SheetBuilder::new().integer().integer(), bytes)
+    let start = SheetBuilder::new().integer().integer();
+    bound_chains(start, ARRAY_ALL, bytes)
 }
 
 /// The same but for the innermost elements, which are unequal, so that the
-/// first bind is refused after all levels have been compared.
-pub fn two_unequal_arrays(bytes: usize) -> Sheet {
+/// first bind is refused.
+pub fn unequal_inside(bytes: usize) -> Sheet {
     let start = SheetBuilder::new().record_type(0, &[]);
-    bound_chains(start.integer().record(2, 0), bytes)
+    bound_chains(start.integer().record(2, 0), ARRAY_ALL, bytes)
+}
+
+/// The same but for the rights of the outermost elements.
+pub fn unequal_outside(bytes: usize) -> Sheet {
+    let start = SheetBuilder::new().integer().integer();
+    bound_chains(start, FETCH, bytes)
 }
 
 /// Two chains of arrays, each 31 deep, over the two innermost elements that
-/// the start has, and binds between the ends of the two.
-fn bound_chains(mut start: SheetBuilder, bytes: usize) -> Sheet {
-    for number in 2..62 {
+/// the start has, and binds between the ends of the two. The outermost element
+/// of the second has these rights.
+fn bound_chains(mut start: SheetBuilder, outside: u16, bytes: usize) -> Sheet {
+    for number in 2..61 {
         start = start.array(number - 2, ARRAY_ALL);
     }
+    start = start.array(59, outside);
     start = start.array(60, ARRAY_ALL).array(61, FETCH);
     filled(start, bytes, &[62, 63], |_| bind(1, 0))
 }

@@ -3,7 +3,7 @@
 use generator::accepted::accepted;
 use generator::breach::Flaw;
 use generator::damage::damaged;
-use generator::large::{two_deep_arrays, two_unequal_arrays, SHEETS};
+use generator::large::{two_deep_arrays, unequal_inside, unequal_outside, SHEETS};
 use generator::records::RecordKind;
 use generator::runs::families::{MISDECLARED, RUNNABLE, SETTLING, TRIALS};
 use generator::showcase::showcase;
@@ -123,15 +123,17 @@ fn large_sheets_fill_the_bytes_given() {
 
 /// Sheets of one bind, between the ends of two chains of arrays, and a return.
 #[test]
-fn deep_arrays_are_compared_to_their_innermost_elements() {
+fn deep_arrays_are_compared_in_every_level() {
     assert_eq!(check(&two_deep_arrays(422).encode()), Verdict::Accepted);
-    let unequal = two_unequal_arrays(434).encode();
-    assert_eq!(unequal.len(), 434);
-    let refused = Verdict::Refused {
-        number: 8,
-        place: unequal.len() - 16,
-    };
-    assert_eq!(check(&unequal), refused);
+    for (unequal, bytes) in [(unequal_inside(434), 434), (unequal_outside(422), 422)] {
+        let unequal = unequal.encode();
+        assert_eq!(unequal.len(), bytes);
+        let refused = Verdict::Refused {
+            number: 8,
+            place: bytes - 16,
+        };
+        assert_eq!(check(&unequal), refused);
+    }
 }
 
 #[test]

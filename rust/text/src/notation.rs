@@ -34,6 +34,19 @@ impl Notation<'_> {
         }
     }
 
+    /// Why a tray of the one element is none of the other, by the innermost
+    /// level in which they differ.
+    pub fn unequal_elements(&self, needs: &Type, has: &Type) -> String {
+        let difference = needs.innermost_difference(has);
+        let (below, needs, has) = difference.unwrap_or((0, needs, has));
+        let level = match below {
+            0 => String::new(),
+            _ => format!("{} levels down, ", below + 1),
+        };
+        let (needs, has) = (self.said(needs), self.said(has));
+        format!("the elements of trays must be equal, not more and not less: {level}needs {needs}, has {has}")
+    }
+
     fn braced(&self, of: &Type, rights: u32) -> String {
         format!("{{{}}}", self.rights(of, rights))
     }

@@ -78,6 +78,21 @@ impl Type {
         }
     }
 
+    /// The innermost level in which two types differ, and how many levels of
+    /// elements it is below them: the elements of trays are asked before the
+    /// rights around them, as check asks them.
+    pub fn innermost_difference<'a>(
+        &'a self,
+        other: &'a Type,
+    ) -> Option<(usize, &'a Type, &'a Type)> {
+        if let (Type::Tray { element: one, .. }, Type::Tray { element: two, .. }) = (self, other) {
+            if let Some((below, one, two)) = one.innermost_difference(two) {
+                return Some((below + 1, one, two));
+            }
+        }
+        (self != other).then_some((0, self, other))
+    }
+
     /// Whether this has every right of the other: only ?R has those of ?R.
     pub fn covers(&self, other: &Type) -> bool {
         match (self, other) {

@@ -1,5 +1,5 @@
 -- The tests are the definition's.
-use Rattle.order.specs.Heads.{same-heads}
+use Rattle.order.specs.Words.{same-heads}
 use borrow.Author.Needs.{needs}
 use Rattle.order.proofs.is_same_head.Statement.{statement}
 use Rattle.order.proofs.is_same_head.Tie as tie

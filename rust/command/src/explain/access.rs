@@ -245,11 +245,9 @@ impl Teller<'_> {
     fn difference(&self, from: &Type, to: &Type) -> String {
         if !from.is_alike(to) {
             return match (from, to) {
-                (Type::Tray { element: has, .. }, Type::Tray { element: needs, .. }) => format!(
-                    "the elements of trays must be equal, not more and not less: needs {}, has {}",
-                    self.notation.said(needs),
-                    self.notation.said(has)
-                ),
+                (Type::Tray { element: has, .. }, Type::Tray { element: needs, .. }) => {
+                    self.notation.unequal_elements(needs, has)
+                }
                 (has, needs) => format!("needs {}, has {}", self.base(needs), self.base(has)),
             };
         }

@@ -145,11 +145,7 @@ impl Cause<'_> {
         if let (Type::Tray { element: needs, .. }, Type::Tray { element: has, .. }) =
             (&movement.to, &carried)
         {
-            let notation = self.teller.notation();
-            let (needs, has) = (notation.said(needs), notation.said(has));
-            lines.push(format!(
-                "the elements of trays must be equal, not more and not less: needs {needs}, has {has}"
-            ));
+            lines.push(self.teller.notation().unequal_elements(needs, has));
         }
         let parts = movement.value.parts;
         Some(Reason { parts, lines })

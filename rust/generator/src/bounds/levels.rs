@@ -20,10 +20,10 @@ const DEEPEST: usize = 62;
 /// The deepest one if the types share no record above it.
 const DEEPEST_APART: usize = 30;
 
-const FIRST: u8 = 2;
-const SECOND: u8 = 3;
-const READ: u16 = 1 << 1;
-const AMEND: u16 = 1 << 2;
+pub(super) const FIRST: u8 = 2;
+pub(super) const SECOND: u8 = 3;
+pub(super) const READ: u16 = 1 << 1;
+pub(super) const AMEND: u16 = 1 << 2;
 
 #[derive(Clone, Copy, PartialEq)]
 enum Difference {
@@ -45,7 +45,7 @@ const DIFFERENCES: [Difference; 5] = [
 
 /// Where the two types meet.
 #[derive(Clone, Copy, PartialEq)]
-enum Use {
+pub(super) enum Use {
     Bind,
     Fetch,
     Store,
@@ -57,7 +57,7 @@ enum Use {
     Need,
 }
 
-const USES: [Use; 9] = [
+pub(super) const USES: [Use; 9] = [
     Use::Bind,
     Use::Fetch,
     Use::Store,
@@ -70,10 +70,10 @@ const USES: [Use; 9] = [
 ];
 
 /// Qualified types, the integer first, and two of them.
-struct Types {
-    all: Vec<QualifiedRecord>,
-    source: u8,
-    destination: u8,
+pub(super) struct Types {
+    pub all: Vec<QualifiedRecord>,
+    pub source: u8,
+    pub destination: u8,
 }
 
 fn pair_in_use(turns: &mut Turns) -> Bound {
@@ -174,7 +174,7 @@ fn one_above_the_other(level: usize) -> Types {
 }
 
 /// A new array of the source's type comes where the destination's is declared.
-fn sheet(user: Use, types: Types) -> Sheet {
+pub(super) fn sheet(user: Use, types: Types) -> Sheet {
     let Types {
         mut all,
         source,

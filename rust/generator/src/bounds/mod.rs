@@ -13,6 +13,7 @@ mod lengths;
 mod levels;
 mod procedures;
 mod rights;
+mod structures;
 mod targets;
 mod types;
 mod values;
@@ -64,8 +65,10 @@ impl Family {
 }
 
 /// Those that take many steps come last.
-pub const FAMILIES: [Family; 17] = [
+pub const FAMILIES: [Family; 19] = [
     LEVELS,
+    structures::STRUCTURES,
+    structures::NAMED_STRUCTURES,
     values::VALUES,
     arrays::SIZES,
     arrays::INDEXES,

@@ -13,6 +13,7 @@ mod numbers;
 mod open;
 mod precedence;
 pub mod runs;
+mod structures;
 
 use crate::sheet::Sheet;
 pub use known::SMALLEST;
@@ -38,6 +39,7 @@ pub fn cases() -> Vec<Case> {
     all.extend(depths::cases());
     all.extend(numbers::cases());
     all.extend(generics::cases());
+    all.extend(structures::cases());
     all
 }
 

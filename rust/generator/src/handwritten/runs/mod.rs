@@ -10,6 +10,7 @@ mod known;
 mod lengths;
 mod numbers;
 mod order;
+mod structures;
 mod units;
 mod watched_calls;
 mod watched_order;
@@ -74,6 +75,7 @@ pub fn cases() -> Vec<RunCase> {
     all.extend(numbers::cases());
     all.extend(depths::cases());
     all.extend(generics::cases());
+    all.extend(structures::cases());
     all
 }
 
