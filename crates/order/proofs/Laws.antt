@@ -257,14 +257,14 @@ element-is t w j = go (ltb (element-of w) j) refl
     go true h = below (ltb-true (element-of w) j h)
     go false h = none
 
--- the word that is read of it
-pub word-read-there : (t : List ℕ) (w j : ℕ) → ElementThere w j → element-of w < j → getD t (element-of w) 0 ≡ word-in t (element-below w j)
+-- the word that the code takes for it
+pub element-word-there : (t : List ℕ) (w j : ℕ) → ElementThere w j → element-of w < j → getD t (element-of w) 0 ≡ word-in t (element-below w j)
 unfolding word-in element-below
-word-read-there t w j there h = rw (lt-ltb (element-of w) j h, lt-ltb (element-of w) 64 (there h))
+element-word-there t w j there h = rw (lt-ltb (element-of w) j h, lt-ltb (element-of w) 64 (there h))
 
-pub word-read-none : (t : List ℕ) (w j : ℕ) → j ≤ element-of w → 0 ≡ word-in t (element-below w j)
+pub element-word-none : (t : List ℕ) (w j : ℕ) → j ≤ element-of w → 0 ≡ word-in t (element-below w j)
 unfolding word-in element-below
-word-read-none t w j h = rw (le-ltb (element-of w) j h)
+element-word-none t w j h = rw (le-ltb (element-of w) j h)
 
 -- its type, whichever number it is passed on with
 pub type-of-element : (t : List ℕ) (n w j : ℕ) → typeOf t n (element-of w) (word-in t (element-below w j)) ≡ typeIn t n (element-below w j)
