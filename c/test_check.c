@@ -127,6 +127,19 @@ static void form(void)
     expect_changed("a call of procedure 3 of three", 108, 3, WN_OFF_SCALE, 102);
 }
 
+/* Document 02, S-3: an array without store may have elements with fewer rights than those of the array that moves into it. */
+static void reading_arrays(void)
+{
+    uint8_t storing[sizeof calls];
+
+    expect_changed("elements with fewer rights, without store: K7", 53, 1, WN_ACCEPTED, 0);
+    expect_changed("elements with more rights, without store", 47, 1, WN_WRONG_KIND, 86);
+    memcpy(storing, calls, sizeof calls);
+    storing[51] = 6; /* 5  array[call{read,amend}]{fetch,store} */
+    expect("equal elements, with store", storing, sizeof storing, WN_ACCEPTED, 0);
+    expect_byte("elements with fewer rights, with store: K6", storing, sizeof storing, 53, 1, WN_WRONG_KIND, 86);
+}
+
 static void access_rules(void)
 {
     expect_changed("a slot with open", 10, 3, WN_OPEN_EXPOSED, 6);
@@ -139,7 +152,6 @@ static void access_rules(void)
     expect_changed("a formal amplified without an owner", 152, 0, WN_FALSE_RAISE, 158);
     expect_changed("a size that is an array", 82, 2, WN_WRONG_KIND, 78);
     expect_changed("a fetch into an integer", 97, 0, WN_WRONG_KIND, 94);
-    expect_changed("arrays of unequal elements: K6, K7", 53, 1, WN_WRONG_KIND, 86);
     expect_changed("a return without its variable", 145, 255, WN_WRONG_KIND, 142);
     expect_changed("fetch without the right", 51, 8, WN_MISSING_RIGHT, 94);
     expect_changed("a binding that would add a right", 45, 8, WN_MISSING_RIGHT, 86);
@@ -192,6 +204,7 @@ int main(void)
 {
     replies();
     form();
+    reading_arrays();
     access_rules();
     rights_names();
     return finish();

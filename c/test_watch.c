@@ -73,7 +73,7 @@ static const struct variant variants[] = {
     {"a slot of what is not opened", 234, 1, WN_MISSING_RIGHT, 240, WN_CARRIED_RIGHT, 13, 2, 0},
     {"a slot put into what is not opened", 186, 2, WN_MISSING_RIGHT, 208, WN_CARRIED_RIGHT, 6, 1, 2},
     {"an integer for an array variable", 91, 1, WN_WRONG_KIND, 88, WN_CARRIED_KIND, 0, 0, 0},
-    {"arrays of unequal elements: K6, K7", 78, 6, WN_WRONG_KIND, 104, WN_CARRIED_KIND, 2, 0, 2},
+    {"arrays of unequal elements, with store: K6", 78, 6, WN_WRONG_KIND, 104, WN_CARRIED_KIND, 2, 0, 2},
     {"a binding that would add rights", 74, 5, WN_MISSING_RIGHT, 104, WN_CARRIED_RIGHT, 2, 0, 2},
     {"a fetch that would add a right", 86, 2, WN_MISSING_RIGHT, 136, WN_CARRIED_RIGHT, 10, 0, 6},
     {"a record into an integer slot", 212, 0, WN_WRONG_KIND, 208, WN_CARRIED_KIND, 6, 1, 2},

@@ -1,5 +1,5 @@
 # Deep trays: a freezer of racks of plates of rows of wells. The number stored in one well is found again through a
-# variable that may only fetch racks: rights may be given up at the top, the elements below stay equal.
+# variable that may only fetch racks: rights are given up at the top, and the elements below stay equal.
 #
 # expect: accepted 0 0
 # reads: 5

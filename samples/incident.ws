@@ -1,6 +1,6 @@
 # The incident of the tender. A tray of amendable calls is bound to a variable for trays of read-only calls. Were that
 # let through, a read-only call stored by way of calls_to_read would come back, amendable, by way of calls, and be
-# amended. So the elements of the two types must be equal, and a subset of rights is not enough.
+# amended. So where a variable has store, the elements must be equal, and a subset of rights is not enough.
 #
 # expect: refused 8 118
 # at: bind calls_to_read <- calls

@@ -8,8 +8,8 @@ use mathlib.Core.Option.{Option, none, some}
 use lib.Dec.{eqb, leb}
 use lib.ListN.{getD}
 use borrow.Author.Tests.{ne-eqb, eqb-true}
-use Rattle.model.specs.Rights.{Rights, within}
-use Rattle.model.specs.Qualified.{Qual, integer, declared, base, rights, element, isInteger, isArray, same}
+use Rattle.model.specs.Rights.{Rights, within, has, store-right}
+use Rattle.model.specs.Qualified.{Qual, integer, declared, base, rights, element, isInteger, isArray, elements}
 use Rattle.model.specs.Generic.{instance, read, read-result}
 use Rattle.model.specs.Rules.{amplifies}
 use Rattle.model.specs.Outcome.{blank, past-end, input-ended, output-full, memory-full, wrong-kind, missing-right, Res, ok, stop, stuck, _>>=_, _>>_, ensure}
@@ -24,17 +24,17 @@ use Rattle.index.specs.Types.{word-in, rights-of, shape-of, of-shape, element-b
 use Rattle.index.specs.Indexed.{Ready}
 use Rattle.index.specs.Scope.{boundOf}
 use Rattle.index.specs.declared.procedures.Scope.{Scope}
-use Rattle.index.proofs.Trees.{integer-shape, array-shape, element-shape, qual-integer}
+use Rattle.index.proofs.Trees.{integer-shape, array-shape, rights-shape, element-shape, qual-integer}
 use Rattle.index.proofs.Reading.{type-word-as, rights-as, inner-read, need-read, type-read, inner-type, need-type}
 use Rattle.index.proofs.Ready.{same-types}
 use Rattle.order.proofs.Laws.{base-part}
-use Rattle.words.specs.Word.{tag, low, payload, info-of, settled-base, cell, slot-in, as-head}
+use Rattle.words.specs.Word.{tag, low, payload, info-of, settled-base, cell, slot-in, as-cell, as-head}
 use Rattle.words.specs.Sees.{heads-in}
 use Rattle.words.specs.Answers.{halted, IsCell, MovedOk}
 use Rattle.words.specs.declared.Moved.{Moved}
 use Rattle.words.specs.declared.Moved.the-variants.{To, Halt}
 use Rattle.words.proofs.Laws.{slot-array, slot-record, blank-word}
-use Rattle.binding.specs.Binds.{kind-in, Heads, moved-cell, handed-cell, raised, FrameScope, InScope, BindsFilled, BindsWord, Raises}
+use Rattle.binding.specs.Binds.{kind-in, Heads, moved-cell, handed-cell, raised, FrameScope, InScope, BindsFilled, BindsWord, BindsTwice, Raises}
 use Rattle.binding.proofs.Views.{ValueOf, integer-in, object-in, value-word, CellOf, blank-in, value-in, cell-word, HeadOf, array-in, record-in, no-head-in, head-word}
 
 -- ---- a type by the word that it is read by
@@ -59,11 +59,11 @@ unfolding typeIn
 own-element t o k is = rw is
 
 module _ (t : List ℕ) (n q head : ℕ) where
-  pub fits-array : (o : ℕ) {u b k e : ℕ} {r : Bool} → tag head ≡ 3 → u ≡ word-as t n q → b ≡ shape-of u → k ≡ info-of head
-      → named-as o ≡ declared (settled-base head) (low head) → e ≡ element-below u q
-      → r ≡ same (typeIn t o k) (typeIn t n e) → eqb b 1 && r ≡ fits (typeIn t n q) (kind-in (qualIn t) head)
+  pub fits-array : (o : ℕ) {u b k e y : ℕ} {s r : Bool} → tag head ≡ 3 → u ≡ word-as t n q → b ≡ shape-of u → k ≡ info-of head
+      → named-as o ≡ declared (settled-base head) (low head) → e ≡ element-below u q → y ≡ rights-of u → s ≡ has store-right y
+      → r ≡ elements s (typeIn t o k) (typeIn t n e) → eqb b 1 && r ≡ fits (typeIn t n q) (kind-in (qualIn t) head)
   unfolding fits
-  fits-array o {u} {b} {k} {e} {r} is-array is-u is-b is-k is-o is-e is-r =
+  fits-array o {u} {b} {k} {e} {y} {s} {r} is-array is-u is-b is-k is-o is-e is-y is-s is-r =
       rw (slot-array watched (qualIn t) head is-array, array-there, sym word-shape) (go (eqb b 1) refl)
     where
       word-shape : b ≡ shape-of (word-as t n q)
@@ -75,11 +75,16 @@ module _ (t : List ℕ) (n q head : ℕ) where
       element-there : eqb b 1 ≡ true → element (typeIn t n q) ≡ typeIn t n e
       element-there told = ap element (type-word-as t n q) ∙ element-shape _ _ _ ∙ rw (sym word-shape, told, is-e, is-u)
 
+      stores-there : eqb b 1 ≡ true → has store-right (rights (typeIn t n q)) ≡ s
+      stores-there told =
+          let one = eqb-true b 1 told in
+          ap (has store-right) (ap rights (type-word-as t n q) ∙ rights-shape _ _ _ ∙ rw (sym word-shape, one, sym is-u, sym is-y)) ∙ sym is-s
+
       own : typeIn t o k ≡ read (declared (settled-base head) (low head)) (qualIn t (info-of head))
       own = own-element t o k (is-o) ∙ ap (λ (a : ℕ). read (declared (settled-base head) (low head)) (qualIn t a)) is-k
 
-      go : (a : Bool) → eqb b 1 ≡ a → a && r ≡ a && same (read (declared (settled-base head) (low head)) (qualIn t (info-of head))) (element (typeIn t n q))
-      go true told = is-r ∙ rw (own, element-there told)
+      go : (a : Bool) → eqb b 1 ≡ a → a && r ≡ a && elements (has store-right (rights (typeIn t n q))) (read (declared (settled-base head) (low head)) (qualIn t (info-of head))) (element (typeIn t n q))
+      go true told = is-r ∙ rw (own, element-there told, stores-there told)
       go false told = refl
 
   pub fits-record : {u b k : ℕ} → tag head ≡ 4 → u ≡ word-as t n q → b ≡ shape-of u → k ≡ info-of head
@@ -281,6 +286,9 @@ module _ {s t h : List ℕ} {q : Qual} {w : ℕ} {r : Moved} (ready : Ready s t)
   pub word-of-sheet : BindsWord (qualIn t) h q w r → BindsWord (qualOf s) h q w r
   word-of-sheet = subst (λ (f : ℕ → Qual). BindsWord f h q w r) (same-types ready)
 
+  pub twice-of-sheet : {e : Qual} → BindsTwice (qualIn t) h e q w r → BindsTwice (qualOf s) h e q w r
+  twice-of-sheet {e} = subst (λ (f : ℕ → Qual). BindsTwice f h e q w r) (same-types ready)
+
   pub raises-of-sheet : {o : ℕ} {p : Qual} → Raises (qualIn t) h o p q w r → Raises (qualOf s) h o p q w r
   raises-of-sheet {o} {p} = subst (λ (f : ℕ → Qual). Raises f h o p q w r) (same-types ready)
 
@@ -333,6 +341,29 @@ moved-bound g v q (filled x m) d e = by (fits q (kind-at (v .head) x)) (within (
     by false u a b = let k = bound-misfit g v q x m a in absurd (let z : _≡_ {A = ℕ} 0 1 = cc in omega arith)
     by true false a b = let k = bound-without g v q x m a b in absurd (let z : _≡_ {A = ℕ} 0 1 = cc in omega arith)
     by true true a b = let k = bound g v q x m a b in let is : d ≡ filled x (rights q) = cc in rw is (bound-to x a)
+
+-- ---- bound twice
+
+module _ (qual : ℕ → Qual) (g : Program) (v : View watched) (e q : Qual) (c : Cell watched) where
+  abbrev twice : Res (Cell watched)
+  twice = moved watched g v e c >>= λ d. moved watched g v q d
+
+  pub twice-to : (r : Moved) (x : ℕ) → moved-cell qual (To x) ≡ moved watched g v e c → moved-cell qual r ≡ moved watched g v q (as-cell (slot-in watched qual x))
+      → moved-cell qual r ≡ twice
+  unfolding moved-cell _>>=_
+  twice-to r x first rest = rest ∙ rw (sym first)
+
+  -- to the type that it was bound to: it is as it was
+  pub twice-same : (x : ℕ) → e ≡ q → moved-cell qual (To x) ≡ moved watched g v e c → moved-cell qual (To x) ≡ twice
+  unfolding moved-cell _>>=_
+  twice-same x is first = rw (sym first, sym is) (again (moved-bound g v e c _ (sym first)))
+    where
+      again : {d : Cell watched} → BoundTo v e d → ok d ≡ moved watched g v e d
+      again (bound-to y f) = sym (bound g v e y (rights e) f (within-refl (rights e)))
+
+  pub twice-halt : (k : ℕ) → moved-cell qual (Halt k) ≡ moved watched g v e c → moved-cell qual (Halt k) ≡ twice
+  unfolding moved-cell
+  twice-halt k first = rw (sym first) (sym (halted-then k _))
 
 -- what is done with an actual once it was bound
 abbrev then-raise : View watched → (o : ℕ) → (inner as-read : Qual) → Cell watched → Res (Cell watched)

@@ -71,6 +71,12 @@ pub record BindsWord (qual : ℕ → Qual) (h : List ℕ) (q : Qual) (w : ℕ) (
   pub moves : (g : Program) (v : View watched) (c : Cell watched) → Heads qual v h → slot-in watched qual w ≡ cell c
       → moved-cell qual r ≡ moved watched g v q c
 
+-- the word of any cell, bound to one type and then to another
+pub record BindsTwice (qual : ℕ → Qual) (h : List ℕ) (e q : Qual) (w : ℕ) (r : Moved) : Type 0 where
+  pub fine : MovedOk r
+  pub moves : (g : Program) (v : View watched) (c : Cell watched) → Heads qual v h → slot-in watched qual w ≡ cell c
+      → moved-cell qual r ≡ (moved watched g v e c >>= λ d. moved watched g v q d)
+
 -- the word of a filled cell, raised to type `inner`, read as another, by the owner
 pub record Raises (qual : ℕ → Qual) (h : List ℕ) (owner : ℕ) (inner as-read : Qual) (w : ℕ) (r : Moved) : Type 0 where
   pub fine : MovedOk r

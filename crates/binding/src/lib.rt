@@ -9,8 +9,9 @@ use index::types::rights_in;
 use index::types::shape_in;
 use index::types::type_word;
 use index::types::type_word_as;
-use order::equal;
+use order::elements_agree;
 use order::is_amplified;
+use rights::has_right;
 use rights::is_within;
 use sheet::fields::field;
 use sheet::fields::inner_of;
@@ -35,7 +36,7 @@ ghost use Rattle.index.specs.Types.{qualIn, typeIn, named-as, word-as};
 ghost use Rattle.index.specs.Indexed.{Ready};
 ghost use Rattle.words.specs.Word.{low, settled-base};
 ghost use Rattle.words.specs.declared.Moved.the-variants.{To};
-ghost use Rattle.binding.specs.Binds.{kind-in, OwnRecord, BindsFilled, BindsWord, Raises, BindsActual, BindsResult};
+ghost use Rattle.binding.specs.Binds.{kind-in, OwnRecord, BindsFilled, BindsWord, BindsTwice, Raises, BindsActual, BindsResult};
 
 // The name of what ?R stands for in the element of an array, by its head.
 pub fn object_name(head: u64) -> u64
@@ -44,7 +45,8 @@ pub fn object_name(head: u64) -> u64
     instance_name(settled_base(head), low_of(head))
 }
 
-// The object of a head is of QT q, whose word is t where ?R is read as a name has it: of its base and, for an array, with equal elements.
+// The object of a head is of QT q, whose word is t where ?R is read as a name has it: of its base and, for an array, with the elements that a movement into q
+// would ask for (document 02, S-3).
 fn object_fits(index: &Index, name: u64, q: u8, t: u64, head: u64) -> bool
     requires { ⌜ t ≡ word-as (now index) name q ⌝ }
     ensures { λ r. ⌜ r ≡ fits (typeIn (now (index .entry)) name q) (kind-in (qualIn (now (index .entry))) head) ⌝ }
@@ -52,7 +54,11 @@ fn object_fits(index: &Index, name: u64, q: u8, t: u64, head: u64) -> bool
     let shape = shape_in(t);
     let kind = kind_in(head);
     match tag_of(head) {
-        3 => (shape == 1) & equal(index, object_name(head), kind, name, element_in(t, q)),
+        3 => {
+            let stores = has_right(2, rights_in(t));
+            let e = element_in(t, q);
+            (shape == 1) & elements_agree(index, stores, object_name(head), kind, name, e)
+        }
         4 => (2 <= kind) & (shape % 256 == (kind as u16)),
         _ => false,
     }
@@ -98,6 +104,21 @@ pub fn bind_word(index: &Index, name: u64, h: &[u64], q: u8, w: u64) -> Moved
         return Moved::To(x);
     }
     bind_filled(index, name, h, q, x)
+}
+
+// The word of a cell, bound to QT e and then to QT q, which changes nothing where they are one.
+pub fn bind_through(index: &Index, name: u64, h: &[u64], e: u8, q: u8, w: u64) -> Moved
+    ensures { λ r. ⌜ BindsTwice (qualIn (now (index .entry))) (now (h .entry)) (typeIn (now (index .entry)) name e) (typeIn (now (index .entry)) name q) w r ⌝ }
+{
+    match bind_word(index, name, h, e, w) {
+        Moved::To(x) => {
+            if e == q {
+                return Moved::To(x);
+            }
+            bind_word(index, name, h, q, x)
+        }
+        Moved::Halt(k) => Moved::Halt(k),
+    }
 }
 
 // A filled cell holds a record of the owner's type; owner 0 is none.

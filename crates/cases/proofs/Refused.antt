@@ -1,6 +1,6 @@
 -- By computation alone.
 use mathlib.Core.Path.{refl}
-use Rattle.cases.specs.Refused.{array-put, ArrayPut, integer-sized, IntegerSized, record-sized, RecordSized, array-opened, ArrayOpened, stranger-opened, StrangerOpened, nothing-kept, NothingKept, stored-unlicensed, StoredUnlicensed, two-settlings, TwoSettlings, short-settling, ShortSettling}
+use Rattle.cases.specs.Refused.{array-put, ArrayPut, integer-sized, IntegerSized, record-sized, RecordSized, array-opened, ArrayOpened, stranger-opened, StrangerOpened, nothing-kept, NothingKept, stored-unlicensed, StoredUnlicensed, two-settlings, TwoSettlings, short-settling, ShortSettling, storing-reader, StoringReader}
 use Rattle.cases.proofs.Computing.{computing}
 
 pub array-put-sticks : ArrayPut
@@ -38,3 +38,7 @@ two-settlings-stop = record { well-formed = refl; refused = refl; on-plain = ref
 pub short-settling-stops : ShortSettling
 unfolding computing short-settling
 short-settling-stops = record { well-formed = refl; refused = refl; on-plain = refl; on-watched = refl }
+
+pub storing-reader-stops : StoringReader
+unfolding computing storing-reader
+storing-reader-stops = record { well-formed = refl; refused = refl; on-plain = refl; on-watched = refl }

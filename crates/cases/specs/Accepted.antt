@@ -267,3 +267,55 @@ both-sets =
 
 abbrev pub AnyRightsSettled : Type 0
 AnyRightsSettled = state-after watched (programOf any-rights) 40 1 [] 100 18 ≡ both-sets
+
+-- ---- S-3: a reader of results is given an array of calls that its caller may amend
+unfoldable pub reader : List ℕ
+reader =
+    72 ∷ 68 ∷ 1 ∷ 1 ∷ 5 ∷ 3 ∷  -- HD one type, five qualified types, three procedures
+    84 ∷ 89 ∷ 2 ∷ 0 ∷ 255 ∷ 255 ∷ 255 ∷ 255 ∷ 255 ∷ 255 ∷ 255 ∷ 255 ∷  -- TY type 2, call: right 1 read, right 2 amend
+    81 ∷ 84 ∷ 0 ∷ 0 ∷ 0 ∷ 255 ∷  -- QT 0: integer
+    81 ∷ 84 ∷ 2 ∷ 2 ∷ 0 ∷ 255 ∷  -- QT 1: call{read}
+    81 ∷ 84 ∷ 2 ∷ 6 ∷ 0 ∷ 255 ∷  -- QT 2: call{read,amend}
+    81 ∷ 84 ∷ 1 ∷ 6 ∷ 0 ∷ 2 ∷  -- QT 3: array[call{read,amend}]{fetch,store}
+    81 ∷ 84 ∷ 1 ∷ 2 ∷ 0 ∷ 1 ∷  -- QT 4: array[call{read}]{fetch}
+    80 ∷ 82 ∷ 0 ∷ 0 ∷ 4 ∷ 255 ∷ 8 ∷ 0 ∷  -- procedure 0, main
+    86 ∷ 82 ∷ 0 ∷ 255 ∷  -- VR 0: n
+    86 ∷ 82 ∷ 3 ∷ 255 ∷  -- VR 1: drafts
+    86 ∷ 82 ∷ 2 ∷ 255 ∷  -- VR 2: draft
+    86 ∷ 82 ∷ 1 ∷ 255 ∷  -- VR 3: seen
+    73 ∷ 78 ∷ 1 ∷ 0 ∷ 255 ∷ 255 ∷ 1 ∷ 0 ∷  -- IN 0: n := 1
+    73 ∷ 78 ∷ 9 ∷ 1 ∷ 0 ∷ 255 ∷ 0 ∷ 0 ∷  -- IN 1: drafts ← new array of size n
+    73 ∷ 78 ∷ 16 ∷ 2 ∷ 255 ∷ 255 ∷ 1 ∷ 0 ∷  -- IN 2: draft ← procedure 1 ()
+    73 ∷ 78 ∷ 1 ∷ 0 ∷ 255 ∷ 255 ∷ 0 ∷ 0 ∷  -- IN 3: n := 0
+    73 ∷ 78 ∷ 11 ∷ 1 ∷ 0 ∷ 2 ∷ 0 ∷ 0 ∷  -- IN 4: drafts[n] ← draft
+    73 ∷ 78 ∷ 16 ∷ 3 ∷ 1 ∷ 255 ∷ 2 ∷ 0 ∷  -- IN 5: seen ← procedure 2 (drafts)
+    73 ∷ 78 ∷ 10 ∷ 2 ∷ 1 ∷ 0 ∷ 0 ∷ 0 ∷  -- IN 6: draft ← drafts[n]
+    73 ∷ 78 ∷ 17 ∷ 255 ∷ 255 ∷ 255 ∷ 0 ∷ 0 ∷  -- IN 7: return
+    80 ∷ 82 ∷ 2 ∷ 0 ∷ 1 ∷ 2 ∷ 2 ∷ 0 ∷  -- procedure 1, of the type call: a new call, under read and amend
+    86 ∷ 82 ∷ 2 ∷ 255 ∷  -- VR 0: made
+    73 ∷ 78 ∷ 13 ∷ 0 ∷ 255 ∷ 255 ∷ 0 ∷ 0 ∷  -- IN 0: made ← new call
+    73 ∷ 78 ∷ 17 ∷ 0 ∷ 255 ∷ 255 ∷ 0 ∷ 0 ∷  -- IN 1: return made
+    80 ∷ 82 ∷ 0 ∷ 1 ∷ 3 ∷ 1 ∷ 3 ∷ 0 ∷  -- procedure 2: the first of the results, under read
+    86 ∷ 82 ∷ 4 ∷ 4 ∷  -- VR 0: results
+    86 ∷ 82 ∷ 0 ∷ 255 ∷  -- VR 1: first
+    86 ∷ 82 ∷ 1 ∷ 255 ∷  -- VR 2: item
+    73 ∷ 78 ∷ 1 ∷ 1 ∷ 255 ∷ 255 ∷ 0 ∷ 0 ∷  -- IN 0: first := 0
+    73 ∷ 78 ∷ 10 ∷ 2 ∷ 0 ∷ 1 ∷ 0 ∷ 0 ∷  -- IN 1: item ← results[first]
+    73 ∷ 78 ∷ 17 ∷ 2 ∷ 255 ∷ 255 ∷ 0 ∷ 0 ∷  -- IN 2: return item
+    []
+
+abbrev pub ReaderRuns : Type 0
+ReaderRuns = Runs reader 40 0 [] 100 (stopped done 13 [] 0 7)
+
+-- after 10 steps the reader has fetched: it holds the array without store and the call with read alone (2), while the array's own cell and its caller have
+-- read and amend (6)
+unfoldable pub widened : Snapshot watched
+widened =
+    snapshot (
+    frame 2 2 0 (filled (object 0) 2 ∷ filled (word 0) 0 ∷ filled (object 2) 2 ∷ []) ∷
+    frame 0 6 0 (filled (word 0) 0 ∷ filled (object 0) 6 ∷ filled (object 2) 6 ∷ empty ∷ []) ∷
+    [])
+    (array-of (declared 2 6) (filled (object 2) 6 ∷ []) ∷ record-of 2 [] ∷ [])
+
+abbrev pub ReaderWidened : Type 0
+ReaderWidened = state-after watched (programOf reader) 40 0 [] 100 10 ≡ widened

@@ -1,4 +1,5 @@
--- K1 to K12 of document 01, "as one list of inputs and results under the rules", in the paper's numbers.
+-- K1 to K12 of document 01, "as one list of inputs and results under the rules", in the paper's numbers; document 02, S-3: "K7 becomes a yes and K6
+-- remains a no".
 use Prim.Native.Nat.{ℕ}
 use mathlib.Core.Bool.{Bool, true, false}
 use mathlib.Core.List.{List, [], _∷_}
@@ -58,7 +59,7 @@ cases =
     K 4 (above studbook 1 3) no ∷  -- not call{read} ≥ horse{read}
     K 5 (above studbook 4 5) yes ∷  -- tray[call{read}]{fetch,store} ≥ tray[call{read}]{fetch}
     K 6 (above studbook 6 4) no ∷  -- not tray[call{read,amend}]{fetch,store} ≥ tray[call{read}]{fetch,store}
-    K 7 (above studbook 7 5) no ∷  -- not tray[call{read,amend}]{fetch} ≥ tray[call{read}]{fetch}
+    K 7 (above studbook 7 5) yes ∷  -- tray[call{read,amend}]{fetch} ≥ tray[call{read}]{fetch}: "K7 becomes a yes" (document 02, S-3)
     K 8 (above studbook 1 8) yes ∷  -- "two QT records of the same fields stand ≥ each other"
     K 8 (above studbook 8 1) yes ∷
     K 9 (ran smallest 1 2) (stop 11 1) ∷  -- "fuel 1, bench 2: stop 11, one step"

@@ -6,20 +6,19 @@ use mathlib.Core.Bool.{Bool, true, false, false≢true, _&&_}
 use mathlib.Core.List.{List}
 use mathlib.Core.Option.{Option, none, some}
 use borrow.Author.Tests.{eq-eqb}
-use Rattle.model.specs.Rights.{Rights, within, has}
-use Rattle.model.specs.Qualified.{Qual, rights, element, isInteger, isArray}
+use Rattle.model.specs.Rights.{Rights, within, has, store-right}
+use Rattle.model.specs.Qualified.{Qual, rights, element, isInteger, isArray, elements}
 use Rattle.model.specs.Generic.{Bound, read, settled, is-settled, is-enough}
 use Rattle.model.specs.Rules.{amplifies}
 use Rattle.model.specs.Program.{Program}
 use Rattle.model.proofs.Rights.{within-refl}
-use Rattle.model.proofs.Order.{same-sound}
 use Rattle.model.specs.Outcome.{Stop, Res, ok, stop, _>>=_, _>>_, ensure, found}
 use Rattle.model.specs.Modes.{plain, watched, Kind, demand, licence, is-of, fits, bind, bind-element, bind-result, settle-set, is-record-of, raise-if, raise}
 use Rattle.model.specs.Machine.{Value, word, object, Cell, Head, array-head, record-head, kind-of-head, kind-at, View, held, as-integer, array-head-of, record-head-of, array-at, record-at, slot-there}
 use Rattle.model.specs.Claim.{Regular-stop}
 use Rattle.model.proofs.Read.{Moves}
 use Rattle.model.proofs.Allowed.{Owned, Raised, amplified, unchanged}
-use Rattle.model.proofs.Fits.{fits-move, amplified-owned, amplified-alike, not-object, array-element, array-not-integer, array-not-record, owned-type, owned-not-integer, owned-not-array, owned-record}
+use Rattle.model.proofs.Fits.{fits-move, amplified-owned, not-object, array-element, array-not-integer, array-not-record, owned-type, owned-not-integer, owned-not-array, owned-kind, owned-record, new-record-fits}
 use Rattle.model.proofs.Relate.{Fit, fit, Granted, granted, CellRel, blanks, values}
 use Rattle.model.proofs.Table.{Seen, array-seen, record-seen, none-seen}
 
@@ -29,7 +28,7 @@ pub data Agree {A B : Type 0} (Q : A → B → Type 0) : Res A → Res B → Typ
   halt : {s : Stop} → Regular-stop s → Agree Q (stop s) (stop s)
 
 pub fit-move : {h : ℕ → Head watched} {s q : Qual} {v : Value} → Fit h s v → Moves s q → Fit h q v
-fit-move {h} {s} {q} {v} (fit f) m = fit (fits-move s q (kind-at h v) f (m .kinds))
+fit-move {h} {s} {q} {v} (fit f) m = fit (fits-move s q (kind-at h v) f (m .kinds) (m .licensed))
 
 -- ---- Binding
 
@@ -80,7 +79,7 @@ raise-ok {o} {need} {inner} ρ q′ k k′ (unchanged e) f = rw e (raise-same o 
 -- the value fits inner too
 pub raise-fit : {h : ℕ → Head watched} {o : ℕ} {need inner : Qual} {v : Value} (ρ : Qual) → Raised o need inner → Fit h (read ρ need) v → Fit h (read ρ inner) v
 raise-fit {h} {o} {need} {inner} {v} ρ (amplified n i) (fit f) =
-    fit (fits-move (read ρ need) (read ρ inner) (kind-at h v) f (amplified-alike ρ o need inner n i))
+    fit (rw (owned-kind o (read ρ need) (kind-at h v) (amplified-owned ρ o need n) f) (new-record-fits o (read ρ inner) (amplified-owned ρ o inner i)))
 raise-fit ρ (unchanged e) w = rw e at w
 
 -- ---- Continuations
@@ -146,7 +145,7 @@ module _ {A B : Type 0} {Q : A → B → Type 0} where
     pub with-array :
         {q : Qual} {x : Value} (f : ℕ × Qual × ℕ → Res A) (f′ : ℕ × Unit {0} × ℕ → Res B) → ((a : ℕ) → Seen g (v .head) (v .head a) (v′ .head a) (v .cell a) (v′ .cell a)) →
         Fit (v .head) q x → isArray q ≡ true →
-        ((a : ℕ) (e : Qual) (n : ℕ) → v .head a ≡ array-head e n → e ≡ element q → ((i : ℕ) → CellRel (v .head) e (v .cell a i) (v′ .cell a i)) → Agree Q (f (a, e, n)) (f′ (a, tt, n))) →
+        ((a : ℕ) (e : Qual) (n : ℕ) → v .head a ≡ array-head e n → elements (has store-right (rights q)) e (element q) ≡ true → ((i : ℕ) → CellRel (v .head) e (v .cell a i) (v′ .cell a i)) → Agree Q (f (a, e, n)) (f′ (a, tt, n))) →
         Agree Q (array-at watched g v x >>= f) (array-at plain g v′ x >>= f′)
     unfolding array-at array-head-of _>>=_
     with-array {q} {x = word n} f f′ s (fit w) t k = absurd (array-not-integer q t w)
@@ -155,7 +154,7 @@ module _ {A B : Type 0} {Q : A → B → Type 0} where
         go :
             (x : Head watched) (x′ : Head plain) → v .head a ≡ x → fits q (kind-of-head x) ≡ true → Seen g (v .head) x x′ (v .cell a) (v′ .cell a) →
             Agree Q (array-head-of watched a x >>= f) (array-head-of plain a x′ >>= f′)
-        go _ _ z w (array-seen {e} {n} c) = k a e n z (same-sound e (element q) (array-element q e w)) c
+        go _ _ z w (array-seen {e} {n} c) = k a e n z (array-element q e w) c
         go _ _ z w (record-seen {t = u} l c) = absurd (array-not-record q u t w)
         go _ _ z w none-seen = absurd (unfold fits in (false≢true w))
 

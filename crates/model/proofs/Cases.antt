@@ -11,7 +11,7 @@ use lib.Dec.{ltb}
 use lib.ListN.{length}
 use borrow.Author.Tests.{lt-ltb}
 use Rattle.model.specs.Rights.{Rights, fetch-right, store-right, size-right, open-right}
-use Rattle.model.specs.Qualified.{Qual, rights, element, isInteger, integer, array, declared, generic, alike}
+use Rattle.model.specs.Qualified.{Qual, rights, element, isInteger, integer, array, declared, generic, alike, elements}
 use Rattle.model.specs.Program.{Program}
 use Rattle.model.specs.Generic.{read, read-result}
 use Rattle.model.specs.Rules.{keeps, optional}
@@ -22,7 +22,8 @@ use Rattle.model.specs.Outcome.{past-end, input-ended, output-full, memo
 use Rattle.model.specs.Modes.{plain, watched, fits, array-kind, record-kind}
 use Rattle.model.specs.Machine.{Value, word, object, Cell, filled, Head, kind-at, View, Effect, write, take, put, jump, skip, new-array, new-record, store, call, resume, finish, as-integer, moved, give, integers, one-integer, plan-array, plan-record, plan-fetch, plan-store, plan-size, plan-get, plan-set, settle-call, actual, actuals, plan-call, handed, into-caller, to-caller, plan-return, gives, branch, plan, returns-well}
 use Rattle.model.proofs.Formed.{Formed, Formed-at}
-use Rattle.model.proofs.Read.{Good, Moves}
+use Rattle.model.proofs.Order.{same-sound, elements-order}
+use Rattle.model.proofs.Read.{Good, Moves, order-moves}
 use Rattle.model.proofs.Allowed.{Facts, Raised, Kept, Returned, in-set, typed-in, set-by, Allowed}
 use Rattle.model.proofs.Fits.{not-object, new-array-fits, new-record-fits}
 use Rattle.model.proofs.Relate.{Fit, fit, Granted, granted, CellRel, values, Row, row-nil, row-cons, row-same, ArrayMade, RecordMade, plain-place}
@@ -207,23 +208,26 @@ module _
     fetch-ok a b c l r =
         with-held _ _ (vars b) λ x wx.
         with-held _ _ (vars c) λ y wy.
-        with-array g view-of view-of′ _ _ objects wx (r .0) λ o e n at eq cells.
+        with-array g view-of view-of′ _ _ objects wx (r .0) λ o e n at above cells.
         with-integer wy (r .1) λ j.
         with-licence fetch-right _ (r .2)
         (with-test past-end tt _ λ t.
-        with-rel (moved-ok g view-of view-of′ _ (subst (λ (q : Qual). CellRel h q (k o j) (k′ o j)) eq (cells j)) (r .3)) λ d d′ w.
+        with-rel (moved-ok g view-of view-of′ _ (cells j) (order-moves e _ (elements-order _ e _ above))) λ x x′ s.
+        with-rel (moved-ok g view-of view-of′ _ s (r .3)) λ d d′ w.
         both (writes l w))
 
+    -- who has store holds no widened array: its elements are those that the variable declares
     store-ok : (a b c : ℕ) → suc i < g .instructions p → Allowed g p z (Store a b c) → Planned (Store a b c)
-    unfolding plan plan-store
+    unfolding plan plan-store elements
     store-ok a b c l r =
         with-held _ _ (vars a) λ x wx.
         with-held _ _ (vars b) λ y wy.
-        with-array g view-of view-of′ _ _ objects wx (r .0) λ o e n at eq cells.
+        with-array g view-of view-of′ _ _ objects wx (r .0) λ o e n at above cells.
         with-integer wy (r .1) λ j.
         with-licence store-right _ (r .2)
         (with-test past-end tt _ λ t.
         with-held _ _ (vars c) λ v wv.
+        let eq : e ≡ element (typed-in g p z a) = same-sound e _ (rw (r .2) at above) in
         let m = subst (λ (q : Qual). Moves (typed-in g p z c) q) (sym eq) (r .3) in
         with-rel (element-ok e _ _ _ (fits-of (fit-move wv m)) (m .licensed)) λ d d′ w.
         both (stores l (subst (λ (x : Head watched). Target g h x j (filled v d) (filled v d′)) (sym at) (in-array (values (fit-move wv m) w)))))
@@ -232,7 +236,7 @@ module _
     unfolding plan plan-size give
     size-ok a b l r =
         with-held _ _ (vars b) λ x wx.
-        with-array g view-of view-of′ _ _ objects wx (r .0) λ o e n at eq cells.
+        with-array g view-of view-of′ _ _ objects wx (r .0) λ o e n at above cells.
         with-licence size-right _ (r .1)
         (with-rel (number-ok g view-of view-of′ _ n (r .2)) λ d d′ w.
         both (writes l w))

@@ -1,15 +1,17 @@
--- What the test of a value's kind against a declared type says: which kind the value has, and that the test carries over to a type that is alike.
+-- What the test of a value's kind against a declared type says: which kind the value has, and that the test carries over to a type that it moves to.
 use Prim.Native.Nat.{ℕ, _≤_}
 use mathlib.Core.Path.{_≡_, refl, ap, sym, _∙_}
 use mathlib.Core.Bool.{Bool, true, false≢true, _&&_}
 use native.Mathlib.Omega.{arith}
 use lib.Dec.{eqb, leb}
 use borrow.Author.Tests.{eqb-true, eq-eqb, leb-true, le-leb}
-use Rattle.model.specs.Qualified.{Qual, integer, array, declared, generic, base, element, isInteger, isArray, same, alike}
+use Rattle.model.specs.Rights.{within, has, store-right}
+use Rattle.model.specs.Qualified.{Qual, integer, array, declared, generic, base, rights, element, isInteger, isArray, alike, elements}
 use Rattle.model.specs.Generic.{read}
 use Rattle.model.specs.Rules.{amplifies}
 use Rattle.model.proofs.Verdicts.{both-true}
-use Rattle.model.proofs.Order.{same-trans, same-refl}
+use Rattle.model.proofs.Rights.{within-has}
+use Rattle.model.proofs.Order.{alike-arrays, elements-refl, elements-trans}
 use Rattle.model.proofs.Allowed.{Owned}
 use Rattle.model.specs.Modes.{watched, Kind, integer-kind, array-kind, record-kind, no-kind, fits, is-record-of}
 use Rattle.model.specs.Machine.{Head, array-head, record-head, no-head, kind-of-head}
@@ -68,24 +70,31 @@ integer-move (array r e) q h k = absurd (false≢true h)
 integer-move (declared t r) q h k = absurd (false≢true h)
 integer-move (generic t l) q h k = absurd (false≢true h)
 
-array-move : (s q d : Qual) → isArray s ≡ true → same d (element s) ≡ true → alike s q ≡ true → isArray q && same d (element q) ≡ true
-unfolding alike isArray element
-array-move integer q d h m k = absurd (false≢true h)
-array-move (array r e) integer d h m k = k
-array-move (array r e) (array s f) d h m k = same-trans d e f m k
-array-move (array r e) (declared t s) d h m k = k
-array-move (array r e) (generic t l) d h m k = k
-array-move (declared t r) q d h m k = absurd (false≢true h)
-array-move (generic t l) q d h m k = absurd (false≢true h)
+-- what an array's element is asked of the declared type's
+abbrev asked : Qual → Qual → Bool
+asked q e = elements (has store-right (rights q)) e (element q)
 
-pub fits-move : (s q : Qual) (k : Kind watched) → fits s k ≡ true → alike s q ≡ true → fits q k ≡ true
+-- S-3: whoever holds a widened array lacks store, and no movement gives store back: where the destination has store, so has the source
+array-move :
+    (s q d : Qual) → isArray s ≡ true → asked s d ≡ true → alike s q ≡ true → within (rights q) (rights s) ≡ true → isArray q && asked q d ≡ true
+unfolding alike isArray element rights
+array-move integer q d h m k w = absurd (false≢true h)
+array-move (array r e) integer d h m k w = k
+array-move (array r e) (array s f) d h m k w =
+    elements-trans (has store-right r) (has store-right s) d e f (within-has store-right s r w) m (sym (alike-arrays r s e f) ∙ k)
+array-move (array r e) (declared t s) d h m k w = k
+array-move (array r e) (generic t l) d h m k w = k
+array-move (declared t r) q d h m k w = absurd (false≢true h)
+array-move (generic t l) q d h m k w = absurd (false≢true h)
+
+pub fits-move : (s q : Qual) (k : Kind watched) → fits s k ≡ true → alike s q ≡ true → within (rights q) (rights s) ≡ true → fits q k ≡ true
 unfolding fits
-fits-move s q integer-kind h k = integer-move s q h k
-fits-move s q (array-kind e) h k = let z = both-true (isArray s) (same e (element s)) h in array-move s q e (z .0) (z .1) k
-fits-move s q (record-kind t) h k = rw (alike-base s q k) at h
-fits-move s q no-kind h k = h
+fits-move s q integer-kind h k w = integer-move s q h k
+fits-move s q (array-kind e) h k w = let z = both-true (isArray s) (asked s e) h in array-move s q e (z .0) (z .1) k w
+fits-move s q (record-kind t) h k w = rw (alike-base s q k) at h
+fits-move s q no-kind h k w = h
 
--- an amplified type has no ?R: it is read as the owner's type, and two of one owner are alike
+-- an amplified type has no ?R: it is read as the owner's type
 pub amplified-owned : (ρ : Qual) (o : ℕ) (q : Qual) → amplifies o q ≡ true → Owned o (read ρ q)
 unfolding amplifies read base
 amplified-owned ρ o integer h = absurd (false≢true h)
@@ -93,28 +102,18 @@ amplified-owned ρ o (array r e) h = absurd (false≢true h)
 amplified-owned ρ o (declared t r) h = let z = record-base o t h in record { there = z .0; base-is = z .1 }
 amplified-owned ρ o (generic t l) h = absurd (false≢true h)
 
-pub amplified-alike : (ρ : Qual) (o : ℕ) (a b : Qual) → amplifies o a ≡ true → amplifies o b ≡ true → alike (read ρ a) (read ρ b) ≡ true
-unfolding amplifies read alike
-amplified-alike ρ o integer b x y = absurd (false≢true x)
-amplified-alike ρ o (array r e) b x y = absurd (false≢true x)
-amplified-alike ρ o (generic t l) b x y = absurd (false≢true x)
-amplified-alike ρ o (declared t r) integer x y = absurd (false≢true y)
-amplified-alike ρ o (declared t r) (array s f) x y = absurd (false≢true y)
-amplified-alike ρ o (declared t r) (generic u m) x y = absurd (false≢true y)
-amplified-alike ρ o (declared t r) (declared u s) x y = eq-eqb t u (record-base o t x .1 ∙ sym (record-base o u y .1))
-
 -- ---- which kind a value of a declared type has
 
 -- an integer is no object
 pub not-object : (q : Qual) (x : Head watched) → isInteger q ≡ true → fits q (kind-of-head x) ≡ true → ⊥
 unfolding fits
-not-object q (array-head e n) i h = let z = array-base q (both-true (isArray q) (same e (element q)) h .0) in omega (arith, integer-base q i)
+not-object q (array-head e n) i h = let z = array-base q (both-true (isArray q) (asked q e) h .0) in omega (arith, integer-base q i)
 not-object q (record-head t n) i h = let z = record-base t (base q) h in omega (arith, integer-base q i)
 not-object q no-head i h = false≢true h
 
-pub array-element : (q e : Qual) → fits q (array-kind e) ≡ true → same e (element q) ≡ true
+pub array-element : (q e : Qual) → fits q (array-kind e) ≡ true → elements (has store-right (rights q)) e (element q) ≡ true
 unfolding fits
-array-element q e h = both-true (isArray q) (same e (element q)) h .1
+array-element q e h = both-true (isArray q) (asked q e) h .1
 
 pub array-not-integer : (q : Qual) → isArray q ≡ true → fits q integer-kind ≡ true → ⊥
 unfolding fits
@@ -134,7 +133,7 @@ owned-not-integer o q w h = omega (arith, integer-base q h)
 
 pub owned-not-array : (o : ℕ) (q e : Qual) → Owned o q → fits q (array-kind e) ≡ true → ⊥
 unfolding fits
-owned-not-array o q e w h = omega (arith, array-base q (both-true (isArray q) (same e (element q)) h .0))
+owned-not-array o q e w h = omega (arith, array-base q (both-true (isArray q) (asked q e) h .0))
 
 -- a value of the owner's type is a record of it
 pub owned-kind : (o : ℕ) (q : Qual) (k : Kind watched) → Owned o q → fits q k ≡ true → k ≡ record-kind o
@@ -151,7 +150,7 @@ owned-record o q k w h = rw (owned-kind o q k w h) (both (leb 2 o) (eqb o o) (le
 
 pub new-array-fits : (q : Qual) → isArray q ≡ true → fits q (array-kind (element q)) ≡ true
 unfolding fits
-new-array-fits q a = both (isArray q) (same (element q) (element q)) a (same-refl (element q))
+new-array-fits q a = both (isArray q) (asked q (element q)) a (elements-refl (has store-right (rights q)) (element q))
 
 pub new-record-fits : (o : ℕ) (q : Qual) → Owned o q → fits q (record-kind o) ≡ true
 unfolding fits

@@ -101,7 +101,7 @@ module _ (m : Mode) (g : Program) where
     plan-stays (Take a) h = after _ _ λ n. after _ _ λ d. yield h
     plan-stays (Put a) h = after _ _ λ n. behind _ (yield h)
     plan-stays (NewArray a b) h = after _ _ λ n. behind _ (behind _ (after _ _ λ r. yield h))
-    plan-stays (Fetch a b c) h = after _ _ λ x. after _ _ λ y. after _ _ λ o. after _ _ λ j. behind _ (behind _ (after _ _ λ d. yield h))
+    plan-stays (Fetch a b c) h = after _ _ λ x. after _ _ λ y. after _ _ λ o. after _ _ λ j. behind _ (behind _ (after _ _ λ e. after _ _ λ d. yield h))
     plan-stays (Store a b c) h = after _ _ λ x. after _ _ λ y. after _ _ λ o. after _ _ λ j. behind _ (behind _ (after _ _ λ z. after _ _ λ r. yield h))
     plan-stays (Size a b) h = after _ _ λ x. after _ _ λ o. behind _ (after _ _ λ d. yield h)
     plan-stays (NewRecord a) h = behind _ (after _ _ λ r. yield (h .1))

@@ -271,6 +271,7 @@ module _ (m : Mode) (g : Program) (v : View m) where
       and-then (integer-comes (y .0)) λ i.
       and-do (licence-comes m _ (x .1))
       (and-test past-end tt _ λ e.
+      and-then (moved-comes _ _) λ s.
       and-then (moved-comes _ _) λ d.
       goes tt)
 

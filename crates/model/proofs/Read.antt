@@ -1,12 +1,13 @@
 -- Types with ?R as a frame reads them: what check asks of a type as its procedure reads it holds of the type in every frame of the procedure.
 use mathlib.Core.Path.{_≡_, refl, ap, sym, subst, _∙_}
-use mathlib.Core.Bool.{true, false, false≢true}
+use mathlib.Core.Bool.{Bool, true, false, false≢true, _&&_, cond}
 use borrow.Author.Tests.{eq-eqb}
-use Rattle.model.specs.Rights.{Rights, within, has, open-right}
-use Rattle.model.specs.Qualified.{Qual, integer, array, declared, generic, base, rights, element, isInteger, isArray, isGeneric, same, alike, covers}
+use Rattle.model.specs.Rights.{Rights, within, has, open-right, store-right}
+use Rattle.model.specs.Qualified.{Qual, integer, array, declared, generic, base, rights, element, isInteger, isArray, isGeneric, same, alike, covers, order}
 use Rattle.model.specs.Generic.{Bound, bound-base, least, own, instance, read, uses}
 use Rattle.model.proofs.Rights.{within-refl, within-trans}
-use Rattle.model.proofs.Order.{same-sound, same-refl}
+use Rattle.model.proofs.Verdicts.{both-true}
+use Rattle.model.proofs.Order.{same-sound, same-refl, covers-within}
 
 -- a set that a frame may hold for ?R: what settles has the least rights, and open is left out
 pub record Good (b : Bound) (z : Rights) : Type 0 where
@@ -17,6 +18,15 @@ pub record Good (b : Bound) (z : Rights) : Type 0 where
 pub record Moves (s d : Qual) : Type 0 where
   pub kinds : alike s d ≡ true
   pub licensed : within (rights d) (rights s) ≡ true
+
+pub order-moves : (s d : Qual) → order s d ≡ true → Moves s d
+unfolding order
+order-moves s d h = let x = both-true (alike s d) (covers s d) h in record { kinds = x .0; licensed = covers-within s d (x .0) (x .1) }
+
+-- either of two facts, whichever is asked, from the one before
+either-from : (t : Bool) {x y x′ y′ : Bool} → (x ≡ true → x′ ≡ true) → (y ≡ true → y′ ≡ true) → cond t x y ≡ true → cond t x′ y′ ≡ true
+either-from true p q h = p h
+either-from false p q h = q h
 
 -- ---- Any reading
 
@@ -104,6 +114,14 @@ module _ (b : Bound) (z : Rights) where
       equal : read (instance b z) e ≡ read (instance b z) f
       equal = sym (again e) ∙ ap (read (instance b z)) (same-sound (read (own b) e) (read (own b) f) h) ∙ again f
 
+  -- a frame reads no type as ?R
+  moves-ordered : (s d : Qual) → Moves (read (instance b z) s) (read (instance b z) d) → order (read (instance b z) s) (read (instance b z) d) ≡ true
+  unfolding order covers
+  moves-ordered s d m = rw (m .kinds, no-name d) (m .licensed)
+    where
+      no-name : (q : Qual) → isGeneric (read (instance b z) q) ≡ false
+      no-name q = unfold read instance isGeneric in elim q [ integer ↦ refl | array r e ↦ refl | declared t r ↦ refl | generic t l ↦ refl ]
+
   module _ (good : Good b z) where
     -- a frame has every right that its procedure counts on
     pub rights-up : (q : Qual) → within (rights (read (own b) q)) (rights (read (instance b z) q)) ≡ true
@@ -117,9 +135,12 @@ module _ (b : Bound) (z : Rights) where
     pub moves-read :
         (s d : Qual) → alike (read (own b) s) (read (own b) d) ≡ true → covers (read (own b) s) (read (own b) d) ≡ true →
         Moves (read (instance b z) s) (read (instance b z) d)
-    unfolding read own instance alike covers isGeneric rights
+    unfolding read own instance alike covers isGeneric rights order
     moves-read integer integer h k = record { kinds = refl; licensed = k }
-    moves-read (array r e) (array s f) h k = record { kinds = same-read e f h; licensed = k }
+    moves-read (array r e) (array s f) h k =
+        let inside : order (read (own b) e) (read (own b) f) ≡ true → order (read (instance b z) e) (read (instance b z) f) ≡ true
+        = λ x. let y = both-true (alike (read (own b) e) (read (own b) f)) _ x in moves-ordered e f (moves-read e f (y .0) (y .1)) in
+        record { kinds = either-from (has store-right s) (same-read e f) inside h; licensed = k }
     moves-read (declared t r) (declared u s) h k = record { kinds = h; licensed = k }
     moves-read (generic t l) (declared u s) h k = record { kinds = h; licensed = within-trans s (least b) z k (good .enough) }
     moves-read (generic t l) (generic u m) h k = record { kinds = eq-eqb (bound-base b) (bound-base b) refl; licensed = within-refl z }

@@ -114,6 +114,8 @@ module _ (g : Program) (s : Sound g) (memory output : ℕ) where
 regular-not-stuck : (e : End) → Regular e → (n : ℕ) (put : List ℕ) (p i : ℕ) → e ≡ stuck-at n put p i → ⊥
 regular-not-stuck e r n put p i h = subst Regular h r
 
+-- Under the wider order of S-3 too: whoever holds a widened array lacks store, and no movement gives store back (`array-move` of Fits), so that nothing is
+-- stored through it that the array's own element does not declare (`store-ok` of Cases), and what is fetched from it is bound to what its holder declares.
 pub condition3 :
     (at : Record → ℕ) (g : Program) → Formed g → verdict (access-rules at g) ≡ Accepted → (memory : ℕ) (input output : List ℕ) (fuel : ℕ) →
     Condition3 g memory input output fuel

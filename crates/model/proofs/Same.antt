@@ -157,7 +157,7 @@ module _ {g h : Program} (formed : Formed g) (operands : Operands g) (same : Sam
       same-plan i (Take a) f x = rw (same-inner a x)
       same-plan i (Put a) f x = refl
       same-plan i (NewArray a b) f x = rw (same-inner a (x .0))
-      same-plan i (Fetch a b c) f x = rw (same-inner a (x .0))
+      same-plan i (Fetch a b c) f x = rw (same-inner a (x .0), same-inner b (x .1))
       same-plan i (Store a b c) f x = refl
       same-plan i (Size a b) f x = rw (same-inner a (x .0))
       same-plan i (NewRecord a) f x =

@@ -1,12 +1,12 @@
 -- What a call settles ?R of the procedure called to: the same in check and in a frame of the caller, read with the frame's set; and a set that a frame may hold.
 use Prim.Native.Nat.{ℕ, zero, suc, _*_, _/_, _%_}
 use mathlib.Core.Path.{_≡_, refl, ap, ap₂, sym, subst, _∙_}
-use mathlib.Core.Bool.{Bool, true, false, false≢true}
+use mathlib.Core.Bool.{Bool, true, false, false≢true, cond}
 use mathlib.Core.List.{List, [], _∷_, _++_, map, map-append}
 use native.Mathlib.Omega.{arith}
 use lib.Dec.{eqb}
 use borrow.Author.Tests.{eqb-true, eqb-false, eq-eqb, ne-eqb}
-use Rattle.model.specs.Rights.{Rights, within, has, open-right, less-open}
+use Rattle.model.specs.Rights.{Rights, within, has, open-right, store-right, less-open}
 use Rattle.model.specs.Qualified.{Qual, integer, array, declared, generic, rights, element, same, alike}
 use Rattle.model.specs.Refusal.{span}
 use Rattle.model.specs.Generic.{Bound, no-bound, at-least, bound-base, least, own, instance, read, uses, only, settles, settlings, first-or, settled, all-same, is-settled, is-enough}
@@ -216,7 +216,12 @@ module _ (b : Bound) where
   unfolding uses settles read own instance element alike
   alike-settles h integer q u a = absurd (false≢true u)
   alike-settles h (declared t r) q u a = absurd (false≢true u)
-  alike-settles {ρ} h (array r e) (array s f) u a = rw (same-sound f (read ρ e) a) (read-settles h e u)
+  alike-settles {ρ} h (array r e) (array s f) u a =
+      either-settles (has store-right r) (λ x. rw (same-sound f (read ρ e) x) (read-settles h e u)) (λ x. alike-settles h e f u (both-true (alike f (read ρ e)) _ x .0)) a
+    where
+      either-settles : (t : Bool) {x y : Bool} {A : Type 0} → (x ≡ true → A) → (y ≡ true → A) → cond t x y ≡ true → A
+      either-settles true p q k = p k
+      either-settles false p q k = q k
   alike-settles h (array r e) integer u a = absurd (false≢true a)
   alike-settles h (array r e) (declared t s) u a = absurd (false≢true a)
   alike-settles h (array r e) (generic t s) u a = absurd (false≢true a)

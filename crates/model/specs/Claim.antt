@@ -1,4 +1,4 @@
--- Condition 3 over a program (document 01, "Condition 3 is a single claim about the whole run"; document 02, S-1): what it says.
+-- Condition 3 over a program (document 01, "Condition 3 is a single claim about the whole run"; document 02, S-1 and S-3): what it says.
 use Prim.Native.Nat.{ℕ, _≤_}
 use mathlib.Core.Path.{_≡_}
 use mathlib.Core.Bool.{true, false}
@@ -22,6 +22,7 @@ heads os a = head-of (find os a)
 abbrev pub kind-in : List (Object watched) → Value → Kind watched
 kind-in os x = kind-at (heads os) x
 
+-- S-3: "A filled place holds a value of its declared type when that test passes", the watched machine's test of kind
 abbrev pub Proper : List (Object watched) → Qual → Cell watched → Type 0
 Proper os q empty = Unit {0}
 Proper os q (filled v r) = (fits q (kind-in os v) ≡ true) × (r ≡ rights q)

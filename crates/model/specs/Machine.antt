@@ -270,6 +270,7 @@ module _ (m : Mode) (g : Program) (v : View m) where
     r ← bind m (declared-as a) (record-kind (type-info m t)) (carried m (record-rights (g .named t)))
     ok (new-record a (type-info m t) (g .slots t) r)
 
+  -- S-3: "A fetched value is bound to the element of the tray variable's QT, then to a"
   unfoldable pub plan-fetch : (a b c : ℕ) → Res (Effect m)
   plan-fetch a b c = do
     x ← held (v .variable b)
@@ -278,7 +279,8 @@ module _ (m : Mode) (g : Program) (v : View m) where
     i ← as-integer m (y .0)
     licence m fetch-right (x .1)
     ensure past-end (ltb i (o .2))
-    d ← moved (declared-as a) (v .cell (o .0) i)
+    e ← moved (element (declared-as b)) (v .cell (o .0) i)
+    d ← moved (declared-as a) e
     ok (write a d)
 
   unfoldable pub plan-store : (a b c : ℕ) → Res (Effect m)

@@ -6,7 +6,7 @@ use mathlib.Core.Bool.{Bool, true, false, _&&_}
 use mathlib.Core.List.{List}
 use mathlib.Core.Option.{Option, none, some}
 use lib.Dec.{eqb, leb}
-use Rattle.model.specs.Rights.{Rights, within, has}
+use Rattle.model.specs.Rights.{Rights, within, has, store-right}
 use Rattle.model.specs.Qualified.{Qual, base, rights, element, isInteger, isArray, elements}
 use Rattle.model.specs.Generic.{Bound, own, instance, settled, is-settled, is-enough}
 use Rattle.model.specs.Rules.{amplifies}
@@ -78,10 +78,11 @@ unfoldable pub is-of : (m : Mode) → ℕ → TypeInfo m → Res (Unit {0})
 is-of plain t u = ok tt
 is-of watched t u = ensure wrong-kind (eqb u t)
 
--- "the value's type is the QT's base and, for a tray, the object's element equals the QT's"
+-- "the value's type is the QT's base and, for a tray, the object's element equals the QT's"; S-3: "The watched machine's kind test for a tray follows the
+-- same order, taken from the object's element"
 unfoldable pub fits : Qual → Kind watched → Bool
 fits q integer-kind = isInteger q
-fits q (array-kind e) = isArray q && elements e (element q)
+fits q (array-kind e) = isArray q && elements (has store-right (rights q)) e (element q)
 fits q (record-kind t) = leb 2 t && eqb (base q) t
 fits q no-kind = false
 

@@ -1,9 +1,9 @@
--- Qualified types as trees, their equality and their order (document 01, "The order of qualified types"; document 02, S-1).
+-- Qualified types as trees, their equality and their order (document 01, "The order of qualified types"; document 02, S-1 to S-3).
 -- The map from QT numbers to trees is the sheet's; two QT records of the same fields are one tree (K8).
 use mathlib.Core.Bool.{Bool, true, false, _&&_, cond}
 use Prim.Native.Nat.{ℕ}
 use lib.Dec.{eqb}
-use Rattle.model.specs.Rights.{Rights, within}
+use Rattle.model.specs.Rights.{Rights, within, has, store-right}
 
 -- "Types 0 and 1 are integer and tray" (our word: array); a declared type is a number from 2 on
 pub data Qual : Type 0 where
@@ -70,15 +70,16 @@ same (generic t l) integer = false
 same (generic t l) (array s f) = false
 same (generic t l) (declared u s) = false
 
--- how the elements of two arrays must agree: one line, for the rules (`alike`) and the watched machine's test of kind (`fits` of Modes.antt) ask the same
-abbrev pub elements : Qual → Qual → Bool
-elements e f = same e f
+-- the rights at the top: "every right of Q2 is in Q1"; "?R ≥ ?R, ?R ≥ any subset of the least set on that base, and nothing else reaches ?R"
+unfoldable pub covers : Qual → Qual → Bool
+covers a b = cond (isGeneric b) (isGeneric a) (within (rights b) (rights a))
 
--- Q1 ≥ Q2 but for the rights at the top: "the bases are equal and, for trays, the elements are equal"; ?R has the base of its bound, and two
--- with other least sets, of two procedures, are never compared
+-- Q1 ≥ Q2 but for the rights at the top: "the bases are equal and, for trays, the elements are equal"; S-3: "for trays, where Q2 lacks store, element of
+-- Q1 ≥ element of Q2 is enough in place of equal elements", so that at each level Q2's own store decides, and elements that lack a right are another kind.
+-- ?R has the base of its bound, and two with other least sets, of two procedures, are never compared.
 unfoldable pub alike : Qual → Qual → Bool
 alike integer integer = true
-alike (array r e) (array s f) = elements e f
+alike (array r e) (array s f) = cond (has store-right s) (same e f) (alike e f && covers e f)
 alike (declared t r) (declared u s) = eqb t u
 alike (generic t l) (generic u m) = eqb t u && eqb l m
 alike (generic t l) (declared u s) = eqb t u
@@ -94,11 +95,12 @@ alike (declared t r) (array s f) = false
 alike (generic t l) integer = false
 alike (generic t l) (array s f) = false
 
--- the rights at the top: "every right of Q2 is in Q1"; "?R ≥ ?R, ?R ≥ any subset of the least set on that base, and nothing else reaches ?R"
-unfoldable pub covers : Qual → Qual → Bool
-covers a b = cond (isGeneric b) (isGeneric a) (within (rights b) (rights a))
-
--- "Q1 ≥ Q2 when the bases are equal, every right of Q2 is in Q1, and, for trays, the elements are equal"; the elements, which `alike` asks, before the
--- rights around them (S-2)
+-- "Q1 ≥ Q2 when the bases are equal, every right of Q2 is in Q1", and the elements of trays are as `alike` has them: "the rest of Q1 ≥ Q2, its rights
+-- included, stands". The elements before the rights around them (S-2).
 unfoldable pub order : Qual → Qual → Bool
 order a b = alike a b && covers a b
+
+-- what is asked of the elements of two arrays, by whether the second has store: what `alike` asks of them, and the watched machine's test of kind (`fits`
+-- of Modes.antt)
+unfoldable pub elements : (stores : Bool) → Qual → Qual → Bool
+elements stores e f = cond stores (same e f) (order e f)

@@ -7,16 +7,16 @@ use native.Mathlib.Omega.{arith}
 use lib.Dec.{eqb, ltb, leb}
 use lib.ListN.{getD}
 use borrow.Author.Tests.{eqb-true, eqb-false, eq-eqb, ne-eqb, ltb-true, ltb-false, lt-ltb, le-ltb, le-leb}
-use Rattle.model.specs.Rights.{Rights}
-use Rattle.model.specs.Qualified.{Qual, base, same, alike}
+use Rattle.model.specs.Rights.{Rights, within, has, store-right}
+use Rattle.model.specs.Qualified.{Qual, base, isGeneric, same, alike, covers, order, elements}
 use Rattle.model.specs.Refusal.{failure}
 use Rattle.model.specs.Rules.{moves, amplifies}
-use Rattle.model.proofs.Order.{order-refl, moves-order}
+use Rattle.model.proofs.Order.{alike-arrays, order-refl, moves-order}
 use Rattle.index.specs.Types.{word-in, rights-of, shape-of, element-of, uses-of, of-shape, element-below, qualIn, read-word, word-as, typeIn, UsesTold}
-use Rattle.index.proofs.Trees.{Shape, an-integer, an-array, a-declared, a-generic, shape-is, qual-shaped}
+use Rattle.index.proofs.Trees.{Shape, an-integer, an-array, a-declared, a-generic, shape-is, generic-shape, rights-shape, qual-shaped}
 use Rattle.index.proofs.Uses.{unused-type}
 use Rattle.index.proofs.Reading.{base-as, none-type, raw-array, array-word, type-word-as}
-use Rattle.order.specs.Words.{same-heads, typeOf, ElementThere}
+use Rattle.order.specs.Words.{same-heads, one-named, alike-heads, covered-heads, typeOf, ElementThere}
 
 -- ---- two types by their shapes
 -- same rights, of two types of shape b; an integer has none
@@ -63,10 +63,6 @@ eqb-flip b c = go (eqb c b) refl
     go true e = eq-eqb b c (sym (eqb-true c b e))
     go false e = let z = eqb-false c b e in ne-eqb b c (λ y. z (sym y))
 
--- shapes that differ are alike where one is a declared type, the other ?R of its base
-abbrev one-named : (b c : ℕ) → Bool
-one-named b c = (leb 2 b && eqb (b + 256) c) || (leb 2 c && eqb (c + 256) b)
-
 module _ {r u : Rights} {e f : Qual} where
   -- the elements of an array first, then shape and rights
   same-shapes : {b c : ℕ} {p q : Qual} → Shape r e b p → Shape u f c q
@@ -90,8 +86,8 @@ module _ {r u : Rights} {e f : Qual} where
   same-shapes (a-generic b h) (a-generic c l) = rw (less-eqb b c h l, ne-eqb b 0 (λ z. omega arith), ne-eqb b 1 (λ z. omega arith))
 
   alike-shapes : {b c : ℕ} {p q : Qual} → Shape r e b p → Shape u f c q → b < 512 → c < 512
-      → alike p q ≡ cond (eqb b c) (cond (eqb b 1) (same e f) (ltb b 256 || eqb r u)) (one-named b c)
-  unfolding alike
+      → alike p q ≡ cond (eqb b 1 && eqb c 1) (elements (has store-right u) e f) (cond (eqb b c) (ltb b 256 || eqb r u) (one-named b c))
+  unfolding alike one-named
   alike-shapes an-integer an-integer x y = refl
   alike-shapes an-integer an-array x y = refl
   alike-shapes an-integer (a-declared c l m) x y =
@@ -99,13 +95,13 @@ module _ {r u : Rights} {e f : Qual} where
   alike-shapes an-integer (a-generic c l) x y =
       rw (ne-eqb 0 c (λ z. omega arith), le-leb 2 c (omega arith), ne-eqb (c + 256) 0 (λ z. omega arith))
   alike-shapes an-array an-integer x y = refl
-  alike-shapes an-array an-array x y = refl
+  alike-shapes an-array an-array x y = alike-arrays r u e f
   alike-shapes an-array (a-declared c l m) x y =
-      rw (ne-eqb 1 c (λ z. omega arith), le-leb 2 c l, ne-eqb (c + 256) 1 (λ z. omega arith))
+      rw (ne-eqb c 1 (λ z. omega arith), ne-eqb 1 c (λ z. omega arith), le-leb 2 c l, ne-eqb (c + 256) 1 (λ z. omega arith))
   alike-shapes an-array (a-generic c l) x y =
-      rw (ne-eqb 1 c (λ z. omega arith), le-leb 2 c (omega arith), ne-eqb (c + 256) 1 (λ z. omega arith))
+      rw (ne-eqb c 1 (λ z. omega arith), ne-eqb 1 c (λ z. omega arith), le-leb 2 c (omega arith), ne-eqb (c + 256) 1 (λ z. omega arith))
   alike-shapes (a-declared b h k) an-integer x y =
-      rw (ne-eqb b 0 (λ z. omega arith), le-leb 2 b h, ne-eqb (b + 256) 0 (λ z. omega arith))
+      rw (ne-eqb b 1 (λ z. omega arith), ne-eqb b 0 (λ z. omega arith), le-leb 2 b h, ne-eqb (b + 256) 0 (λ z. omega arith))
   alike-shapes (a-declared b h k) an-array x y =
       rw (ne-eqb b 1 (λ z. omega arith), le-leb 2 b h, ne-eqb (b + 256) 1 (λ z. omega arith))
   alike-shapes (a-declared b h k) (a-declared c l m) x y =
@@ -116,13 +112,13 @@ module _ {r u : Rights} {e f : Qual} where
       as-it-is true = refl
       as-it-is false = refl
   alike-shapes (a-declared b h k) (a-generic c l) x y =
-      rw (more-eqb b c l, ne-eqb b c (λ z. omega arith), le-leb 2 b h, le-leb 2 c (omega arith), ne-eqb (c + 256) b (λ z. omega arith)) (or-no (eqb (b + 256) c))
+      rw (more-eqb b c l, ne-eqb b 1 (λ z. omega arith), ne-eqb b c (λ z. omega arith), le-leb 2 b h, le-leb 2 c (omega arith), ne-eqb (c + 256) b (λ z. omega arith)) (or-no (eqb (b + 256) c))
   alike-shapes (a-generic b h) an-integer x y =
-      rw (ne-eqb b 0 (λ z. omega arith), le-leb 2 b (omega arith), ne-eqb (b + 256) 0 (λ z. omega arith))
+      rw (ne-eqb b 1 (λ z. omega arith), ne-eqb b 0 (λ z. omega arith), le-leb 2 b (omega arith), ne-eqb (b + 256) 0 (λ z. omega arith))
   alike-shapes (a-generic b h) an-array x y =
       rw (ne-eqb b 1 (λ z. omega arith), le-leb 2 b (omega arith), ne-eqb (b + 256) 1 (λ z. omega arith))
   alike-shapes (a-generic b h) (a-declared c l m) x y =
-      rw (ne-eqb b c (λ z. omega arith), le-leb 2 b (omega arith), le-leb 2 c l, ne-eqb (b + 256) c (λ z. omega arith)) (eqb-flip (b - 256) c ∙ more-eqb c b h)
+      rw (ne-eqb b 1 (λ z. omega arith), ne-eqb b c (λ z. omega arith), le-leb 2 b (omega arith), le-leb 2 c l, ne-eqb (b + 256) c (λ z. omega arith)) (eqb-flip (b - 256) c ∙ more-eqb c b h)
   alike-shapes (a-generic b h) (a-generic c l) x y =
       rw (less-eqb b c h l, ne-eqb b 1 (λ z. omega arith), le-ltb b 256 h, le-leb 2 b (omega arith), le-leb 2 c (omega arith), ne-eqb (b + 256) c (λ z. omega arith), ne-eqb (c + 256) b (λ z. omega arith))
       (and-if (eqb b c) (eqb r u) false (λ z. refl))
@@ -219,15 +215,70 @@ module _ (t : List ℕ) where
   same-others m i v n j w h =
       same-words m i v n j w ∙ rw (ne-eqb (shape-of (read-word m v)) 1 (λ z. h (ap shape-of (sym (array-read m v z)) ∙ z)))
 
-  pub alike-words : (m i n j : ℕ) → alike (typeIn t m i) (typeIn t n j)
-      ≡ cond (eqb (shape-of (word-as t m i)) (shape-of (word-as t n j)))
-      (cond (eqb (shape-of (word-as t m i)) 1)
-      (same (typeIn t m (element-below (word-as t m i) i)) (typeIn t n (element-below (word-as t n j) j)))
-      (ltb (shape-of (word-as t m i)) 256 || eqb (rights-of (word-as t m i)) (rights-of (word-as t n j))))
-      (one-named (shape-of (word-as t m i)) (shape-of (word-as t n j)))
-  alike-words m i n j =
-      ap₂ alike (type-word-as t m i) (type-word-as t n j)
-      ∙ alike-shapes (shape-is _ _ _) (shape-is _ _ _) (shape-small (word-as t m i)) (shape-small (word-as t n j))
+  -- kinds and rights of a movement, by the words as they are read
+  abbrev asked : (m i v n j w : ℕ) → Bool
+  asked m i v n j w = elements (has store-right (rights-of w)) (typeIn t m (element-below v i)) (typeIn t n (element-below w j))
+
+  alike-words : (m i v n j w : ℕ) → alike (typeOf t m i v) (typeOf t n j w)
+      ≡ cond (eqb (shape-of (read-word m v)) 1 && eqb (shape-of (read-word n w)) 1)
+      (asked m i (read-word m v) n j (read-word n w)) (alike-heads (read-word m v) (read-word n w))
+  unfolding alike-heads typeOf
+  alike-words m i v n j w = alike-shapes (shape-is _ _ _) (shape-is _ _ _) (shape-small _) (shape-small _)
+
+  covers-words : (m i v n j w : ℕ) → covers (typeOf t m i v) (typeOf t n j w) ≡ covered-heads (read-word m v) (read-word n w)
+  unfolding covers covered-heads typeOf
+  covers-words m i v n j w = rw (generic-shape _ _ _, generic-shape _ _ _, rights-shape _ _ _, rights-shape _ _ _)
+
+  moves-words : (m i n j : ℕ) → failure (moves (typeIn t m i) (typeIn t n j))
+      ≡ cond (cond (eqb (shape-of (word-as t m i)) 1 && eqb (shape-of (word-as t n j)) 1)
+      (asked m i (word-as t m i) n j (word-as t n j)) (alike-heads (word-as t m i) (word-as t n j)))
+      (cond (covered-heads (word-as t m i) (word-as t n j)) 0 9) 8
+  unfolding failure moves word-as
+  moves-words m i n j =
+      let k = ap₂ alike (type-of m i) (type-of n j) ∙ alike-words m i (word-in t i) n j (word-in t j) in
+      let c = ap₂ covers (type-of m i) (type-of n j) ∙ covers-words m i (word-in t i) n j (word-in t j) in
+      rw (k, c)
+
+  module _ (m i n j : ℕ) {v w : ℕ} (at-v : v ≡ word-as t m i) (at-w : w ≡ word-as t n j) where
+    -- of two arrays: the elements, then the rights around them
+    pub moves-arrays : shape-of v ≡ 1 → shape-of w ≡ 1 → failure (moves (typeIn t m i) (typeIn t n j)) ≡ cond (asked m i v n j w) (cond (within (rights-of w) (rights-of v)) 0 9) 8
+    unfolding covered-heads
+    moves-arrays b c = moves-words m i n j ∙ rw (sym at-v, sym at-w, b, c)
+
+    pub moves-others : eqb (shape-of v) 1 && eqb (shape-of w) 1 ≡ false → failure (moves (typeIn t m i) (typeIn t n j)) ≡ cond (alike-heads v w) (cond (covered-heads v w) 0 9) 8
+    moves-others h = moves-words m i n j ∙ rw (sym at-v, sym at-w, h)
+
+  -- ≥ of an array, and of other types, by their words
+  order-words : (m i v n j w : ℕ) → order (typeOf t m i v) (typeOf t n j w)
+      ≡ cond (eqb (shape-of (read-word m v)) 1 && eqb (shape-of (read-word n w)) 1)
+      (asked m i (read-word m v) n j (read-word n w)) (alike-heads (read-word m v) (read-word n w))
+      && covered-heads (read-word m v) (read-word n w)
+  unfolding order
+  order-words m i v n j w = rw (alike-words m i v n j w, covers-words m i v n j w)
+
+  pub order-arrays : (m i v n j w : ℕ) → shape-of v ≡ 1
+      → order (typeOf t m i v) (typeOf t n j w) ≡ asked m i v n j w && (eqb (shape-of w) 1 && within (rights-of w) (rights-of v))
+  unfolding one-named alike-heads covered-heads
+  order-arrays m i v n j w b = order-words m i v n j w ∙ rw (read-array m v b) (go (eqb (shape-of w) 1) refl)
+    where
+      never : (a x : Bool) → (a && false) && x ≡ asked m i v n j w && false
+      never true x = and-no (asked m i v n j w)
+      never false x = and-no (asked m i v n j w)
+
+      go : (u : Bool) → eqb (shape-of w) 1 ≡ u
+          → cond (eqb (shape-of v) 1 && eqb (shape-of (read-word n w)) 1) (asked m i v n j (read-word n w)) (alike-heads v (read-word n w))
+          && covered-heads v (read-word n w)
+          ≡ asked m i v n j w && (u && within (rights-of w) (rights-of v))
+      go true c = let o = eqb-true _ 1 c in rw (read-array n w o, o, b)
+      go false c =
+          let k = eqb-false _ 1 c in
+          let x : shape-of (read-word n w) ≡ 1 → ⊥ = λ z. k (ap shape-of (sym (array-read n w z)) ∙ z) in
+          rw (ne-eqb _ 1 x, b, ne-eqb 1 _ (λ z. x (sym z)), ne-eqb (shape-of (read-word n w) + 256) 1 (λ z. omega arith)) (never (leb 2 (shape-of (read-word n w))) _)
+
+  pub order-others : (m i v n j w : ℕ) → (shape-of v ≡ 1 → ⊥)
+      → order (typeOf t m i v) (typeOf t n j w) ≡ alike-heads (read-word m v) (read-word n w) && covered-heads (read-word m v) (read-word n w)
+  order-others m i v n j w h =
+      order-words m i v n j w ∙ rw (ne-eqb (shape-of (read-word m v)) 1 (λ z. h (ap shape-of (sym (array-read m v z)) ∙ z)))
 
   -- the base of a type, in its shape
   pub base-part : (n j : ℕ) → base (typeIn t n j) ≡ shape-of (word-as t n j) % 256

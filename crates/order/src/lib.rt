@@ -10,17 +10,19 @@ use index::types::type_word;
 use index::types::type_word_as;
 use index::types::uses_name;
 use index::types::word_read;
+use rights::has_right;
 use rights::is_within;
 ghost use mathlib.Core.Path.{_≡_};
-ghost use mathlib.Core.Bool.{true, cond, _&&_};
+ghost use mathlib.Core.Bool.{Bool, true, cond, _&&_};
 ghost use lib.Dec.{eqb};
 ghost use mathlib.Core.List.{List};
 ghost use Prim.Native.Nat.{ℕ};
-ghost use Rattle.model.specs.Qualified.{same, alike, covers, order};
+ghost use Rattle.model.specs.Rights.{within};
+ghost use Rattle.model.specs.Qualified.{same, order, elements};
 ghost use Rattle.model.specs.Refusal.{failure};
 ghost use Rattle.model.specs.Rules.{moves, owned-by, amplifies};
-ghost use Rattle.index.specs.Types.{word-in, shape-of, element-below, qualIn, typeIn, word-as, UsesTold};
-ghost use Rattle.order.specs.Words.{same-heads, typeOf, ElementThere};
+ghost use Rattle.index.specs.Types.{word-in, shape-of, rights-of, element-below, qualIn, typeIn, word-as, UsesTold};
+ghost use Rattle.order.specs.Words.{same-heads, alike-heads, covered-heads, typeOf, ElementThere};
 
 // Of the owner's type; owner 0 is none. ?R has the base that it is read with.
 pub fn is_owned(index: &Index, name: u64, owner: u8, j: u8) -> bool
@@ -79,27 +81,13 @@ fn equal_in(index: &Index, m: u64, i: u8, v: u64, n: u64, j: u8, w: u64) -> bool
     is_same_head(word_read(m, v), word_read(n, w))
 }
 
-// Two names of one QT, read alike, are equal at once.
-pub fn equal(index: &Index, m: u64, i: u8, n: u64, j: u8) -> bool
-    ensures { λ r. ⌜ r ≡ same (typeIn (now (index .entry)) m i) (typeIn (now (index .entry)) n j) ⌝ }
-{
-    if (i == j) & (m == n) {
-        return true;
-    }
-    equal_in(index, m, i, type_word(index, i), n, j, type_word(index, j))
-}
-
-// Equal shapes and, for arrays, equal elements; ?R and a type of its base. v and w are the words of the two types, as they are read.
-fn is_alike(index: &Index, m: u64, i: u8, v: u64, n: u64, j: u8, w: u64) -> bool
-    requires { ⌜ (v ≡ word-as (now index) m i) × (w ≡ word-as (now index) n j) ⌝ }
-    ensures { λ r. ⌜ r ≡ alike (typeIn (now (index .entry)) m i) (typeIn (now (index .entry)) n j) ⌝ }
+// Equal shapes, or ?R and a type of its base: all there is to ask but of the elements of two arrays. v and w are the words of two types, as they are read.
+fn is_alike_head(v: u64, w: u64) -> bool
+    ensures { λ r. ⌜ r ≡ alike-heads v w ⌝ }
 {
     let b = shape_in(v);
     let c = shape_in(w);
     if b == c {
-        if b == 1 {
-            return equal(index, m, element_in(v, i), n, element_in(w, j));
-        }
         return (b < 256) | (rights_in(v) == rights_in(w));
     }
     (2 <= b) & (b + 256 == c) | (2 <= c) & (c + 256 == b)
@@ -107,7 +95,7 @@ fn is_alike(index: &Index, m: u64, i: u8, v: u64, n: u64, j: u8, w: u64) -> bool
 
 // The rights of the type of a word, w, are among those of another, v; only ?R reaches ?R.
 fn is_covered(v: u64, w: u64) -> bool
-    ensures { λ r. ⌜ ((t : List ℕ) (m i n j : ℕ) → v ≡ word-as t m i → w ≡ word-as t n j → r ≡ covers (typeIn t m i) (typeIn t n j)) ⌝ }
+    ensures { λ r. ⌜ r ≡ covered-heads v w ⌝ }
 {
     if shape_in(w) < 256 {
         return is_within(rights_by(w), rights_by(v));
@@ -115,19 +103,100 @@ fn is_covered(v: u64, w: u64) -> bool
     256 <= shape_in(v)
 }
 
-// The refusal of a movement between two types, by their words: here too the elements of arrays come before the rights around them.
+// An array whose rights are among those of another, v.
+fn is_array_above(v: u64, w: u64) -> bool
+    ensures { λ r. ⌜ r ≡ (eqb (shape-of w) 1 && within (rights-of w) (rights-of v)) ⌝ }
+{
+    (shape_in(w) == 1) & is_within(rights_in(w), rights_in(v))
+}
+
+// What is asked of the elements of two arrays, by whether the second array has store (document 02, S-3): with it they are equal, all the way down; without it
+// they are ≥, and where they are arrays themselves their own store tells what is asked below. From the inside out as `equal_in` is.
+fn agree_in(index: &Index, stores: bool, m: u64, i: u8, v: u64, n: u64, j: u8, w: u64) -> bool
+    requires { ⌜ ElementThere v i × ElementThere w j ⌝ }
+    ensures { λ r. ⌜ r ≡ elements stores (typeOf (now (index .entry)) m i v) (typeOf (now (index .entry)) n j w) ⌝ }
+{
+    if stores {
+        return equal_in(index, m, i, v, n, j, w);
+    }
+    if shape_in(v) == 1 {
+        let from = element_word(index, v, i);
+        let to = element_word(index, w, j);
+        let below = has_right(2, rights_in(w));
+        return agree_in(
+            index,
+            below,
+            m,
+            element_number(v),
+            from,
+            n,
+            element_number(w),
+            to,
+        )
+            & is_array_above(v, w);
+    }
+    let x = word_read(m, v);
+    let y = word_read(n, w);
+    is_alike_head(x, y) & is_covered(x, y)
+}
+
+// The same of QT i and QT j. Two names of one QT, read alike, agree at once.
+pub fn elements_agree(index: &Index, stores: bool, m: u64, i: u8, n: u64, j: u8) -> bool
+    ensures { λ r. ⌜ r ≡ elements stores (typeIn (now (index .entry)) m i) (typeIn (now (index .entry)) n j) ⌝ }
+{
+    if (i == j) & (m == n) {
+        return true;
+    }
+    agree_in(
+        index,
+        stores,
+        m,
+        i,
+        type_word(index, i),
+        n,
+        j,
+        type_word(index, j),
+    )
+}
+
+pub fn equal(index: &Index, m: u64, i: u8, n: u64, j: u8) -> bool
+    ensures { λ r. ⌜ r ≡ same (typeIn (now (index .entry)) m i) (typeIn (now (index .entry)) n j) ⌝ }
+{
+    elements_agree(index, true, m, i, n, j)
+}
+
+// The rest where a test holds, else a refusal.
+pub fn require(holds: bool, number: u8, rest: u8) -> u8
+    ensures { λ r. ⌜ r ≡ cond holds rest number ⌝ }
+{
+    if holds { rest } else { number }
+}
+
+// The refusal of a movement between two arrays, by their words: the elements come before the rights around them.
+fn array_movement(index: &Index, m: u64, i: u8, v: u64, n: u64, j: u8, w: u64) -> u8
+    requires { ⌜ (v ≡ word-as (now index) m i) × (w ≡ word-as (now index) n j) ⌝ }
+    requires { ⌜ (shape-of v ≡ 1) × (shape-of w ≡ 1) ⌝ }
+    ensures { λ r. ⌜ r ≡ failure (moves (typeIn (now (index .entry)) m i) (typeIn (now (index .entry)) n j)) ⌝ }
+{
+    let stores = has_right(2, rights_in(w));
+    let alike = elements_agree(index, stores, m, element_in(v, i), n, element_in(w, j));
+    require(
+        alike,
+        8,
+        require(is_within(rights_in(w), rights_in(v)), 9, 0),
+    )
+}
+
+// The refusal of a movement between two types, by their words.
 fn movement_of_words(index: &Index, m: u64, i: u8, n: u64, j: u8) -> u8
     ensures { λ r. ⌜ r ≡ failure (moves (typeIn (now (index .entry)) m i) (typeIn (now (index .entry)) n j)) ⌝ }
 {
     let v = type_word_as(index, m, i);
     let w = type_word_as(index, n, j);
-    if is_alike(index, m, i, v, n, j, w) {
-        if is_covered(v, w) {
-            return 0;
-        }
-        return 9;
+    if (shape_in(v) == 1) & (shape_in(w) == 1) {
+        return array_movement(index, m, i, v, n, j, w);
     }
-    8
+    require(is_alike_head(v, w), 8, require(is_covered(v, w), 9, 0))
 }
 
 // A QT read alike as two names, as one without ?R always is.
@@ -159,11 +228,4 @@ pub fn is_above(index: &Index, m: u64, i: u8, n: u64, j: u8) -> bool
     ensures { λ r. ⌜ r ≡ order (typeIn (now (index .entry)) m i) (typeIn (now (index .entry)) n j) ⌝ }
 {
     movement(index, m, i, n, j) == 0
-}
-
-// The rest where a test holds, else a refusal.
-pub fn require(holds: bool, number: u8, rest: u8) -> u8
-    ensures { λ r. ⌜ r ≡ cond holds rest number ⌝ }
-{
-    if holds { rest } else { number }
 }

@@ -9,7 +9,7 @@ use lib.Dec.{eqb, ltb}
 use lib.ListN.{getD}
 use borrow.Author.Tests.{lt-ltb, le-ltb, ltb-true, eqb-true, eqb-false}
 use Rattle.model.specs.Outcome.{Res, ok, stop, stuck, blank, past-end, _>>=_, _>>_, ensure}
-use Rattle.model.specs.Qualified.{Qual}
+use Rattle.model.specs.Qualified.{Qual, element as element-type}
 use Rattle.model.specs.Program.{Program}
 use Rattle.model.specs.Modes.{plain, amiss, licence, is-of, bind, bind-element}
 use Rattle.model.specs.Machine.{Value, word, object, Cell, empty, filled, Head, array-head, record-head, no-head, View, Effect, write, store, held, as-integer, array-head-of, record-head-of, array-at, record-at, kind-of, declared-as, moved, give, gives, integers, one-integer, slot-there, plan-size}
@@ -202,8 +202,15 @@ module _ (g : Program) (v : View plain) (right b c : ℕ) (k : ℕ × Unit {0} �
         by (inr e) = inr (ap head-size (e .0), e .1 ∙ rw (lt-ltb i n below))
 
 -- what is fetched from there, and what is stored there
-abbrev pub fetching : (g : Program) (v : View plain) (a : ℕ) → ℕ × Unit {0} × ℕ → ℕ → Res (Effect plain)
-fetching g v a o i = moving plain g v (declared-as plain g v a) a (v .cell (o .0) i)
+abbrev pub fetching : (g : Program) (v : View plain) (a b : ℕ) → ℕ × Unit {0} × ℕ → ℕ → Res (Effect plain)
+fetching g v a b o i = moved plain g v (element-type (declared-as plain g v b)) (v .cell (o .0) i) >>= λ e. moving plain g v (declared-as plain g v a) a e
+
+-- without rights, to be bound twice is to be bound once
+pub fetching-once : (g : Program) (v : View plain) (p q : Qual) (a : ℕ) (c : Cell plain)
+    → (moved plain g v p c >>= λ e. moving plain g v q a e) ≡ moving plain g v q a c
+unfolding moved held bind _>>=_
+fetching-once g v p q a empty = refl
+fetching-once g v p q a (filled x r) = refl
 
 module _ (g : Program) (v : View plain) (c o i : ℕ) where
   abbrev pub storing : Res (Effect plain)

@@ -14,20 +14,21 @@ use borrow.Author.Tests.{lt-ltb, le-ltb, eqb-true, eq-eqb, eqb-false}
 use Rattle.model.specs.Rights.{Rights, within, has, none-above, record-rights, fetch-right, store-right, size-right, open-right}
 use Rattle.model.specs.Qualified.{Qual, integer, array, declared, generic, rights, element, isInteger, isArray}
 use Rattle.model.specs.Outcome.{blank, past-end, wrong-kind, missing-right, Res, ok, stop, stuck, _>>=_, _>>_, ensure}
+use Rattle.model.specs.Generic.{read}
 use Rattle.model.specs.Program.{Program}
 use Rattle.model.specs.Rules.{owned-by}
 use Rattle.model.specs.Modes.{watched, Kind, array-kind, record-kind, amiss, demand, licence, is-of, fits, bind, bind-element}
 use Rattle.model.specs.Machine.{Value, word, Cell, empty, filled, Head, View, Effect, write, held, as-integer, array-head-of, record-head-of, array-at, record-at, read-in, declared-as, moved, give, gives, integers, one-integer, slot-there, plan, plan-fetch, plan-store, plan-size, plan-get, plan-set}
 use Rattle.model.proofs.Verdicts.{both-true}
-use Rattle.model.proofs.Order.{same-refl}
+use Rattle.model.proofs.Order.{elements-refl}
 use Rattle.model.proofs.Rights.{within-refl, within-all}
 use Rattle.sheet.specs.Layout.{innerAt, slotOf}
-use Rattle.sheet.specs.Meaning.{programOf}
-use Rattle.index.specs.Types.{qualIn, typeIn}
+use Rattle.sheet.specs.Meaning.{qualOf, programOf}
+use Rattle.index.specs.Types.{qualIn, named-as, typeIn}
 use Rattle.index.specs.Indexed.{Ready}
 use Rattle.index.specs.Scope.{innerAs}
 use Rattle.index.specs.declared.procedures.Scope.{Scope}
-use Rattle.index.proofs.Reading.{type-integer, type-array, inner-read, slot-read, inner-type, slot-type}
+use Rattle.index.proofs.Reading.{type-integer, type-array, type-read, inner-read, slot-read, inner-type, slot-type}
 use Rattle.words.specs.Word.{tag, low, payload, size-of, info-of as kind-number, cell, slot-in, as-head}
 use Rattle.words.specs.Sees.{head-size, Sees}
 use Rattle.words.specs.Answer.{read-as}
@@ -65,6 +66,11 @@ module _ (s : List ℕ) (p : Scope) (a : ℕ) {t : List ℕ} {q : ℕ} (ready : 
 
   pub declared-type : (v : View watched) → InScope s v p → declared-as watched (programOf s) v a ≡ typeIn t (p .name) q
   declared-type v in-scope = sym (type-in ∙ inner-read in-scope a)
+
+-- the element of that type, by the number that stands for it
+pub declared-element : (s : List ℕ) (v : View watched) (p : Scope) {t : List ℕ} → Ready s t → InScope s v p → (a e : ℕ)
+    → read (named-as (p .name)) (qualOf s e) ≡ element (innerAs s p a) → element (declared-as watched (programOf s) v a) ≡ typeIn t (p .name) e
+declared-element s v p ready in-scope a e means = sym (type-read ready (p .name) e ∙ means ∙ ap element (inner-read in-scope a))
 
 -- the type of a slot of the owner's, in the same way
 pub slot-declared : (s : List ℕ) (v : View watched) {p : Scope} {t : List ℕ} {q : ℕ} → Ready s t → InScope s v p → (o k : ℕ) → q ≡ slotOf s o k
@@ -398,9 +404,13 @@ module _ (g : Program) (v : View watched) (q : ℕ → Qual) (h : List ℕ) (rig
 
 -- ---- fetch and store: an element, and what comes after it
 
+-- bound to the element of the array variable's type, then to a's
+abbrev fetched : Program → View watched → (e q : Qual) → Cell watched → Res (Cell watched)
+fetched g v e q c = moved watched g v e c >>= λ d. moved watched g v q d
+
 fetch-plan : (g : Program) (v : View watched) (a b c : ℕ)
     → plan watched g v (Op.Fetch a b c)
-    ≡ (element-at g v fetch-right b c >>= λ p. moved watched g v (declared-as watched g v a) (v .cell (p .0) (p .2)) >>= λ d. ok (write a d))
+    ≡ (element-at g v fetch-right b c >>= λ p. fetched g v (element (declared-as watched g v b)) (declared-as watched g v a) (v .cell (p .0) (p .2)) >>= λ d. ok (write a d))
 unfolding plan plan-fetch element-at index-of
 fetch-plan g v a b c = sym (simp (bind-assoc, then-assoc, bind-ok))
 
@@ -420,16 +430,16 @@ pub inside-spot : {h : List ℕ} {p : Spot} {o i : ℕ} → p ≡ S.At o i → S
 inside-spot told here = rw told at here
 
 module _ (q : ℕ → Qual) (g : Program) (v : View watched) (f h : List ℕ) (a b c : ℕ) {p : Spot} (is : element-as q h p ≡ element-at g v fetch-right b c) where
-  pub fetch-at : (r : Moved) {o i w : ℕ} {t : Qual} → p ≡ S.At o i → SpotOk h p → Sees watched q v f h
-      → declared-as watched g v a ≡ t → w ≡ getD h (o + 1 + i) 0
-      → ((d : Cell watched) → slot-in watched q w ≡ cell d → moved-cell q r ≡ moved watched g v t d)
+  pub fetch-at : (r : Moved) {o i w : ℕ} {t u : Qual} → p ≡ S.At o i → SpotOk h p → Sees watched q v f h
+      → declared-as watched g v a ≡ t → element (declared-as watched g v b) ≡ u → w ≡ getD h (o + 1 + i) 0
+      → ((d : Cell watched) → slot-in watched q w ≡ cell d → moved-cell q r ≡ fetched g v u t d)
       → moved-to watched q a r ≡ plan watched g v (Op.Fetch a b c)
   unfolding element-as _>>=_
-  fetch-at r {o} {i} {w} told here s dec at rest =
+  fetch-at r {o} {i} {w} told here s dec dec-b at rest =
       let spot : element-at g v fetch-right b c ≡ ok (o, element-in q (getD h o 0), i) = sym is ∙ ap (element-as q h) told in
       moved-into q a r
       ∙ ap (λ (m : Res (Cell watched)). m >>= λ d. ok (write a d)) (rest _ (cell-seen q v f h o i w s (inside-spot told here) at))
-      ∙ sym (fetch-plan g v a b c ∙ rw (spot, dec))
+      ∙ sym (fetch-plan g v a b c ∙ rw (spot, dec, dec-b))
 
   pub fetch-halt : {k : ℕ} → p ≡ S.Halt k → moved-to watched q a (M.Halt k) ≡ plan watched g v (Op.Fetch a b c)
   unfolding element-as moved-to
@@ -687,7 +697,7 @@ record-fits o q is told = sym is ∙ told
 -- a new array has its type's element
 pub array-fits : (q : Qual) {t u : Bool} → t ≡ isArray q → t ≡ u → fits q (array-kind (element q)) ≡ u
 unfolding fits
-array-fits q {t} {u} is told = rw (sym is ∙ told, same-refl (element q)) (both-of u)
+array-fits q {t} {u} is told = rw (sym is ∙ told, elements-refl (has store-right (rights q)) (element q)) (both-of u)
   where
     both-of : (u : Bool) → u && true ≡ u
     both-of true = refl

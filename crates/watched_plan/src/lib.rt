@@ -1,5 +1,6 @@
 // What each instruction of the watched machine asks for, with every test of kind and right, found by reading alone: f is the running frame's part of the
 // memory, h the objects' part, p the scope in which it reads its types. Every test reads carried rights.
+use binding::bind_through;
 use binding::bind_word;
 use binding::object_name;
 use index::Index;
@@ -207,6 +208,7 @@ fn element_spot(f: &[u64], h: &[u64], b: u8, c: u8, right: u8) -> Spot
     index_in(h, x, y, right)
 }
 
+// Bound to the element of variable b's type, then to variable a (document 02, S-3).
 pub fn fetch_guarded(
     s: &[u8],
     index: &Index,
@@ -224,7 +226,8 @@ pub fn fetch_guarded(
     match element_spot(f, h, b, c, 1) {
         Spot::At(o, i) => {
             let w = read(h, (o as usize) + 1 + (i as usize));
-            bind_word(index, p.name, h, inner_of(s, p.start, a), w)
+            let q = inner_of(s, p.start, a);
+            bind_through(index, p.name, h, declared_element(s, index, p, b), q, w)
         }
         Spot::Halt(k) => Moved::Halt(k),
     }

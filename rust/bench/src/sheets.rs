@@ -1,7 +1,7 @@
 //! The sheets that are timed and counted, by name.
 
 use generator::handwritten::SMALLEST;
-use generator::large::{two_deep_arrays, unequal_inside, unequal_outside, SHEETS};
+use generator::large::{two_deep_arrays, unequal_inside, unequal_outside, widened_arrays, SHEETS};
 use generator::loops::LOOPS;
 
 pub type Named = (&'static str, Vec<u8>);
@@ -13,11 +13,13 @@ pub fn largest() -> [Named; 4] {
 
 /// What a check costs at least, and with one pair of deep arrays: sheets of 64
 /// qualified types and one bind, which is accepted if they are equal to their
-/// innermost elements and refused if only these differ, or only the outermost.
-pub fn small() -> [Named; 4] {
+/// innermost elements, or widened in every level, and refused if only these
+/// differ, or only the outermost.
+pub fn small() -> [Named; 5] {
     [
         ("smallest", SMALLEST.to_vec()),
         ("equal arrays", two_deep_arrays(422).encode()),
+        ("widened arrays", widened_arrays(422).encode()),
         ("innermost unequal", unequal_inside(434).encode()),
         ("outermost unequal", unequal_outside(422).encode()),
     ]

@@ -48,7 +48,7 @@ fn said(sheet: &[u8]) -> Said {
 }
 
 const TYPES: &str = "
-type call{read,amend} (length: integer, next: call{read}, list: tray[call{read}]{fetch})
+type call{read,amend} (length: integer, next: call{read}, list: tray[call{read}]{fetch}, log: tray[call{read}]{store})
 type horse{read,amend}
 ";
 
@@ -62,6 +62,8 @@ const VARIABLES: &str = "
     variable boths: tray[call{read,amend}]{fetch,store,size}
     variable stored: tray[call{read}]{store}
     variable fetched: tray[call{read}]{fetch}
+    variable nones: tray[call{}]{fetch,store,size}
+    variable rows: tray[tray[call{read}]{fetch,store}]{store}
 ";
 
 const OTHERS: &str = "
@@ -73,6 +75,12 @@ procedure needs_one
 procedure needs_two
     formal first: call{read,amend}
     formal second: horse{read,amend}
+    return
+procedure reads_all
+    formal given: tray[call{read}]{fetch}
+    return
+procedure stores_all
+    formal given: tray[call{read}]{store}
     return
 procedure gives_read gives call{read}
     variable own: call{read}
@@ -128,11 +136,6 @@ fn case(text: String, number: u8, marked: &'static str, lines: &'static [&'stati
 #[rustfmt::skip]
 fn movements() -> Vec<Case> {
     vec![
-        case(in_main("bind calls <- boths"), 8, "boths", &["needs tray[call{read}]{fetch,store,size}        (calls)", "has   tray[call{read,amend}]{fetch,store,size}  (boths)", "the elements of trays must be equal, not more and not less: needs call{read}, has call{read,amend}"]),
-        case(bound("tray[tray[tray[call{read}]{fetch}]{fetch}]{fetch}", "tray[tray[tray[call{read,amend}]{fetch}]{fetch}]{fetch}"), 8, "has", &["needs tray[tray[tray[call{read}]{fetch}]{fetch}]{fetch}        (needs)", "has   tray[tray[tray[call{read,amend}]{fetch}]{fetch}]{fetch}  (has)", "the elements of trays must be equal, not more and not less: 3 levels down, needs call{read}, has call{read,amend}"]),
-        case(bound("tray[tray[tray[call{read}]{fetch}]{fetch}]{fetch}", "tray[tray[tray[call{read}]{store}]{store}]{fetch}"), 8, "has", &["needs tray[tray[tray[call{read}]{fetch}]{fetch}]{fetch}  (needs)", "has   tray[tray[tray[call{read}]{store}]{store}]{fetch}  (has)", "the elements of trays must be equal, not more and not less: 2 levels down, needs tray[call{read}]{fetch}, has tray[call{read}]{store}"]),
-        case(bound("tray[tray[call{read}]{fetch}]{fetch}", "tray[tray[call{read}]{store}]{fetch}"), 8, "has", &["needs tray[tray[call{read}]{fetch}]{fetch}  (needs)", "has   tray[tray[call{read}]{store}]{fetch}  (has)", "the elements of trays must be equal, not more and not less: needs tray[call{read}]{fetch}, has tray[call{read}]{store}"]),
-        case(bound("tray[tray[integer]{fetch}]{fetch}", "tray[tray[tray[integer]{fetch}]{fetch}]{fetch}"), 8, "has", &["needs tray[tray[integer]{fetch}]{fetch}               (needs)", "has   tray[tray[tray[integer]{fetch}]{fetch}]{fetch}  (has)", "the elements of trays must be equal, not more and not less: 2 levels down, needs integer, has tray[integer]{fetch}"]),
         case(in_main("bind n <- calls"), 8, "calls", &["needs integer                             (n)", "has   tray[call{read}]{fetch,store,size}  (calls)", "needs integer, has tray"]),
         case(in_main("bind both <- reads"), 9, "reads", &["needs call{read,amend}  (both)", "has   call{read}        (reads)", "needs amend, has read"]),
         case(in_main("bind both <- none"), 9, "none", &["needs call{read,amend}  (both)", "has   call{}            (none)", "needs read,amend, has no right"]),
@@ -142,7 +145,6 @@ fn movements() -> Vec<Case> {
         case(in_main("store boths[n] <- reads"), 9, "reads", &["needs call{read,amend}  (an element of boths)", "has   call{read}        (reads)", "needs amend, has read"]),
         case(in_module("getslot n <- open.next"), 8, "next", &["needs integer     (n)", "has   call{read}  (open.next)", "needs integer, has call"]),
         case(in_module("getslot both <- open.next"), 9, "next", &["needs call{read,amend}  (both)", "has   call{read}        (open.next)", "needs amend, has read"]),
-        case(in_module("setslot open.list <- boths"), 8, "boths", &["needs tray[call{read}]{fetch}                   (open.list)", "has   tray[call{read,amend}]{fetch,store,size}  (boths)", "the elements of trays must be equal, not more and not less: needs call{read}, has call{read,amend}"]),
         case(in_module("setslot open.next <- none"), 9, "none", &["needs call{read}  (open.next)", "has   call{}      (none)", "needs read, has no right"]),
         case(in_main("call needs_one(horse)"), 8, "horse", &["needs call{read}   (what needs_one needs as given)", "has   horse{read}  (horse)", "needs call, has horse"]),
         case(in_main("call needs_two(both, horse)"), 9, "horse", &["needs horse{read,amend}  (what needs_two needs as second)", "has   horse{read}        (horse)", "needs amend, has read"]),
@@ -150,6 +152,41 @@ fn movements() -> Vec<Case> {
         case(in_main("call calls <- gives_calls()"), 9, "gives_calls", &["needs tray[call{read}]{fetch,store,size}  (calls)", "has   tray[call{read}]{fetch,store}       (the result of gives_calls)", "needs size, has fetch,store"]),
         case(returning(" gives call{read}", "horse"), 8, "horse", &["needs call{read}   (the result of back)", "has   horse{read}  (horse)", "needs call, has horse"]),
         case(returning(" gives call{amend}", "reads"), 9, "reads", &["needs call{amend}  (the result of back)", "has   call{read}   (reads)", "needs amend, has read"]),
+    ]
+}
+
+/// The elements of trays, by what decides: the store of the destination, a
+/// right or the base of the elements.
+#[rustfmt::skip]
+fn elements() -> Vec<Case> {
+    let rows = |rights: [&str; 3], call: &str| format!("tray[tray[tray[call{{{call}}}]{{{}}}]{{{}}}]{{{}}}", rights[2], rights[1], rights[0]);
+    let deep = |needs: [&str; 3], has: &str| bound(&rows(needs, "read"), &rows(["fetch,store"; 3], has));
+    vec![
+        case(in_main("bind calls <- boths"), 8, "boths", &["needs tray[call{read}]{fetch,store,size}        (calls)", "has   tray[call{read,amend}]{fetch,store,size}  (boths)", "calls has store, so the elements must be equal: needs call{read}, has call{read,amend}"]),
+        case(in_main("bind boths <- calls"), 8, "calls", &["needs tray[call{read,amend}]{fetch,store,size}  (boths)", "has   tray[call{read}]{fetch,store,size}        (calls)", "boths has store, so the elements must be equal: needs call{read,amend}, has call{read}"]),
+        case(in_main("bind stored <- boths"), 8, "boths", &["needs tray[call{read}]{store}                   (stored)", "has   tray[call{read,amend}]{fetch,store,size}  (boths)", "stored has store, so the elements must be equal: needs call{read}, has call{read,amend}"]),
+        case(in_main("call stores_all(boths)"), 8, "boths", &["needs tray[call{read}]{store}                   (what stores_all needs as given)", "has   tray[call{read,amend}]{fetch,store,size}  (boths)", "what stores_all needs as given has store, so the elements must be equal: needs call{read}, has call{read,amend}"]),
+        case(in_module("setslot open.log <- boths"), 8, "boths", &["needs tray[call{read}]{store}                   (open.log)", "has   tray[call{read,amend}]{fetch,store,size}  (boths)", "open.log has store, so the elements must be equal: needs call{read}, has call{read,amend}"]),
+        case(in_main("store rows[n] <- boths"), 8, "boths", &["needs tray[call{read}]{fetch,store}             (an element of rows)", "has   tray[call{read,amend}]{fetch,store,size}  (boths)", "an element of rows has store, so the elements must be equal: needs call{read}, has call{read,amend}"]),
+        case(returning(" gives tray[call{read}]{store}", "boths"), 8, "boths", &["needs tray[call{read}]{store}                   (the result of back)", "has   tray[call{read,amend}]{fetch,store,size}  (boths)", "the result of back has store, so the elements must be equal: needs call{read}, has call{read,amend}"]),
+        case(deep(["store", "fetch,store", "fetch,store"], "read,amend"), 8, "has", &["needs tray[tray[tray[call{read}]{fetch,store}]{fetch,store}]{store}              (needs)", "has   tray[tray[tray[call{read,amend}]{fetch,store}]{fetch,store}]{fetch,store}  (has)", "needs has store, so the elements must be equal: 3 levels down, needs call{read}, has call{read,amend}"]),
+        case(deep(["fetch,store", "fetch,store", "fetch"], "read"), 8, "has", &["needs tray[tray[tray[call{read}]{fetch}]{fetch,store}]{fetch,store}        (needs)", "has   tray[tray[tray[call{read}]{fetch,store}]{fetch,store}]{fetch,store}  (has)", "needs has store, so the elements must be equal: 2 levels down, needs tray[call{read}]{fetch}, has tray[call{read}]{fetch,store}"]),
+        case(deep(["fetch", "store", "fetch,store"], "read,amend"), 8, "has", &["needs tray[tray[tray[call{read}]{fetch,store}]{store}]{fetch}                    (needs)", "has   tray[tray[tray[call{read,amend}]{fetch,store}]{fetch,store}]{fetch,store}  (has)", "needs has store 1 level down, so the elements below must be equal: 3 levels down, needs call{read}, has call{read,amend}"]),
+        case(deep(["fetch", "store", "fetch"], "read"), 8, "has", &["needs tray[tray[tray[call{read}]{fetch}]{store}]{fetch}                    (needs)", "has   tray[tray[tray[call{read}]{fetch,store}]{fetch,store}]{fetch,store}  (has)", "needs has store 1 level down, so the elements below must be equal: 2 levels down, needs tray[call{read}]{fetch}, has tray[call{read}]{fetch,store}"]),
+        case(deep(["fetch", "fetch", "store"], "read,amend"), 8, "has", &["needs tray[tray[tray[call{read}]{store}]{fetch}]{fetch}                          (needs)", "has   tray[tray[tray[call{read,amend}]{fetch,store}]{fetch,store}]{fetch,store}  (has)", "needs has store 2 levels down, so the elements below must be equal: 3 levels down, needs call{read}, has call{read,amend}"]),
+        case(in_main("call reads_all(nones)"), 8, "nones", &["needs tray[call{read}]{fetch}         (what reads_all needs as given)", "has   tray[call{}]{fetch,store,size}  (nones)", "the elements lack read: needs call{read}, has call{}"]),
+        case(in_module("setslot open.list <- nones"), 8, "nones", &["needs tray[call{read}]{fetch}         (open.list)", "has   tray[call{}]{fetch,store,size}  (nones)", "the elements lack read: needs call{read}, has call{}"]),
+        case(bound("tray[call{read,amend}]{size}", "tray[call{}]{}"), 8, "has", &["needs tray[call{read,amend}]{size}  (needs)", "has   tray[call{}]{}                (has)", "the elements lack read,amend: needs call{read,amend}, has call{}"]),
+        case(deep(["fetch", "fetch", "fetch"], "amend"), 8, "has", &["needs tray[tray[tray[call{read}]{fetch}]{fetch}]{fetch}                     (needs)", "has   tray[tray[tray[call{amend}]{fetch,store}]{fetch,store}]{fetch,store}  (has)", "the elements lack read: 3 levels down, needs call{read}, has call{amend}"]),
+        case(deep(["size", "size", "size"], "read"), 8, "has", &["needs tray[tray[tray[call{read}]{size}]{size}]{size}                       (needs)", "has   tray[tray[tray[call{read}]{fetch,store}]{fetch,store}]{fetch,store}  (has)", "the elements lack size: 2 levels down, needs tray[call{read}]{size}, has tray[call{read}]{fetch,store}"]),
+        case(deep(["fetch", "size", "store"], "read"), 8, "has", &["needs tray[tray[tray[call{read}]{store}]{size}]{fetch}                     (needs)", "has   tray[tray[tray[call{read}]{fetch,store}]{fetch,store}]{fetch,store}  (has)", "the elements lack size: needs tray[tray[call{read}]{store}]{size}, has tray[tray[call{read}]{fetch,store}]{fetch,store}"]),
+        case(bound("tray[horse{}]{fetch}", "tray[call{}]{fetch}"), 8, "has", &["needs tray[horse{}]{fetch}  (needs)", "has   tray[call{}]{fetch}   (has)", "the elements have another base: needs horse, has call"]),
+        case(bound("tray[tray[integer]{fetch}]{fetch}", "tray[tray[tray[integer]{fetch}]{fetch}]{fetch}"), 8, "has", &["needs tray[tray[integer]{fetch}]{fetch}               (needs)", "has   tray[tray[tray[integer]{fetch}]{fetch}]{fetch}  (has)", "the elements have another base: 2 levels down, needs integer, has tray"]),
+        // With a right lacking at the top too, the elements are told, and with the elements in order the right.
+        case(bound("tray[call{read}]{fetch,store}", "tray[call{read,amend}]{fetch}"), 8, "has", &["needs tray[call{read}]{fetch,store}  (needs)", "has   tray[call{read,amend}]{fetch}  (has)", "needs has store, so the elements must be equal: needs call{read}, has call{read,amend}"]),
+        case(bound("tray[call{read}]{fetch,size}", "tray[call{read,amend}]{fetch}"), 9, "has", &["needs tray[call{read}]{fetch,size}   (needs)", "has   tray[call{read,amend}]{fetch}  (has)", "needs size, has fetch"]),
+        // What is fetched has the rights of the element that its tray's variable declares.
+        case(in_main("fetch both <- fetched[n]"), 9, "fetched", &["needs call{read,amend}  (both)", "has   call{read}        (an element of fetched)", "needs amend, has read"]),
     ]
 }
 
@@ -181,6 +218,8 @@ fn operands() -> Vec<Case> {
 
 const OPEN_IN: &str = "only inside, in a variable of a procedure that is of the same type";
 
+const EQUAL: &str = "a formal may be more inside than it needs only if it is of the procedure's own type: the two must be equal";
+
 #[rustfmt::skip]
 fn records() -> Vec<Case> {
     vec![
@@ -189,7 +228,10 @@ fn records() -> Vec<Case> {
         case(procedure("procedure p of call gives call{open}\n  variable own: call{open}\n return own"), 6, "call{open}", &["has call{open}", "open may not stand in a result"]),
         case(procedure("procedure p of call\n  formal own: call{open}"), 6, "call{open}", &["has call{open}", "open may not stand in what a formal needs"]),
         case(procedure("procedure p of horse\n  variable other: call{open,read}"), 6, "call{open,read}", &["has call{open,read}", "open may not stand in a variable outside the module of its type"]),
-        case(procedure("procedure p of horse\n  formal other: call{read} as call{amend}"), 7, "call{read} call{amend}", &["needs  call{read}", "inside call{amend}", "a formal may be more inside than it needs only if it is of the procedure's own type: the two must be equal"]),
+        case(procedure("procedure p of horse\n  formal other: call{read} as call{amend}"), 7, "call{read} call{amend}", &["needs  call{read}", "inside call{amend}", EQUAL]),
+        case(procedure("procedure p of call\n  formal all: tray[call{read}]{fetch} as tray[call{read}]{fetch,size}"), 7, "tray[call{read}]{fetch} tray[call{read}]{fetch,size}", &["needs  tray[call{read}]{fetch}", "inside tray[call{read}]{fetch,size}", EQUAL]),
+        case(procedure("procedure p of call\n  formal all: tray[call{read,amend}]{fetch} as tray[call{read}]{fetch}"), 7, "tray[call{read,amend}]{fetch} tray[call{read}]{fetch}", &["needs  tray[call{read,amend}]{fetch}", "inside tray[call{read}]{fetch}", EQUAL, "they differ 1 level down: needs call{read,amend}, inside call{read}"]),
+        case(procedure("procedure p\n  formal all: tray[tray[horse{}]{fetch}]{fetch} as tray[tray[integer]{fetch}]{fetch}"), 7, "tray[tray[horse{}]{fetch}]{fetch} tray[tray[integer]{fetch}]{fetch}", &["needs  tray[tray[horse{}]{fetch}]{fetch}", "inside tray[tray[integer]{fetch}]{fetch}", EQUAL, "they differ 2 levels down: needs horse{}, inside integer"]),
         case(procedure("procedure p of horse\n  formal other: call{read} as horse{open}"), 7, "call{read} horse{open}", &["needs  call{read}", "inside horse{open}", "a formal that is of the procedure's own type inside needs that type"]),
     ]
 }
@@ -244,7 +286,8 @@ fn in_named(head: &str, lines: &str) -> String {
 #[rustfmt::skip]
 fn rights_names() -> Vec<Case> {
     const ONLY: &str = "only ?R goes into ?R";
-    let own = |line: &str| in_named(" of call", &format!("  formal given: ?R\n  variable all: tray[?R]{{fetch}}\n{VARIABLES}\n {line}"));
+    const OWN: &str = "  variable pages: tray[tray[?R]{fetch,store}]{fetch,store}\n  variable amends: tray[call{read,amend}]{fetch}\n  variable horses: tray[horse{}]{fetch}\n";
+    let own = |line: &str| in_named(" of call", &format!("  formal given: ?R\n  variable all: tray[?R]{{fetch}}\n{OWN}{VARIABLES}\n {line}"));
     vec![
         case(own("bind given <- both"), 9, "both", &["needs ?R                (given)", "has   call{read,amend}  (both)", ONLY]),
         case(own("fetch given <- boths[n]"), 9, "boths", &["needs ?R                (given)", "has   call{read,amend}  (an element of boths)", ONLY]),
@@ -252,7 +295,13 @@ fn rights_names() -> Vec<Case> {
         case(own("bind given <- horse"), 8, "horse", &["needs ?R           (given)", "has   horse{read}  (horse)", "needs ?R of call, has horse"]),
         case(own("bind both <- given"), 9, "given", &["needs call{read,amend}  (both)", "has   ?R                (given)", "needs amend, and of ?R no more than read is certain"]),
         case(own("getslot n <- given.length"), 9, "given", &["needs call{open}", "has   ?R  (given)", "needs open, and of ?R no more than read is certain"]),
-        case(own("bind calls <- all"), 8, "all", &["needs tray[call{read}]{fetch,store,size}  (calls)", "has   tray[?R]{fetch}                     (all)", "the elements of trays must be equal, not more and not less: needs call{read}, has ?R"]),
+        case(own("bind calls <- all"), 8, "all", &["needs tray[call{read}]{fetch,store,size}  (calls)", "has   tray[?R]{fetch}                     (all)", "calls has store, so the elements must be equal: needs call{read}, has ?R"]),
+        case(own("bind all <- boths"), 8, "boths", &["needs tray[?R]{fetch}                           (all)", "has   tray[call{read,amend}]{fetch,store,size}  (boths)", "only ?R goes into ?R: needs ?R, has call{read,amend}"]),
+        case(own("bind amends <- all"), 8, "all", &["needs tray[call{read,amend}]{fetch}  (amends)", "has   tray[?R]{fetch}                (all)", "the elements lack amend: needs call{read,amend}, has ?R, of which no more than read is certain"]),
+        case(own("bind horses <- all"), 8, "all", &["needs tray[horse{}]{fetch}  (horses)", "has   tray[?R]{fetch}       (all)", "the elements have another base: needs horse, has ?R of call"]),
+        case(own("bind rows <- pages"), 8, "pages", &["needs tray[tray[call{read}]{fetch,store}]{store}  (rows)", "has   tray[tray[?R]{fetch,store}]{fetch,store}    (pages)", "rows has store, so the elements must be equal: 2 levels down, needs call{read}, has ?R"]),
+        case(in_named("", "  formal one: tray[?R]{}\n  variable two: tray[tray[call{}]{}]{}\n  variable all: tray[tray[?R]{}]{}\n bind all <- two"), 8, "two", &["needs tray[tray[?R]{}]{}      (all)", "has   tray[tray[call{}]{}]{}  (two)", "only ?R goes into ?R: 2 levels down, needs ?R, has call{}"]),
+        case(in_named("", "  formal given: tray[tray[?R]{}]{} as tray[tray[call{read}]{}]{}"), 7, "tray[tray[?R]{}]{} tray[tray[call{read}]{}]{}", &["needs  tray[tray[?R]{}]{}", "inside tray[tray[call{read}]{}]{}", EQUAL, "they differ 2 levels down: needs ?R, inside call{read}"]),
         case(own("call amend(reads)"), 21, "reads", &["settled to call{read}, but amend needs at least call{read,amend}", "lacks amend"]),
         case(own("call amend(given)"), 21, "given", &["settled to the ?R of p, of which call{read} is all that is certain, but amend needs at least call{read,amend}", "lacks amend"]),
         case(own("call amend(horse)"), 8, "horse", &["needs call{read,amend}  (what amend needs as own)", "has   horse{read}       (horse)", "needs call, has horse"]),
@@ -267,7 +316,14 @@ fn rights_names() -> Vec<Case> {
 
 #[test]
 fn explanations_mark_the_part_and_say_what_is_missing() {
-    let all = [movements(), operands(), records(), layout(), rights_names()];
+    let all = [
+        movements(),
+        elements(),
+        operands(),
+        records(),
+        layout(),
+        rights_names(),
+    ];
     for case in all.into_iter().flatten() {
         let found = said(case.text.as_bytes());
         let shown: String = case.text.chars().take(2_000).collect();
@@ -339,6 +395,13 @@ fn every_refusal_of_hand_written_and_damaged_sheets_is_explained() {
         // After the word comes the place, and something is said of it.
         let told = printed.lines().filter(|line| line.starts_with("  "));
         assert!(told.count() > 0, "{printed}");
+        // Of movements: 8 is told by the kinds and 9 by the rights at the top.
+        assert!(!printed.contains("needs , "), "{printed}");
+        let by_elements = printed.contains("so the elements") || printed.contains("  the elements");
+        assert!(
+            !by_elements || expected.starts_with("refused 8"),
+            "{printed}"
+        );
     }
     assert!(refused > 500, "only {refused} sheets were refused");
 }

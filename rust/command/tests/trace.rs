@@ -372,6 +372,22 @@ fn a_frame_tells_what_its_rights_name_is_settled_to() {
     }
 }
 
+/// A tray that is read under less than it was made under: its element stays
+/// the object's, and what is fetched has the rights of the variable's element.
+#[test]
+fn a_tray_to_read_has_the_element_of_its_object_and_gives_less() {
+    let readers = format!("{}/../../samples/readers.ws", env!("CARGO_MANIFEST_DIR"));
+    let call = ["watch", &readers, "--trace", "--reads", "-"];
+    let said = stdout(&wennathig(&call, b"14 9 22\n"));
+    for due in [
+        "  opens show: results = object 0 tray[call{read,amend}]{fetch,size} (was tray[call{read,amend}]{fetch,store,size})\n",
+        "  item = object 2 call{read} (was call{read,amend})\n",
+        "\nstopped 11 done",
+    ] {
+        assert!(said.contains(due), "{due}\n{said}");
+    }
+}
+
 #[test]
 fn a_call_that_settles_wrongly_tells_what() {
     for (lines, stop, due) in [
@@ -389,7 +405,7 @@ fn a_call_that_settles_wrongly_tells_what() {
         (
             "    call calls <- new_like(calls)\n    bind drafts <- calls",
             18,
-            "  the elements of trays must be equal, not more and not less: needs call{read,amend}, has call{read}\n",
+            "  drafts has store, so the elements must be equal: needs call{read,amend}, has call{read}\n",
         ),
         (
             "    call calls <- new_like(calls)\n    set n := 0\n    call draft <- new_call()\n    store calls[n] <- draft\n    fetch draft <- calls[n]",

@@ -8,7 +8,7 @@ use crate::body::Writer;
 use crate::random::Random;
 use crate::reading::Scope;
 use crate::records::{
-    BoundRecord, QualifiedRecord, TypeRecord, VariableRecord, ARRAY_ALL, NONE, OPEN,
+    BoundRecord, QualifiedRecord, TypeRecord, VariableRecord, ARRAY_ALL, NONE, OPEN, STORE,
 };
 use crate::sheet::{Procedure, Sheet, SheetBuilder};
 use crate::typing::Typing;
@@ -127,12 +127,26 @@ impl Author<'_> {
         let closed = self.typing.closed();
         let element = self.random.pick(&closed);
         match (self.random.below(10), element) {
+            (0, Some(original)) if self.typing.is_array_with(original, 0) => self.reader(original),
             (1, _) if self.random.one_in(4) => QualifiedRecord::GENERIC,
             (2 | 3, Some(original)) => self.twin(original),
             (4..=6, Some(element)) => QualifiedRecord::array(element, self.array_rights()),
             (7.., _) if !self.sheet.types.is_empty() => self.record(),
             _ => QualifiedRecord::INTEGER,
         }
+    }
+
+    /// An array without store that asks for less of its elements than another
+    /// one has, if there is such an element.
+    fn reader(&mut self, original: u8) -> QualifiedRecord {
+        let QualifiedRecord {
+            rights, element, ..
+        } = self.typing.get(original);
+        let closed = self.typing.closed().into_iter();
+        let less = closed.filter(|&n| !self.typing.equal(element, n));
+        let less: Vec<u8> = less.filter(|&n| self.typing.fits(element, n)).collect();
+        let element = self.random.pick(&less).unwrap_or(element);
+        QualifiedRecord::array(element, rights & !STORE)
     }
 
     fn array_rights(&mut self) -> u16 {
@@ -299,6 +313,7 @@ impl Author<'_> {
             let integers: Vec<u8> = integers.collect();
             inners.extend(self.random.pick(&integers));
             inners.extend(self.call_block(bound).unwrap_or_default());
+            inners.extend(self.two_names(bound).into_iter().flatten());
             for _ in 0..self.count(8, MAX_VARIABLES, 40) {
                 inners.extend(self.inner(head.owner, bound));
             }
@@ -329,6 +344,14 @@ impl Author<'_> {
             block.push(self.random.pick(&scope.read_as(&spelled))?);
         }
         Some(block)
+    }
+
+    /// Now and then two variables for one array.
+    fn two_names(&mut self, bound: Option<BoundRecord>) -> Option<[u8; 2]> {
+        let typing = &self.typing;
+        let pairs = Scope { typing, bound }.two_names();
+        let pair = self.random.pick(&pairs);
+        pair.filter(|_| self.random.one_in(2))
     }
 
     fn write_bodies(&mut self, largest: usize) {

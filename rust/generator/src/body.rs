@@ -47,10 +47,7 @@ impl Writer<'_> {
             3 => subtract(self.integer()?, self.integer()?, self.integer()?),
             4 => less(self.integer()?, self.integer()?, self.integer()?),
             5 => jump_if_zero(self.integer()?, self.random.below(self.length) as u16),
-            6 => {
-                let b = self.variable(|_, _| true)?;
-                bind(self.receiver(self.inner(b))?, b)
-            }
+            6 => return self.second_name().or_else(|| self.bind()),
             7 => take(self.integer()?),
             8 => put(self.integer()?),
             9..=12 => return self.array_instruction(code),
@@ -59,6 +56,19 @@ impl Writer<'_> {
             _ => self.leaving(),
         };
         Some(instruction)
+    }
+
+    fn bind(&mut self) -> Option<InstructionRecord> {
+        let b = self.variable(|_, _| true)?;
+        Some(bind(self.receiver(self.inner(b))?, b))
+    }
+
+    /// Binds an array to a variable that asks for less of its elements.
+    fn second_name(&mut self) -> Option<InstructionRecord> {
+        let b = self.array(0)?;
+        let (source, bound) = (self.inner(b), self.procedure().bound);
+        let a = self.variable(|typing, inner| Scope { typing, bound }.widens(source, inner))?;
+        Some(bind(a, b))
     }
 
     fn array_instruction(&mut self, code: u8) -> Option<InstructionRecord> {

@@ -46,20 +46,31 @@ pub fn unequal_inside(bytes: usize) -> Sheet {
     bound_chains(start.integer().record(2, 0), ARRAY_ALL, bytes)
 }
 
-/// The same but for the rights of the outermost elements.
+/// The same but for the outermost elements, which lack rights.
 pub fn unequal_outside(bytes: usize) -> Sheet {
     let start = SheetBuilder::new().integer().integer();
     bound_chains(start, FETCH, bytes)
 }
 
+/// Two chains of arrays, each 31 deep, the second without store in any level,
+/// so that each level of the first is compared by its own rights.
+pub fn widened_arrays(bytes: usize) -> Sheet {
+    let mut start = SheetBuilder::new().integer().integer();
+    for number in 2..64 {
+        let rights = if number % 2 == 0 { ARRAY_ALL } else { FETCH };
+        start = start.array(number - 2, rights);
+    }
+    filled(start, bytes, &[62, 63], |_| bind(1, 0))
+}
+
 /// Two chains of arrays, each 31 deep, over the two innermost elements that
-/// the start has, and binds between the ends of the two. The outermost element
-/// of the second has these rights.
+/// the start has, and binds from the end of the first to that of the second.
+/// The outermost element of the first has these rights.
 fn bound_chains(mut start: SheetBuilder, outside: u16, bytes: usize) -> Sheet {
-    for number in 2..61 {
+    for number in 2..60 {
         start = start.array(number - 2, ARRAY_ALL);
     }
-    start = start.array(59, outside);
+    start = start.array(58, outside).array(59, ARRAY_ALL);
     start = start.array(60, ARRAY_ALL).array(61, FETCH);
     filled(start, bytes, &[62, 63], |_| bind(1, 0))
 }

@@ -5,7 +5,7 @@
 //! stands innermost. The second engine walks through QT records instead, so
 //! that a slip in one of the two shows.
 
-use crate::records::{BoundRecord, VariableRecord, GENERIC, OPEN};
+use crate::records::{BoundRecord, VariableRecord, GENERIC, OPEN, STORE};
 use crate::sheet::Procedure;
 use crate::typing::{Movement, Typing};
 
@@ -69,23 +69,24 @@ pub struct Spelled {
 }
 
 impl Spelled {
+    /// From the innermost level to the outermost.
     pub fn movement(&self, destination: &Spelled) -> Movement {
-        let (source, target) = (&self.arrays, &destination.arrays);
-        let (Some((&has, inside)), Some((&due, target))) =
-            (source.split_first(), target.split_first())
-        else {
-            return match source.len() == target.len() {
-                true => self.leaf.movement(destination.leaf),
-                false => Movement::WrongKind,
-            };
-        };
-        if inside != target || self.leaf != destination.leaf {
-            Movement::WrongKind
-        } else if due & !has != 0 {
-            Movement::LacksRight
-        } else {
-            Movement::Fits
+        if self.arrays.len() != destination.arrays.len() {
+            return Movement::WrongKind;
         }
+        let mut inside = self.leaf.movement(destination.leaf);
+        let mut equal = self.leaf == destination.leaf;
+        for (&has, &due) in self.arrays.iter().zip(&destination.arrays).rev() {
+            let stores = due & STORE != 0;
+            let elements = equal || !stores && inside == Movement::Fits;
+            inside = match (elements, due & !has) {
+                (false, _) => Movement::WrongKind,
+                (true, 0) => Movement::Fits,
+                (true, _) => Movement::LacksRight,
+            };
+            equal &= has == due;
+        }
+        inside
     }
 }
 
@@ -147,6 +148,30 @@ impl Scope<'_> {
 
     pub fn fits(&self, source: u8, destination: u8) -> bool {
         self.movement(source, destination) == Movement::Fits
+    }
+
+    /// Whether an array moves to one with other elements.
+    pub fn widens(&self, source: u8, destination: u8) -> bool {
+        let element = |number| self.typing.get(number).element;
+        let arrays = [source, destination].map(|number| self.typing.is_array_with(number, 0));
+        arrays == [true; 2]
+            && !self.typing.equal(element(source), element(destination))
+            && self.fits(source, destination)
+    }
+
+    /// Types for two names of one array, of which the second asks for less of
+    /// its elements.
+    pub fn two_names(&self) -> Vec<[u8; 2]> {
+        let arrays = self
+            .typing
+            .all()
+            .filter(|&n| self.typing.is_array_with(n, 0));
+        let arrays: Vec<u8> = arrays.filter(|&n| self.may_name(n)).collect();
+        let pairs = arrays.iter().flat_map(|&first| {
+            let seconds = arrays.iter().filter(move |&&n| self.widens(first, n));
+            seconds.map(move |&second| [first, second])
+        });
+        pairs.collect()
     }
 
     /// Whether the procedure may name a type.

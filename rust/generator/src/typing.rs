@@ -4,7 +4,7 @@
 //! last; the second engine compares structures instead, so that a slip in
 //! one of the two shows.
 
-use crate::records::{QualifiedRecord, GENERIC, OPEN};
+use crate::records::{QualifiedRecord, GENERIC, OPEN, STORE};
 
 /// What a movement from one qualified type to another comes to.
 #[derive(Clone, Copy, Debug, PartialEq, Eq)]
@@ -73,14 +73,30 @@ impl Typing {
 
     pub fn movement(&self, source: u8, destination: u8) -> Movement {
         let (source, destination) = (self.get(source), self.get(destination));
-        let same_element = self.element_class(&source) == self.element_class(&destination);
-        if source.base != destination.base || !same_element {
+        if source.base != destination.base || !self.elements_fit(&source, &destination) {
             Movement::WrongKind
         } else if destination.rights & !source.rights != 0 {
             Movement::LacksRight
         } else {
             Movement::Fits
         }
+    }
+
+    /// Whether two arrays have other elements, of which the first fit the
+    /// second: what moves if the second lacks store.
+    pub fn widens(&self, source: u8, destination: u8) -> bool {
+        let (source, destination) = (self.get(source), self.get(destination));
+        let arrays = source.base == 1 && destination.base == 1;
+        arrays
+            && !self.equal(source.element, destination.element)
+            && self.fits(source.element, destination.element)
+    }
+
+    /// Equal elements; without store, elements that fit are enough.
+    fn elements_fit(&self, source: &QualifiedRecord, destination: &QualifiedRecord) -> bool {
+        let [from, to] = [source.element, destination.element];
+        self.element_class(source) == self.element_class(destination)
+            || destination.base == 1 && destination.rights & STORE == 0 && self.fits(from, to)
     }
 
     pub fn fits(&self, source: u8, destination: u8) -> bool {

@@ -3,10 +3,11 @@
 use generator::accepted::accepted;
 use generator::breach::Flaw;
 use generator::damage::damaged;
-use generator::large::{two_deep_arrays, unequal_inside, unequal_outside, SHEETS};
+use generator::large::{two_deep_arrays, unequal_inside, unequal_outside, widened_arrays, SHEETS};
 use generator::records::RecordKind;
 use generator::runs::families::{MISDECLARED, RUNNABLE, SETTLING, TRIALS};
 use generator::showcase::showcase;
+use generator::typing::Typing;
 use generator::wellformed::wellformed;
 use generator::Random;
 use reference::{check, Verdict};
@@ -46,6 +47,24 @@ fn accepted_sheets_reach_every_limit() {
         }
     }
     assert_eq!(largest, [32, 64, 64, 15, 8, 8, 32, 1000]);
+}
+
+/// Arrays are bound to arrays that ask for less of their elements.
+#[test]
+fn accepted_sheets_have_widened_movements() {
+    let mut widened = 0;
+    for seed in 0..5_000 {
+        let sheet = accepted(&mut Random::new(seed));
+        let typing = Typing::of(&sheet.qualified);
+        let binds = sheet.procedures.iter().flat_map(|procedure| {
+            let binds = procedure.instructions.iter().filter(|bind| bind.code == 6);
+            let inner = |variable: u8| procedure.variables[usize::from(variable)].inner;
+            binds.map(move |bind| (inner(bind.b), inner(bind.a)))
+        });
+        widened += binds.filter(|&(from, to)| typing.widens(from, to)).count();
+    }
+    println!("{widened} binds");
+    assert!(widened >= 100, "{widened}");
 }
 
 #[test]
@@ -124,7 +143,9 @@ fn large_sheets_fill_the_bytes_given() {
 /// Sheets of one bind, between the ends of two chains of arrays, and a return.
 #[test]
 fn deep_arrays_are_compared_in_every_level() {
-    assert_eq!(check(&two_deep_arrays(422).encode()), Verdict::Accepted);
+    for accepted in [two_deep_arrays(422), widened_arrays(422)] {
+        assert_eq!(check(&accepted.encode()), Verdict::Accepted);
+    }
     for (unequal, bytes) in [(unequal_inside(434), 434), (unequal_outside(422), 422)] {
         let unequal = unequal.encode();
         assert_eq!(unequal.len(), bytes);

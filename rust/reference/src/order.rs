@@ -1,7 +1,7 @@
 //! Equality and order of qualified types, each read on its own side.
 
-use crate::generic::{Form, Read};
-use crate::program::Program;
+use crate::generic::{Form, Read, Type};
+use crate::program::{Program, Rights};
 use crate::refusal::Reason;
 
 impl Program {
@@ -12,7 +12,7 @@ impl Program {
     }
 
     /// Same base and, for arrays, equal elements.
-    pub fn same_form(&self, left: Form, right: Form) -> bool {
+    fn same_form(&self, left: Form, right: Form) -> bool {
         match (left, right) {
             (Form::Array { element: left }, Form::Array { element: right }) => {
                 self.equal(left, right)
@@ -22,18 +22,31 @@ impl Program {
         }
     }
 
+    /// Whether the form is of the kind that a type asks for: the same base and,
+    /// for arrays, equal elements. Where the type lacks store nothing comes in
+    /// by it, and elements ≥ those asked for are enough.
+    pub fn alike(&self, source: Form, destination: Type) -> bool {
+        let stores = destination.rights.contains(Rights::STORE);
+        match (source, destination.form) {
+            (Form::Array { element }, Form::Array { element: asked }) => match stores {
+                true => self.equal(element, asked),
+                false => self.movement(element, asked).is_ok(),
+            },
+            (source, destination) => match source.declared().zip(destination.declared()) {
+                Some((source, destination)) => source == destination,
+                None => self.same_form(source, destination),
+            },
+        }
+    }
+
     /// Whether source ≥ destination, and if not, what is wrong: the kind
-    /// before the rights. Nothing but ?R reaches ?R; from another type of its
-    /// base it is the right that is lacking.
+    /// before the rights. Elements that lack a right are another kind. Nothing
+    /// but ?R reaches ?R; from another type of its base it is the right that
+    /// is lacking.
     pub fn movement(&self, source: Read, destination: Read) -> Result<(), Reason> {
         let source = self.read(source);
         let destination = self.read(destination);
-        let based = source.form.declared().zip(destination.form.declared());
-        let alike = match based {
-            Some((source, destination)) => source == destination,
-            None => self.same_form(source.form, destination.form),
-        };
-        if !alike {
+        if !self.alike(source.form, destination) {
             return Err(Reason::WrongKind);
         }
         let reached = match destination.form {

@@ -13,7 +13,7 @@ use std::thread;
 /// Families and how many seeds of each are run.
 type Families = [(Family, u64)];
 const ACCEPTED: &Families = &[(RUNNABLE, 4_500), (ANY_ACCEPTED, 1_000)];
-const WELLFORMED: &Families = &[(TRIALS, 17_000), (MISDECLARED, 4_000), (SETTLING, 3_000)];
+const WELLFORMED: &Families = &[(TRIALS, 19_000), (MISDECLARED, 4_000), (SETTLING, 3_000)];
 
 /// What check says about the sheet of a run.
 #[derive(Clone, Copy, Debug, PartialEq)]

@@ -4,7 +4,7 @@
 use generator::runs::plenty;
 use generator::runs::program::runnable;
 use generator::Random;
-use reference::generic::Read;
+use reference::generic::{Form, Read};
 use reference::machine::watched::{Frame, Machine, Value};
 use reference::machine::{self, Stop};
 use reference::{Kind, Operation, Place, Program};
@@ -59,6 +59,7 @@ impl View<'_> {
             }
             Operation::Store { array, index, .. } | Operation::Fetch { array, index, .. } => {
                 self.observe_outside(operation, array, seen);
+                self.observe_names(operation, array, seen);
                 let index = self.integer(index).map(|index| index as usize);
                 if let (Some(index), Some(size)) = (index, self.size(array)) {
                     seen.add("index at the end", index == size);
@@ -122,6 +123,40 @@ impl View<'_> {
             "fetched outside from an array made under ?R",
             outside && !stored,
         );
+    }
+
+    /// The object in a variable that is declared an array of other elements.
+    fn widened(&self, variable: usize) -> Option<usize> {
+        let Some(Value::Object(number)) = self.frame.variables[variable].map(|held| held.value)
+        else {
+            return None;
+        };
+        let declared = self.program.read(self.declared(variable)).form;
+        match (self.machine.state().objects[number].form(), declared) {
+            (Form::Array { element }, Form::Array { element: asked }) => {
+                (!self.program.equal(element, asked)).then_some(number)
+            }
+            _ => None,
+        }
+    }
+
+    /// An array has a second name in the frame, by which less is asked of its
+    /// elements.
+    fn observe_names(&self, operation: Operation, array: usize, seen: &mut Seen) {
+        let object = self.frame.variables[array].map(|held| held.value);
+        let second = |other| self.widened(other).map(Value::Object) == object;
+        let mut others = (0..self.frame.variables.len()).filter(|&other| other != array);
+        let named = object.is_some() && others.any(second);
+        let by_second = self.widened(array).is_some();
+        let nested = self.is_nested(self.declared(array).qualified);
+        if matches!(operation, Operation::Store { .. }) {
+            seen.add("stored by the first of two names", named);
+            seen.add("array stored by the first of two names", named && nested);
+        } else {
+            seen.add("fetched by the first of two names", named && !by_second);
+            seen.add("fetched by the second of two names", by_second);
+            seen.add("array fetched by the second", by_second && nested);
+        }
     }
 
     fn observe_settling(
@@ -215,7 +250,7 @@ fn observe_run(seed: u64, seen: &mut Seen) -> Stop {
 }
 
 /// All that must come up.
-const NAMES: [&str; 25] = [
+const NAMES: [&str; 30] = [
     "jump back",
     "0 − 1",
     "array of size 0",
@@ -241,6 +276,11 @@ const NAMES: [&str; 25] = [
     "?R passed on to itself",
     "a result of ?R kept",
     "an array of ?R kept",
+    "stored by the first of two names",
+    "array stored by the first of two names",
+    "fetched by the first of two names",
+    "fetched by the second of two names",
+    "array fetched by the second",
 ];
 
 #[test]

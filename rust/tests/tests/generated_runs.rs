@@ -14,7 +14,7 @@ use reference::{Outcome, Program, Stop};
 /// Families and how many seeds of each are run.
 type Families = [(Family, u64)];
 const ACCEPTED: &Families = &[(RUNNABLE, 11_000), (ANY_ACCEPTED, 3_000)];
-const WELLFORMED: &Families = &[(TRIALS, 17_000), (MISDECLARED, 4_000), (SETTLING, 3_000)];
+const WELLFORMED: &Families = &[(TRIALS, 19_000), (MISDECLARED, 4_000), (SETTLING, 3_000)];
 
 /// What has come up in the runs of sheets that check accepts, and of those
 /// that it refuses.

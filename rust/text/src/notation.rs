@@ -3,7 +3,10 @@
 use crate::lexer::RIGHTS_NAME;
 use crate::names::{Names, TRAY_RIGHTS};
 use crate::sheet::Sheet;
-use crate::types::{Reading, Type};
+use crate::types::{Reading, Type, Unlike, Why};
+
+/// Why nothing else moves into ?R.
+pub const ONLY_A_NAME: &str = "only ?R goes into ?R";
 
 /// Prints the qualified types of a sheet with the names of a text.
 #[derive(Clone, Copy)]
@@ -34,17 +37,69 @@ impl Notation<'_> {
         }
     }
 
-    /// Why a tray of the one element is none of the other, by the innermost
-    /// level in which they differ.
-    pub fn unequal_elements(&self, needs: &Type, has: &Type) -> String {
-        let difference = needs.innermost_difference(has);
-        let (below, needs, has) = difference.unwrap_or((0, needs, has));
-        let level = match below {
-            0 => String::new(),
-            _ => format!("{} levels down, ", below + 1),
+    /// Why a value is not of the kind that the destination needs, by the level
+    /// that decides: how far down it is, but for the first level of elements.
+    pub fn unlike(&self, unlike: &Unlike, destination: &str) -> String {
+        let Unlike {
+            why,
+            below,
+            has,
+            needs,
+        } = *unlike;
+        let bases = format!("needs {}, has {}", self.base(needs), self.base(has));
+        let types = format!("needs {}, has {}", self.said(needs), self.said(has));
+        let (why, compared) = match why {
+            Why::Base if below == 0 => return bases,
+            Why::Base => (String::from("the elements have another base"), bases),
+            Why::Rights => (self.lacking(has, needs), types + &self.certain(has)),
+            Why::Store { level: 0 } => {
+                let why = format!("{destination} has store, so the elements must be equal");
+                (why, types)
+            }
+            Why::Store { level } => {
+                let down = down(level);
+                let why =
+                    format!("{destination} has store {down}, so the elements below must be equal");
+                (why, types)
+            }
         };
-        let (needs, has) = (self.said(needs), self.said(has));
-        format!("the elements of trays must be equal, not more and not less: {level}needs {needs}, has {has}")
+        match below {
+            1 => format!("{why}: {compared}"),
+            _ => format!("{why}: {}, {compared}", down(below)),
+        }
+    }
+
+    /// What elements lack to be at least those needed.
+    fn lacking(&self, has: &Type, needs: &Type) -> String {
+        if let Type::Name(_) = needs {
+            return String::from(ONLY_A_NAME);
+        }
+        let missing = self.rights(needs, needs.rights() & !has.rights());
+        format!("the elements lack {missing}")
+    }
+
+    /// What more is said of ?R: only its least set is known.
+    fn certain(&self, of: &Type) -> String {
+        let Type::Name(_) = of else {
+            return String::new();
+        };
+        match self.rights(of, of.rights()).as_str() {
+            "" => String::from(", of which no right is certain"),
+            least => format!(", of which no more than {least} is certain"),
+        }
+    }
+
+    /// The base of a type.
+    pub fn base(&self, of: &Type) -> String {
+        match of {
+            Type::Integer => String::from("integer"),
+            Type::Tray { .. } => String::from("tray"),
+            Type::Declared { of, .. } => self.names.declared(*of),
+            Type::Name(name) => {
+                let of = name.map_or_else(String::new, |name| self.names.declared(name.of));
+                format!("{RIGHTS_NAME} of {of}")
+            }
+        }
     }
 
     fn braced(&self, of: &Type, rights: u32) -> String {
@@ -67,5 +122,13 @@ impl Notation<'_> {
                 name.map_or_else(|| format!("r{right}"), |name| String::from(*name))
             }
         }
+    }
+}
+
+/// So many levels of elements below a tray.
+pub fn down(levels: usize) -> String {
+    match levels {
+        1 => String::from("1 level down"),
+        _ => format!("{levels} levels down"),
     }
 }

@@ -29,6 +29,50 @@ pub enum Reading {
 
 /// The right to open a record, right 0.
 const OPEN: u32 = 1;
+/// The right to store into a tray, right 2.
+const STORE: u32 = 1 << 2;
+
+/// The level in which a type is not of the kind that is needed.
+#[derive(Clone, Copy, Debug, PartialEq, Eq)]
+pub struct Unlike<'a> {
+    pub why: Why,
+    /// How many levels of elements it is below the two types.
+    pub below: usize,
+    pub has: &'a Type,
+    pub needs: &'a Type,
+}
+
+#[derive(Clone, Copy, Debug, PartialEq, Eq)]
+pub enum Why {
+    /// Another base.
+    Base,
+    /// Elements that lack a right.
+    Rights,
+    /// What is needed has store so many levels down, and there are unequal
+    /// elements below that.
+    Store { level: usize },
+}
+
+impl<'a> Unlike<'a> {
+    fn here(why: Why, has: &'a Type, needs: &'a Type) -> Self {
+        let below = 0;
+        Unlike {
+            why,
+            below,
+            has,
+            needs,
+        }
+    }
+
+    /// The same, told of what has the two types as elements.
+    fn further_in(mut self) -> Self {
+        self.below += 1;
+        if let Why::Store { level } = &mut self.why {
+            *level += 1;
+        }
+        self
+    }
+}
 
 impl Type {
     /// The rights at the top; those of ?R are the least.
@@ -67,19 +111,37 @@ impl Type {
         }
     }
 
-    /// Whether a value of this type has the kind of the other: the same base
-    /// and, for trays, equal elements.
-    pub fn is_alike(&self, other: &Type) -> bool {
+    /// What keeps a value of this type from the kind that is needed: the same
+    /// base and, for trays, equal elements where what is needed has store, else
+    /// elements that are at least those needed. Each level is asked by its own
+    /// store, and the elements before the rights around them.
+    pub fn unlike<'a>(&'a self, needs: &'a Type) -> Option<Unlike<'a>> {
+        let (Type::Tray { element: one, .. }, Type::Tray { element: two, .. }) = (self, needs)
+        else {
+            let other_base = !self.has_base_of(needs);
+            return other_base.then_some(Unlike::here(Why::Base, self, needs));
+        };
+        if needs.rights() & STORE != 0 {
+            let (below, has, needs) = one.innermost_difference(two)?;
+            let found = Unlike::here(Why::Store { level: 0 }, has, needs);
+            let below = below + 1;
+            return Some(Unlike { below, ..found });
+        }
+        let lacks = || (!one.covers(two)).then_some(Unlike::here(Why::Rights, one, two));
+        one.unlike(two).or_else(lacks).map(Unlike::further_in)
+    }
+
+    /// Whether the bases are the same; that of ?R is the type that it is of.
+    fn has_base_of(&self, other: &Type) -> bool {
         match (self, other) {
-            (Type::Integer, Type::Integer) => true,
-            (Type::Tray { element: one, .. }, Type::Tray { element: two, .. }) => one == two,
+            (Type::Integer, Type::Integer) | (Type::Tray { .. }, Type::Tray { .. }) => true,
             (Type::Name(one), Type::Name(two)) => one == two,
             _ => self.declared().is_some() && self.declared() == other.declared(),
         }
     }
 
-    /// The innermost level in which two types differ, and how many levels of
-    /// elements it is below them: the elements of trays are asked before the
+    /// The innermost level in which two types are unequal, and how many levels
+    /// of elements it is below them: the elements of trays are asked before the
     /// rights around them, as check asks them.
     pub fn innermost_difference<'a>(
         &'a self,

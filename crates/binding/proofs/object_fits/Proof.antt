@@ -7,15 +7,10 @@ use Rattle.binding.proofs.object_fits.Tie as tie
 
 returns : tie.Need-returns
 returns c =
-    let tag-of = c .before .before .before .before .tag-of in
-    let match = c .before .before .before .match in
-    let pre = c .before .before .before .before .before .before .before .pre in
-    let shape-in = c .before .before .before .before .before .before .shape-in in
-    let kind-in = c .before .before .before .before .before .kind-in in
-    let element-in = c .before .element-in in
-    let equal = c .equal in
-    let object-name = c .before .before .object-name in
-    fits-array _ _ _ _ _ (sym (tag-of .ensures) ∙ match .keys1) pre (shape-in .ensures) (kind-in .ensures) (object-name .ensures) (element-in .ensures) (equal .ensures)
+    let d = c .before .before .before .before .before in
+    let z = d .before .before .before in
+    let pre = z .before .pre in
+    fits-array _ _ _ _ _ (sym (d .before .tag-of .ensures) ∙ d .match .keys1) pre (z .shape-in .ensures) (d .before .before .kind-in .ensures) (c .before .object-name .ensures) (c .before .before .element-in .ensures) (c .before .before .before .before .rights-in .ensures) (c .before .before .before .has-right .ensures) (c .elements-agree .ensures)
 
 returns-2 : tie.Need-returns-2
 returns-2 c =
@@ -32,4 +27,4 @@ returns-3 c =
 
 pub object-fits-spec : {M : Type 1} → statement M
 object-fits-spec =
-    tie.close (tie.spec (λ c κs. search needs) (λ c κs. search needs) (λ c κs. search needs) (λ c κs. search needs) (λ c κs. search needs) (λ c κs. search needs) (λ c. search needs) returns returns-2 returns-3)
+    tie.close (tie.spec (λ c κs. search needs) (λ c κs. search needs) (λ c κs. search needs) (λ c κs. search needs) (λ c κs. search needs) (λ c κs. search needs) (λ c κs. search needs) (λ c κs. search needs) (λ c. search needs) returns returns-2 returns-3)

@@ -10,7 +10,7 @@ use reference::access::examine;
 use reference::fault::{Detail, Due, End, Fault, Form, Holder};
 use reference::{parse, Operation, Procedure, Program};
 use text::field::Field;
-use text::{Names, Notation, Reading, Sheet, Type};
+use text::{down, Names, Notation, Reading, Sheet, Type, ONLY_A_NAME};
 
 pub fn explain(source: &Source, refusal: Refusal) -> Option<Explanation> {
     let program = parse(&source.sheet).ok()?;
@@ -37,8 +37,6 @@ pub fn explain(source: &Source, refusal: Refusal) -> Option<Explanation> {
     };
     Some(teller.explanation(detail))
 }
-
-const ONLY_A_NAME: &str = "only ?R goes into ?R";
 
 struct Teller<'a> {
     program: &'a Program,
@@ -87,23 +85,32 @@ impl Teller<'_> {
     }
 
     fn need(&self, need: usize, inner: usize, owned: bool) -> Explanation {
-        let (needed, inside) = (
-            self.notation.qualified(need),
-            self.notation.qualified(inner),
-        );
         let unread = Reading::Name(None);
-        let uses_name = |number| self.sheet.read_type(number, &unread) == Type::Name(None);
-        let rule = match (uses_name(need) || uses_name(inner), owned) {
+        let [need, inner] = [need, inner].map(|number| self.sheet.read_type(number, &unread));
+        let is_name = |of: &Type| *of == Type::Name(None);
+        let rule = match (is_name(&need) || is_name(&inner), owned) {
             (true, _) => "?R is never amplified: a formal that needs ?R or is ?R inside has it as both",
             (_, true) => "a formal that is of the procedure's own type inside needs that type",
             _ => "a formal may be more inside than it needs only if it is of the procedure's own type: the two must be equal",
         };
-        let lines = vec![
-            format!("needs  {needed}"),
-            format!("inside {inside}"),
+        let mut lines = vec![
+            format!("needs  {}", self.notation.said(&need)),
+            format!("inside {}", self.notation.said(&inner)),
             String::from(rule),
         ];
+        lines.extend(self.differing_level(&need, &inner));
         Explanation::new(vec![Field::Need, Field::Inner], lines)
+    }
+
+    /// Where need and inner differ, if that is in their elements.
+    fn differing_level(&self, need: &Type, inner: &Type) -> Option<String> {
+        let (below, needs, inside) = need.innermost_difference(inner)?;
+        let (needs, inside) = (self.notation.said(needs), self.notation.said(inside));
+        let line = format!(
+            "they differ {}: needs {needs}, inside {inside}",
+            down(below)
+        );
+        (below > 0).then_some(line)
     }
 
     fn form(&self, form: Form) -> Explanation {
@@ -194,14 +201,15 @@ impl Teller<'_> {
     }
 
     fn movement(&self, from: End, to: End) -> Explanation {
-        let (source, destination) = (self.declared(from), self.declared(to));
-        let needs = self.notation.said(&destination);
+        let (source, needed) = (self.declared(from), self.declared(to));
+        let needs = self.notation.said(&needed);
         let has = self.notation.said(&source);
         let width = needs.len().max(has.len());
+        let destination = self.end(to);
         let lines = vec![
-            format!("needs {needs:<width$}  ({})", self.end(to)),
+            format!("needs {needs:<width$}  ({destination})"),
             format!("has   {has:<width$}  ({})", self.end(from)),
-            self.difference(&source, &destination),
+            self.difference(&source, &needed, &destination),
         ];
         Explanation::new(vec![self.source_part(to)], lines)
     }
@@ -241,15 +249,10 @@ impl Teller<'_> {
         Called::at(self.sheet, caller, self.place)?.settling(self.sheet)
     }
 
-    /// In what the source falls short of the destination.
-    fn difference(&self, from: &Type, to: &Type) -> String {
-        if !from.is_alike(to) {
-            return match (from, to) {
-                (Type::Tray { element: has, .. }, Type::Tray { element: needs, .. }) => {
-                    self.notation.unequal_elements(needs, has)
-                }
-                (has, needs) => format!("needs {}, has {}", self.base(needs), self.base(has)),
-            };
+    /// In what the source falls short of what the destination needs.
+    fn difference(&self, from: &Type, to: &Type, destination: &str) -> String {
+        if let Some(unlike) = from.unlike(to) {
+            return self.notation.unlike(&unlike, destination);
         }
         if let Type::Name(_) = to {
             return String::from(ONLY_A_NAME);
@@ -257,18 +260,6 @@ impl Teller<'_> {
         let missing = to.rights() & !from.rights();
         let missing = self.notation.rights(to, missing);
         format!("needs {missing}, {}", self.has_rights(from))
-    }
-
-    fn base(&self, of: &Type) -> String {
-        match of {
-            Type::Integer => String::from("integer"),
-            Type::Tray { .. } => String::from("tray"),
-            Type::Declared { of, .. } => self.names.declared(*of),
-            Type::Name(name) => {
-                let of = name.map_or_else(String::new, |name| self.names.declared(name.of));
-                format!("?R of {of}")
-            }
-        }
     }
 
     /// For example `has read,amend`; of ?R only the least set is known.

@@ -18,6 +18,14 @@ pub struct Moved {
     pub blank: Option<String>,
     /// None also on the plain machine, which does not keep it.
     pub carried: Option<Type>,
+    pub lessened: Option<Lessened>,
+}
+
+/// What the binding just before this one did.
+pub struct Lessened {
+    /// The rights that it took away.
+    pub taken: u32,
+    pub in_words: String,
 }
 
 /// A value that is bound to a declared type.
@@ -33,9 +41,7 @@ impl Cause<'_> {
         use Field::{A, B, C};
         match self.operation {
             Operation::Bind { to, from } => vec![self.assigned(self.variable(B, from), to)],
-            Operation::Fetch { to, array, index } => {
-                vec![self.assigned(self.cell(array, index), to)]
-            }
+            Operation::Fetch { to, array, index } => self.fetched(array, index, to),
             Operation::GetSlot { to, record, slot } => {
                 vec![self.assigned(self.slot(record, slot), to)]
             }
@@ -94,6 +100,7 @@ impl Cause<'_> {
             source: String::from(source),
             blank: None,
             carried: Some(made.with(rights)),
+            lessened: None,
         }
     }
 
@@ -108,6 +115,43 @@ impl Cause<'_> {
             to: self.inner(to),
             destination: self.name(to),
         }
+    }
+
+    /// A fetched value is bound to the element of the tray variable's declared
+    /// type, then to the variable that it goes to.
+    fn fetched(&self, array: usize, index: usize, to: usize) -> Vec<Movement> {
+        let element = match self.inner(array) {
+            Type::Tray { element, .. } => *element,
+            other => other,
+        };
+        let first = Movement {
+            value: self.cell(array, index),
+            to: element,
+            destination: format!("the element of {}", self.name(array)),
+        };
+        let then = self.onward(&first, self.inner(to), self.name(to));
+        let then = then.map(|mut then| {
+            then.value.lessened = self.lessened(&first);
+            // It is still the value of the cell.
+            then.value.source.clone_from(&first.value.source);
+            then
+        });
+        [first].into_iter().chain(then).collect()
+    }
+
+    fn lessened(&self, first: &Movement) -> Option<Lessened> {
+        let carried = first.value.carried.as_ref()?;
+        let notation = self.teller.notation();
+        let left = first.to.rights();
+        let carries = match notation.rights(&first.to, left) {
+            none if none.is_empty() => String::from("no right"),
+            rights => rights,
+        };
+        let (bound_to, declared) = (&first.destination, notation.said(&first.to));
+        Some(Lessened {
+            taken: carried.rights() & !left,
+            in_words: format!("bound to {bound_to}, {declared}, it carries {carries}"),
+        })
     }
 
     fn stored(&self, array: usize, value: Moved) -> Vec<Movement> {
@@ -194,6 +238,7 @@ impl Cause<'_> {
             source: first.destination.clone(),
             blank: None,
             carried: Some(carried),
+            lessened: None,
         };
         Some(Movement {
             value,
@@ -241,6 +286,7 @@ impl Cause<'_> {
             source,
             blank: cell.is_none().then_some(blank),
             carried: cell.and_then(|held| held.carried),
+            lessened: None,
         }
     }
 }

@@ -1,7 +1,7 @@
 //! 18 and 19, which only the watched machine knows.
 
 use super::cause::{Cause, Reason};
-use super::movement::Movement;
+use super::movement::{Lessened, Movement};
 use super::reads::{reads, Due, Read};
 use crate::settling::{Called, Settling};
 use reference::{Operation, Rights};
@@ -139,13 +139,15 @@ impl Cause<'_> {
     /// 18: a value is bound to a declared type of another kind.
     pub fn wrong_kind_moved(&self) -> Option<Reason> {
         let bound = self.movements().into_iter().filter_map(with_carried);
-        let differs = |(movement, carried): &(Movement, Type)| !carried.is_alike(&movement.to);
+        let differs =
+            |(movement, carried): &(Movement, Type)| carried.unlike(&movement.to).is_some();
         let (movement, carried) = { bound }.find(differs)?;
         let mut lines = self.compared(["needs", "found"], &movement, &carried);
-        if let (Type::Tray { element: needs, .. }, Type::Tray { element: has, .. }) =
-            (&movement.to, &carried)
-        {
-            lines.push(self.teller.notation().unequal_elements(needs, has));
+        let unlike = carried.unlike(&movement.to);
+        // Other bases at the top are seen in the two lines.
+        if let Some(unlike) = unlike.filter(|unlike| unlike.below > 0) {
+            let notation = self.teller.notation();
+            lines.push(notation.unlike(&unlike, &movement.destination));
         }
         let parts = movement.value.parts;
         Some(Reason { parts, lines })
@@ -185,8 +187,19 @@ impl Cause<'_> {
         let (movement, carried) = { bound }.find(lacks)?;
         let mut lines = self.compared(["needs  ", "carries"], &movement, &carried);
         lines.push(self.lacks(movement.to.rights(), &carried));
+        lines.extend(self.taken_before(&movement, &carried));
         let parts = movement.value.parts;
         Some(Reason { parts, lines })
+    }
+
+    /// Of a value that is bound twice: that the first binding took away what the
+    /// second asks, if it did.
+    fn taken_before(&self, movement: &Movement, carried: &Type) -> Option<String> {
+        let Lessened { taken, in_words } = movement.value.lessened.as_ref()?;
+        let asked = taken & movement.to.rights() & !carried.rights();
+        let asked_words = self.teller.notation().rights(carried, asked);
+        let line = format!("{in_words}; {} asks {asked_words}", movement.destination);
+        (asked != 0).then_some(line)
     }
 
     /// The declared type and what the value carries, one below the other.

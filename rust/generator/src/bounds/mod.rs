@@ -15,8 +15,10 @@ mod procedures;
 mod rights;
 mod structures;
 mod targets;
+mod twice;
 mod types;
 mod values;
+mod widened;
 
 use crate::operations::{add, set};
 use crate::records::InstructionRecord;
@@ -65,10 +67,13 @@ impl Family {
 }
 
 /// Those that take many steps come last.
-pub const FAMILIES: [Family; 19] = [
+pub const FAMILIES: [Family; 22] = [
     LEVELS,
     structures::STRUCTURES,
     structures::NAMED_STRUCTURES,
+    widened::WIDENED,
+    widened::WIDENED_NAMES,
+    twice::WIDENED_TWICE,
     values::VALUES,
     arrays::SIZES,
     arrays::INDEXES,

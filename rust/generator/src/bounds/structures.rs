@@ -74,9 +74,9 @@ const EQUAL: usize = 99;
 
 /// The rights of so many arrays, the outermost first, and what they hold.
 #[derive(Clone, PartialEq)]
-struct Structure {
-    arrays: Vec<u16>,
-    innermost: QualifiedRecord,
+pub(super) struct Structure {
+    pub arrays: Vec<u16>,
+    pub innermost: QualifiedRecord,
 }
 
 impl Structure {
@@ -91,12 +91,12 @@ impl Structure {
         self
     }
 
-    fn depth(&self) -> usize {
+    pub fn depth(&self) -> usize {
         self.arrays.len()
     }
 
     /// Adds its records, none of them shared, and gives its number.
-    fn written(&self, all: &mut Vec<QualifiedRecord>) -> u8 {
+    pub fn written(&self, all: &mut Vec<QualifiedRecord>) -> u8 {
         all.push(self.innermost);
         for &rights in self.arrays.iter().rev() {
             let element = all.len() as u8 - 1;
@@ -255,8 +255,11 @@ fn named_pairs() -> Vec<NamedPair> {
 fn named_pair_bound(turns: &mut Turns) -> Bound {
     let back = turns.of(2) == 1;
     let all = named_pairs();
-    let pair = &all[turns.of(all.len())];
-    bound(lent(named_sheet(pair, back)), named_due(pair, back))
+    let named = &all[turns.of(all.len())];
+    let Pair { left, right } = &named.pair;
+    let (source, destination) = if back { (right, left) } else { (left, right) };
+    let sheet = named_sheet(source, destination, named.settled);
+    bound(lent(sheet), named_due(named, back))
 }
 
 /// As without ?R; but what check refuses for ?R beside a set, watch takes
@@ -273,7 +276,7 @@ fn named_due(named: &NamedPair, back: bool) -> Seen {
 
 /// Main calls procedure 1 with an array of records under the set settled; it
 /// binds a new array of one structure to a variable of the other.
-fn named_sheet(named: &NamedPair, back: bool) -> Sheet {
+pub(super) fn named_sheet(source: &Structure, destination: &Structure, settled: u16) -> Sheet {
     let name = 1;
     let settling = 2;
     let given = 4;
@@ -281,18 +284,18 @@ fn named_sheet(named: &NamedPair, back: bool) -> Sheet {
         QualifiedRecord::INTEGER,
         QualifiedRecord::GENERIC,
         QualifiedRecord::array(name, ARRAY_ALL),
-        QualifiedRecord::record(FIRST, named.settled),
+        QualifiedRecord::record(FIRST, settled),
         QualifiedRecord::array(given - 1, ARRAY_ALL),
     ];
-    let left = named.pair.left.written(&mut all);
-    let right = named.pair.right.written(&mut all);
-    let (source, destination) = if back { (right, left) } else { (left, right) };
+    let source = source.written(&mut all);
+    let destination = destination.written(&mut all);
     let main = Procedure::main().variables(&[INT, given]);
     let binds = Procedure::new(0, NONE)
         .bound(FIRST, READ)
         .formal(settling, settling)
         .variables(&[INT, source, destination]);
-    let start = SheetBuilder::new().record_type(2, &[]);
+    let start = SheetBuilder::new();
+    let start = start.record_type(2, &[]).record_type(2, &[]);
     all.into_iter()
         .fold(start, SheetBuilder::qualified)
         .procedure(main.body(&[set(0, 1), new_array(1, 0), call(NONE, 1, 1), leave()]))

@@ -195,5 +195,7 @@ fn qualified_types(first: u8, subject: u8, low: u16, high: u16) -> Vec<Qualified
     all.extend((0..7).map(|rights| array(2, rights << 1)));
     // An array whose element differs from that of 14 in its rights alone.
     all.push(array(18, ARRAY_ALL));
+    // Arrays that ask for less of their elements than 8, with and without store.
+    all.extend([ARRAY_ALL, FETCH].map(|rights| array(1, rights)));
     all
 }

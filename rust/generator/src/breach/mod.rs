@@ -17,6 +17,7 @@ use crate::sheet::{At, Sheet};
 pub use generic::{GenericFlaw, GenericRoute};
 pub use generic_call::CallFlaw;
 use kit::Kit;
+use movement::Fault;
 
 /// One way to break one access rule at one kind of place.
 #[derive(Clone, Copy, Debug, PartialEq, Eq)]
@@ -42,6 +43,8 @@ pub enum Flaw {
     Right(u8),
     /// 8 or 9: a movement does not fit.
     Moved(Route, u8),
+    /// 8: elements with more rights than those asked for, under store.
+    Stored(Route),
     /// 8: a call keeps the result of a procedure that has none.
     KeptNothing,
     /// 8: a return without a variable though there is a result.
@@ -128,6 +131,7 @@ impl Flaw {
         for number in [8, 9] {
             flaws.extend(ROUTES.map(|route| Flaw::Moved(route, number)));
         }
+        flaws.extend(ROUTES.map(Flaw::Stored));
         flaws
     }
 
@@ -144,7 +148,9 @@ impl Flaw {
             Flaw::PlainNeed(difference) => record::plain_need(kit, random, difference),
             Flaw::Operand(code, operand) => instruction::operand(kit, random, code, operand),
             Flaw::Right(code) => instruction::right(kit, random, code),
-            Flaw::Moved(route, number) => movement::moved(kit, random, route, number),
+            Flaw::Moved(route, 8) => movement::moved(kit, random, route, Fault::Kind),
+            Flaw::Moved(route, _) => movement::moved(kit, random, route, Fault::Right),
+            Flaw::Stored(route) => movement::moved(kit, random, route, Fault::Store),
             Flaw::KeptNothing => movement::kept_nothing(kit, random),
             Flaw::ReturnedNothing => movement::returned_nothing(kit, random),
             Flaw::ReturnedTooMuch => movement::returned_too_much(kit, random),

@@ -17,24 +17,52 @@ struct Ends {
     bad: u8,
 }
 
+/// What is wrong with a movement.
+#[derive(Clone, Copy, PartialEq)]
+pub enum Fault {
+    Kind,
+    Right,
+    /// The kind, for the store of the destination alone.
+    Store,
+}
+
+impl Fault {
+    fn number(self) -> u8 {
+        match self {
+            Fault::Kind | Fault::Store => 8,
+            Fault::Right => 9,
+        }
+    }
+
+    fn is_of(self, kit: &Kit, (source, destination): (u8, u8)) -> bool {
+        let movement = kit.typing.movement(source, destination);
+        match self {
+            Fault::Kind => movement == Movement::WrongKind,
+            Fault::Right => movement == Movement::LacksRight,
+            Fault::Store => {
+                movement == Movement::WrongKind && kit.typing.widens(source, destination)
+            }
+        }
+    }
+}
+
 /// Types for the variable at the free end of a movement whose other end is
-/// fixed, if the kit has them.
+/// fixed, if the kit has them. The movement is given as its two types.
 fn ends(
     kit: &Kit,
     random: &mut Random,
     owner: u8,
-    number: u8,
-    movement: impl Fn(u8) -> Movement,
+    fault: Fault,
+    movement: impl Fn(u8) -> (u8, u8),
 ) -> Option<Ends> {
-    let wanted = match number {
-        8 => Movement::WrongKind,
-        _ => Movement::LacksRight,
-    };
-    let where_it_is = |result: Movement| {
-        kit.own_where(|kit, number| kit.allowed(owner, number) && movement(number) == result)
-    };
-    let good = random.pick(&where_it_is(Movement::Fits))?;
-    let bad = random.pick(&where_it_is(wanted))?;
+    let allowed = kit.own_where(|kit, number| kit.allowed(owner, number));
+    let (mut good, mut bad) = (allowed.clone(), allowed);
+    good.retain(|&number| {
+        let (source, destination) = movement(number);
+        kit.typing.fits(source, destination)
+    });
+    bad.retain(|&number| fault.is_of(kit, movement(number)));
+    let (good, bad) = (random.pick(&good)?, random.pick(&bad)?);
     Some(Ends { good, bad })
 }
 
@@ -48,13 +76,13 @@ struct Setting {
     ends: Ends,
 }
 
-pub fn moved(kit: Kit, random: &mut Random, route: Route, number: u8) -> Breach {
+pub fn moved(kit: Kit, random: &mut Random, route: Route, fault: Fault) -> Breach {
     let (setting, instruction) = loop {
-        if let Some(found) = setting(&kit, random, route, number) {
+        if let Some(found) = setting(&kit, random, route, fault) {
             break found;
         }
     };
-    compose(kit, random, number, setting, instruction)
+    compose(kit, random, fault, setting, instruction)
 }
 
 /// One random try at a route.
@@ -62,15 +90,15 @@ fn setting(
     kit: &Kit,
     random: &mut Random,
     route: Route,
-    number: u8,
+    fault: Fault,
 ) -> Option<(Setting, InstructionRecord)> {
     match route {
-        Route::Bind => Some(binding(kit, random, number)?),
-        Route::Fetch | Route::Store => array_route(kit, random, route, number),
-        Route::GetSlot | Route::SetSlot => slot_route(kit, random, route, number),
-        Route::Actual => actual_route(kit, random, number),
-        Route::Kept => kept_route(kit, random, number),
-        Route::Returned => returned_route(kit, random, number),
+        Route::Bind => Some(binding(kit, random, fault)?),
+        Route::Fetch | Route::Store => array_route(kit, random, route, fault),
+        Route::GetSlot | Route::SetSlot => slot_route(kit, random, route, fault),
+        Route::Actual => actual_route(kit, random, fault),
+        Route::Kept => kept_route(kit, random, fault),
+        Route::Returned => returned_route(kit, random, fault),
     }
 }
 
@@ -84,18 +112,14 @@ fn plain(owner: u8, others: Vec<u8>, ends: Ends) -> Setting {
     }
 }
 
-fn binding(kit: &Kit, random: &mut Random, number: u8) -> Option<(Setting, InstructionRecord)> {
+fn binding(kit: &Kit, random: &mut Random, fault: Fault) -> Option<(Setting, InstructionRecord)> {
     let owner = kit.any_owner(random);
     let fixed = kit.pick(random, |kit, n| kit.allowed(owner, n));
     if random.one_in(2) {
-        let ends = ends(kit, random, owner, number, |n| {
-            kit.typing.movement(n, fixed)
-        })?;
+        let ends = ends(kit, random, owner, fault, |n| (n, fixed))?;
         Some((plain(owner, vec![fixed], ends), bind(MOVING + 1, MOVING)))
     } else {
-        let ends = ends(kit, random, owner, number, |n| {
-            kit.typing.movement(fixed, n)
-        })?;
+        let ends = ends(kit, random, owner, fault, |n| (fixed, n))?;
         Some((plain(owner, vec![fixed], ends), bind(MOVING, MOVING + 1)))
     }
 }
@@ -104,21 +128,17 @@ fn array_route(
     kit: &Kit,
     random: &mut Random,
     route: Route,
-    number: u8,
+    fault: Fault,
 ) -> Option<(Setting, InstructionRecord)> {
     let owner = kit.any_owner(random);
     let right = if route == Route::Fetch { FETCH } else { STORE };
     let array = kit.pick(random, |kit, n| kit.typing.is_array_with(n, right));
     let element = kit.typing.get(array).element;
     let (ends, instruction) = if route == Route::Fetch {
-        let ends = ends(kit, random, owner, number, |n| {
-            kit.typing.movement(element, n)
-        })?;
+        let ends = ends(kit, random, owner, fault, |n| (element, n))?;
         (ends, fetch(MOVING, MOVING + 1, 0))
     } else {
-        let ends = ends(kit, random, owner, number, |n| {
-            kit.typing.movement(n, element)
-        })?;
+        let ends = ends(kit, random, owner, fault, |n| (n, element))?;
         (ends, store(MOVING + 1, 0, MOVING))
     };
     Some((plain(owner, vec![array], ends), instruction))
@@ -128,7 +148,7 @@ fn slot_route(
     kit: &Kit,
     random: &mut Random,
     route: Route,
-    number: u8,
+    fault: Fault,
 ) -> Option<(Setting, InstructionRecord)> {
     let owner = kit.subject;
     let record = kit.pick(random, |kit, n| {
@@ -137,14 +157,10 @@ fn slot_route(
     let slot = random.below(kit.slots().len());
     let slot_type = kit.slots()[slot];
     let (ends, instruction) = if route == Route::GetSlot {
-        let ends = ends(kit, random, owner, number, |n| {
-            kit.typing.movement(slot_type, n)
-        })?;
+        let ends = ends(kit, random, owner, fault, |n| (slot_type, n))?;
         (ends, get_slot(MOVING, MOVING + 1, slot as u16))
     } else {
-        let ends = ends(kit, random, owner, number, |n| {
-            kit.typing.movement(n, slot_type)
-        })?;
+        let ends = ends(kit, random, owner, fault, |n| (n, slot_type))?;
         (ends, set_slot(MOVING + 1, MOVING, slot as u16))
     };
     Some((plain(owner, vec![record], ends), instruction))
@@ -155,7 +171,7 @@ fn slot_route(
 fn actual_route(
     kit: &Kit,
     random: &mut Random,
-    number: u8,
+    fault: Fault,
 ) -> Option<(Setting, InstructionRecord)> {
     let owner = kit.any_owner(random);
     let need = kit.pick(random, |kit, n| !kit.typing.has_open(n));
@@ -165,7 +181,7 @@ fn actual_route(
     } else {
         need
     };
-    let ends = ends(kit, random, owner, number, |n| kit.typing.movement(n, need))?;
+    let ends = ends(kit, random, owner, fault, |n| (n, need))?;
     let callee = Procedure::new(callee_owner, NONE);
     let (callee, first) = if random.one_in(2) {
         let first = callee.formal(inner, need).formal(kit.integer, kit.integer);
@@ -187,12 +203,14 @@ fn giving(random: &mut Random, kit: &Kit, result: u8) -> Procedure {
         .body(&[give_back(0)])
 }
 
-fn kept_route(kit: &Kit, random: &mut Random, number: u8) -> Option<(Setting, InstructionRecord)> {
+fn kept_route(
+    kit: &Kit,
+    random: &mut Random,
+    fault: Fault,
+) -> Option<(Setting, InstructionRecord)> {
     let owner = kit.any_owner(random);
     let result = kit.pick(random, |kit, n| !kit.typing.has_open(n));
-    let ends = ends(kit, random, owner, number, |n| {
-        kit.typing.movement(result, n)
-    })?;
+    let ends = ends(kit, random, owner, fault, |n| (result, n))?;
     let mut setting = plain(owner, Vec::new(), ends);
     setting.callee = Some(giving(random, kit, result));
     Some((setting, call(MOVING, NONE, 0)))
@@ -201,13 +219,11 @@ fn kept_route(kit: &Kit, random: &mut Random, number: u8) -> Option<(Setting, In
 fn returned_route(
     kit: &Kit,
     random: &mut Random,
-    number: u8,
+    fault: Fault,
 ) -> Option<(Setting, InstructionRecord)> {
     let owner = kit.any_owner(random);
     let result = kit.pick(random, |kit, n| !kit.typing.has_open(n));
-    let ends = ends(kit, random, owner, number, |n| {
-        kit.typing.movement(n, result)
-    })?;
+    let ends = ends(kit, random, owner, fault, |n| (n, result))?;
     let mut setting = plain(owner, Vec::new(), ends);
     setting.result = result;
     Some((setting, give_back(MOVING)))
@@ -218,7 +234,7 @@ fn returned_route(
 fn compose(
     mut kit: Kit,
     random: &mut Random,
-    number: u8,
+    fault: Fault,
     setting: Setting,
     mut instruction: InstructionRecord,
 ) -> Breach {
@@ -240,7 +256,7 @@ fn compose(
         kit.sheet.procedures[caller].instructions[position].k = callee as u16 + 1;
     }
     let bad = setting.ends.bad;
-    kit.breach(number, At::Instruction(caller, position), |sheet| {
+    kit.breach(fault.number(), At::Instruction(caller, position), |sheet| {
         sheet.procedures[caller].variables[usize::from(MOVING)].inner = bad;
     })
 }

@@ -40,7 +40,7 @@ fn order_cases() -> Vec<Case> {
         case("K4", "not call{read} ≥ horse{read}", bound(CALL_READ, HORSE_READ), refused(8, 178)),
         case("K5", "tray[call{read}]{fetch,store} ≥ tray[call{read}]{fetch}", bound(READS_FETCH_STORE, READS_FETCH), ACCEPTED),
         case("K6", "not tray[call{read,amend}]{fetch,store} ≥ tray[call{read}]{fetch,store}", bound(BOTHS, READS_FETCH_STORE), refused(8, 178)),
-        case("K7", "not tray[call{read,amend}]{fetch} ≥ tray[call{read}]{fetch}", bound(BOTHS_FETCH, READS_FETCH), refused(8, 178)),
+        case("K7", "K7 becomes a yes and K6 remains a no", bound(BOTHS_FETCH, READS_FETCH), ACCEPTED),
         case("K8 there", "two QT records of the same fields stand ≥ each other", bound(CALL_READ, CALL_READ_TWIN), ACCEPTED),
         case("K8 back", "two QT records of the same fields stand ≥ each other", bound(CALL_READ_TWIN, CALL_READ), ACCEPTED),
         case("K8 for elements", "same base, same rights, equal elements all the way down", bound(READS, READS_TWIN), ACCEPTED),

@@ -14,6 +14,7 @@ mod open;
 mod precedence;
 pub mod runs;
 mod structures;
+mod widened;
 
 use crate::sheet::Sheet;
 pub use known::SMALLEST;
@@ -40,6 +41,7 @@ pub fn cases() -> Vec<Case> {
     all.extend(numbers::cases());
     all.extend(generics::cases());
     all.extend(structures::cases());
+    all.extend(widened::cases());
     all
 }
 

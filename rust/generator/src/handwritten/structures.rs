@@ -37,8 +37,8 @@ pub(super) fn apart([left, right]: [Structure; 2]) -> (SheetBuilder, [u8; 2]) {
     (all, ends)
 }
 
-/// The left one bound to the right one, at 88.
-fn bound(pair: [Structure; 2]) -> Vec<u8> {
+/// The left one bound to the right one, at 88 where there are seven types.
+pub(super) fn bound(pair: [Structure; 2]) -> Vec<u8> {
     let (sheet, [source, destination]) = apart(pair);
     let main = Procedure::main().variables(&[destination, source]);
     let main = main.body(&[bind(0, 1), leave()]);
@@ -46,7 +46,7 @@ fn bound(pair: [Structure; 2]) -> Vec<u8> {
 }
 
 /// A formal that needs the left one and is the right one inside, at 96.
-fn needed(pair: [Structure; 2]) -> Vec<u8> {
+pub(super) fn needed(pair: [Structure; 2]) -> Vec<u8> {
     let (sheet, [need, inner]) = apart(pair);
     let formal = Procedure::new(0, NONE).formal(inner, need);
     sheet
@@ -58,7 +58,7 @@ fn needed(pair: [Structure; 2]) -> Vec<u8> {
 
 /// The left one bound to the right one in a procedure for ?R ≥ call{read}, at
 /// 109.
-fn named(pair: [Structure; 2]) -> Vec<u8> {
+pub(super) fn named(pair: [Structure; 2]) -> Vec<u8> {
     let (sheet, [source, destination]) = apart(pair);
     let binds = Procedure::new(0, NONE).bound(2, 2);
     let binds = binds.variables(&[destination, source]);

@@ -111,6 +111,12 @@ impl<'a> Chooser<'a> {
         }
     }
 
+    /// An array variable to which one of the type moves, with other elements.
+    pub fn widened(&mut self, source: u8) -> Option<u8> {
+        let bound = self.procedure().bound;
+        self.variable(|typing, inner| Scope { typing, bound }.widens(source, inner))
+    }
+
     pub fn giver(&mut self, destination: u8) -> Option<u8> {
         match self.typing.is_integer(destination) {
             true => Some(self.integer()),

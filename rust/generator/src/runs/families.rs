@@ -32,11 +32,15 @@ pub const ANY_ACCEPTED: Family = Family {
     sheet: |random, _| accepted(random),
 };
 
-/// One instruction on operands of any types; all codes in turn.
+/// One instruction on operands of any types; all codes in turn, and a fetch,
+/// which is bound twice, two times more.
 pub const TRIALS: Family = Family {
     name: "trials",
     accepted: false,
-    sheet: |random, seed| trial(random, (seed % 17) as u8 + 1),
+    sheet: |random, seed| {
+        let turn = (seed % 19) as u8 + 1;
+        trial(random, if turn > 17 { 10 } else { turn })
+    },
 };
 
 /// One call of a procedure with a rights name.

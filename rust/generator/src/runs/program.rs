@@ -9,8 +9,9 @@
 
 use super::writer::{Plan, Writer};
 use crate::random::Random;
+use crate::reading::Scope;
 use crate::records::{
-    BoundRecord, QualifiedRecord, TypeRecord, VariableRecord, ARRAY_ALL, NONE, OPEN,
+    BoundRecord, QualifiedRecord, TypeRecord, VariableRecord, ARRAY_ALL, FETCH, NONE, OPEN, SIZE,
 };
 use crate::sheet::{Procedure, Sheet, SheetBuilder};
 use crate::typing::Typing;
@@ -65,6 +66,7 @@ impl<'a> Author<'a> {
         for _ in 0..author.random.between(4, 9) {
             author.declare_array();
         }
+        author.declare_readers();
         for number in 0..types {
             author.fill_slots(number);
         }
@@ -108,6 +110,25 @@ impl<'a> Author<'a> {
         self.add(QualifiedRecord::array(element, rights));
         if self.random.one_in(3) {
             self.add(QualifiedRecord::array(element, ARRAY_ALL));
+        }
+    }
+
+    /// An array of records with all rights but open, one of fewer rights that
+    /// lacks store, and arrays of both.
+    fn declare_readers(&mut self) {
+        let base = self.random.below(self.sheet.types.len()) as u8 + 2;
+        let all = with_base(&self.typing, base, false);
+        let fewer = [all + 2, all + 4, all + 5][self.random.below(3)];
+        let reading = match self.random.one_in(4) {
+            true => SIZE,
+            false => FETCH | SIZE,
+        };
+        let mut ends = [(all, ARRAY_ALL), (fewer, reading)];
+        for _ in 0..2 {
+            ends = ends.map(|(element, rights)| {
+                let array = self.add(QualifiedRecord::array(element, rights));
+                (array, rights)
+            });
         }
     }
 
@@ -238,7 +259,19 @@ impl<'a> Author<'a> {
             let inner = self.inner(head.owner, bound);
             self.add_variables(number, &[inner]);
         }
+        self.add_two_names(number);
         plans
+    }
+
+    /// Mostly two variables for one array.
+    fn add_two_names(&mut self, number: usize) {
+        let typing = &self.typing;
+        let bound = self.sheet.procedures[number].bound;
+        let pairs = Scope { typing, bound }.two_names();
+        let pair = self.random.pick(&pairs);
+        if let Some(pair) = pair.filter(|_| !self.random.one_in(3)) {
+            self.add_variables(number, &pair);
+        }
     }
 
     /// Mostly a later procedure, so that calls come to an end.

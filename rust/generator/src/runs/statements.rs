@@ -97,9 +97,12 @@ impl Writer<'_> {
     }
 
     pub(super) fn store(&mut self) {
-        let Some(a) = self.chooser.array(STORE) else {
-            return;
-        };
+        if let Some(a) = self.chooser.array(STORE) {
+            self.store_to(a);
+        }
+    }
+
+    fn store_to(&mut self, a: u8) {
         let Some(c) = self.chooser.giver(self.chooser.element(a)) else {
             return;
         };
@@ -110,9 +113,12 @@ impl Writer<'_> {
     }
 
     pub(super) fn fetch(&mut self) {
-        let Some(b) = self.chooser.array(FETCH) else {
-            return;
-        };
+        if let Some(b) = self.chooser.array(FETCH) {
+            self.fetch_from(b);
+        }
+    }
+
+    fn fetch_from(&mut self, b: u8) {
         let Some(a) = self.chooser.receiver(self.chooser.element(b)) else {
             return;
         };
@@ -121,6 +127,28 @@ impl Writer<'_> {
             self.emit(fetch(a, b, c));
             self.filled(a);
         }
+    }
+
+    /// A second name for an array, by which less is asked of its elements: what
+    /// is stored by the first is fetched by both.
+    pub(super) fn two_names(&mut self) {
+        let Some(first) = self.chooser.array(FETCH | STORE) else {
+            return;
+        };
+        let Some(second) = self.chooser.widened(self.chooser.inner(first)) else {
+            return;
+        };
+        if !self.ready(first) {
+            return;
+        }
+        self.emit(bind(second, first));
+        self.chooser.set_fill(second, self.chooser.fill(first));
+        self.store_to(first);
+        let inner = self.chooser.inner(second);
+        if self.chooser.typing.is_array_with(inner, FETCH) {
+            self.fetch_from(second);
+        }
+        self.fetch_from(first);
     }
 
     pub(super) fn size(&mut self) {

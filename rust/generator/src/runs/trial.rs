@@ -132,7 +132,7 @@ impl Author<'_> {
             }
         };
         let b = if formals == 0 { NONE } else { first };
-        self.with_fillers(number, &inners, ints);
+        self.with_fillers(number, &inners, &inners, ints);
         Operands {
             instruction: call(a, b, callee as u16),
             first,
@@ -140,12 +140,13 @@ impl Author<'_> {
         }
     }
 
-    /// Adds the operands and the variables for their filling: an array, a
-    /// cell of it, and an opened record.
-    fn with_fillers(&mut self, number: usize, inners: &[u8], ints: u8) {
+    /// Adds the operands and the variables for their filling: an array, for
+    /// the first of some of them that is one, a cell of it, and an opened
+    /// record.
+    fn with_fillers(&mut self, number: usize, inners: &[u8], rather: &[u8], ints: u8) {
         let owner = self.sheet.procedures[number].head.owner;
         self.add_variables(number, inners);
-        let array = inners
+        let array = rather
             .iter()
             .copied()
             .find(|&n| self.typing.get(n).base == 1);
@@ -170,7 +171,12 @@ impl Author<'_> {
         }
         let inners = self.operand_types(number, code, slot_type);
         let first = self.sheet.procedures[number].variables.len() as u8;
-        self.with_fillers(number, &inners, ints);
+        // What is bound or fetched from is to be filled rather than a.
+        let rather = match code {
+            6 | 10 => &inners[1..],
+            _ => &inners[..],
+        };
+        self.with_fillers(number, &inners, rather, ints);
         self.add_variables(number, &[slot_type]);
         let fields = inners.iter().zip(first..).map(|(_, variable)| variable);
         let mut fields = fields.chain([NONE; 3]);

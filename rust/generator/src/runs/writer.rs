@@ -136,7 +136,7 @@ impl<'a> Writer<'a> {
     }
 
     fn statement(&mut self, plans: &[Plan]) {
-        match self.chooser.random.below(26) {
+        match self.chooser.random.below(28) {
             0 | 1 => self.arithmetic(),
             2 => self.put(),
             3 => self.take(),
@@ -158,6 +158,7 @@ impl<'a> Writer<'a> {
             20 => self.wrap(),
             21 => self.set_slot(),
             22..=24 => self.get_slot(),
+            25 | 26 => self.two_names(),
             _ if self.chooser.random.one_in(4) => self.wild(),
             _ => self.put(),
         }

@@ -101,7 +101,7 @@ fn audit_cell(
     };
     let form = state.form(held.value);
     let declared = program.read(declared);
-    if !program.same_form(form, declared.form) || held.rights != declared.rights {
+    if !program.alike(form, declared) || held.rights != declared.rights {
         return Err(format!("{held:?} of {form:?} declared {declared:?}"));
     }
     match form {

@@ -15,6 +15,7 @@ mod units;
 mod watched_calls;
 mod watched_order;
 mod watched_values;
+mod widened;
 mod widths;
 
 use super::catalogue::{types, CALL, CALL_BOTH, CALL_OPEN};
@@ -76,6 +77,7 @@ pub fn cases() -> Vec<RunCase> {
     all.extend(depths::cases());
     all.extend(generics::cases());
     all.extend(structures::cases());
+    all.extend(widened::cases());
     all
 }
 

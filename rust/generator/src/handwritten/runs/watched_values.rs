@@ -121,7 +121,7 @@ fn equality_cases() -> Vec<RunCase> {
     vec![
         case("K5, watched", "tray[call{read}]{fetch,store} ≥ tray[call{read}]{fetch}", arrays(READS_FETCH_STORE, READS_FETCH), stops(11, 4, &[], (0, 3))),
         case("K6, watched", "Elements ordered by subset: K6", arrays(BOTHS, READS_FETCH_STORE), unequal()),
-        case("K7, watched", BINDING, arrays(BOTHS_FETCH, READS_FETCH), unequal()),
+        case("K7, watched", "K7 becomes a yes and K6 remains a no", arrays(BOTHS_FETCH, READS_FETCH), stops(11, 4, &[], (0, 3))),
         case("K8, watched", "QT numbers compared for structure: K8", arrays(READS, READS_TWIN), stops(11, 4, &[], (0, 3))),
         case("K8 two levels down, watched", "equal elements all the way down", arrays(NESTED_TWIN, NESTED), stops(11, 4, &[], (0, 3))),
         case("unequal two levels down, watched", "equal elements all the way down", arrays(NESTED_BOTHS, NESTED), unequal()),

@@ -30,7 +30,7 @@ impl Machine<'_> {
             }
             Operation::Fetch { to, array, index } => {
                 if let Some(cell) = self.array_cell(array, index) {
-                    self.bind(self.carried(cell), self.inner(to), report);
+                    self.test_fetched(cell, array, to, report);
                 }
             }
             Operation::Store { array, from, .. } => {
@@ -48,6 +48,17 @@ impl Machine<'_> {
             } => self.test_actuals(procedure, first, report),
             Operation::Return { value: Some(value) } => self.test_result(value, report),
             _ => {}
+        }
+    }
+
+    /// A fetched value is bound to the element of the array variable's type,
+    /// which may ask for less than the object's element, then to `to`.
+    fn test_fetched(&self, cell: Cell, array: usize, to: usize, report: &mut Report) {
+        let Form::Array { element } = self.declared_type(array).form else {
+            return;
+        };
+        if let Some(bound) = self.bind(self.carried(cell), element, report) {
+            self.bind(Some(bound), self.inner(to), report);
         }
     }
 
@@ -119,8 +130,8 @@ impl Machine<'_> {
         let declared = self.program.read(to);
         report.require(source.is_some(), Phase::Movement, Stop::Blank);
         let Carried { form, rights } = source?;
-        let same = self.program.same_form(form, declared.form);
-        report.require(same, Phase::Movement, Stop::WrongKind);
+        let alike = self.program.alike(form, declared);
+        report.require(alike, Phase::Movement, Stop::WrongKind);
         let enough = rights.includes(&declared.rights);
         report.require(enough, Phase::Movement, Stop::MissingRight);
         Some(Carried {
