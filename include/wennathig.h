@@ -32,7 +32,7 @@ extern "C" {
 
 /* The version, which stands here and nowhere else: a request that lands raises the minor number. */
 #define WN_VERSION_MAJOR 1
-#define WN_VERSION_MINOR 3
+#define WN_VERSION_MINOR 4
 #define WN_VERSION_PATCH 0
 
 /* The same as text, "MAJOR.MINOR.PATCH". */

@@ -1,4 +1,6 @@
 pub mod Sheets
 pub mod Small
 pub mod Accepted
+pub mod Chains
+pub mod GeneratedChains
 pub mod Refused

@@ -10,7 +10,8 @@ use Rattle.model.specs.Outcome.{Stop, fuel-spent, wrong-kind, missing-ri
 use Rattle.model.specs.Modes.{Mode, plain, watched}
 use Rattle.model.specs.Machine.{frame, State, state, View, plan, step}
 use Rattle.model.specs.Run.{End, stopped, stuck-at, words-put, end-in, Snapshot, shot, Moment, running, over, next-moment, end-of, advance, trace, run}
-use Rattle.model.proofs.Plans.{Comes, goes, stops, sticks, plan-comes}
+use Rattle.model.proofs.Comes.{Comes, goes, stops, sticks}
+use Rattle.model.proofs.Plans.{plan-comes}
 use Rattle.model.proofs.Ends.{steps-of, Way, run-ended}
 
 -- ---- The watched machine is never stuck, and the plain one never stops with 18 or 19

@@ -9,9 +9,12 @@ use lib.ListN.{length, length-append}
 use Rattle.model.specs.Program.{Program}
 use Rattle.model.specs.Outcome.{Stop, done, fuel-spent, blank, past-end, input-ended, output-full, memory-full, wrong-kind, missing-right, Res}
 use Rattle.model.specs.Modes.{Mode}
-use Rattle.model.specs.Machine.{frame, State, state, view, Effect, write, take, put, jump, skip, new-array, new-record, store, call, resume, finish, Next, go, finished, apply, step}
+use Rattle.model.specs.declared.Operation.{Operation}
+use Rattle.model.specs.Machine.{frame, State, state, view, Effect, Next, go, finished, apply, step}
 use Rattle.model.specs.Run.{End, stopped, stuck-at, words-put, Snapshot, snapshot, Moment, running, over, next-moment, end-of, advance, opened, start, trace, run}
-use Rattle.model.proofs.Plans.{Unwatched, Stops, Comes, goes, stops, sticks, and-with, Room, plan-comes}
+use Rattle.model.proofs.Comes.{Unwatched, Stops, Comes, goes, stops, sticks, and-with}
+use Rattle.model.proofs.Planned.{Planned, sets, adds, subtracts, compares, jumps, skips, binds, takes, puts, new-arrays, fetches, stores, sizes, new-records, gets-slot, sets-slot, calls, finishes, returns}
+use Rattle.model.proofs.Plans.{plan-comes}
 
 abbrev pub steps-of : End → ℕ
 steps-of (stopped x n out p i) = n
@@ -30,26 +33,35 @@ Keeps output s finished = Unit {0}
 put-keeps : (output n : ℕ) (out : List ℕ) → 0 < output - length out → length (out ++ (n ∷ [])) ≤ output
 put-keeps output n out l = omega (arith, length-append out (n ∷ []))
 
-apply-keeps : {m : Mode} (g : Program) (output : ℕ) (s : State m) (e : Effect m) → Room (output - length (words s)) e → Keeps output s (apply g s e)
+apply-keeps :
+    {m : Mode} (g : Program) (memory output : ℕ) (s : State m) {op : Operation} {e : Effect m} → Planned m g (view memory output s) op e → Keeps output s (apply g s e)
 unfolding apply
-apply-keeps g output (state (frame p i z vs) fs os input out) (write a c) r = λ l. l
-apply-keeps g output (state (frame p i z vs) fs os input out) (take a c) r = λ l. l
-apply-keeps g output (state (frame p i z vs) fs os input out) (put n) r = λ l. put-keeps output n out r
-apply-keeps g output (state (frame p i z vs) fs os input out) (jump k) r = λ l. l
-apply-keeps g output (state (frame p i z vs) fs os input out) skip r = λ l. l
-apply-keeps g output (state (frame p i z vs) fs os input out) (new-array a e n q) r = λ l. l
-apply-keeps g output (state (frame p i z vs) fs os input out) (new-record a t n q) r = λ l. l
-apply-keeps g output (state (frame p i z vs) fs os input out) (store a j c) r = λ l. l
-apply-keeps g output (state (frame p i z vs) fs os input out) (call k y cs) r = λ l. l
-apply-keeps g output (state (frame p i z vs) [] os input out) (resume w) r = tt
-apply-keeps g output (state (frame p i z vs) (frame q j y us ∷ fs) os input out) (resume w) r = λ l. l
-apply-keeps g output (state (frame p i z vs) fs os input out) finish r = tt
+apply-keeps g memory output (state (frame p i z vs) fs os input out) (sets h) = λ l. l
+apply-keeps g memory output (state (frame p i z vs) fs os input out) (adds h) = λ l. l
+apply-keeps g memory output (state (frame p i z vs) fs os input out) (subtracts h) = λ l. l
+apply-keeps g memory output (state (frame p i z vs) fs os input out) (compares h) = λ l. l
+apply-keeps g memory output (state (frame p i z vs) fs os input out) jumps = λ l. l
+apply-keeps g memory output (state (frame p i z vs) fs os input out) skips = λ l. l
+apply-keeps g memory output (state (frame p i z vs) fs os input out) (binds h) = λ l. l
+apply-keeps g memory output (state (frame p i z vs) fs os input out) (takes h) = λ l. l
+apply-keeps g memory output (state (frame p i z vs) fs os input out) (puts {n} r) = λ l. put-keeps output n out r
+apply-keeps g memory output (state (frame p i z vs) fs os input out) (new-arrays h) = λ l. l
+apply-keeps g memory output (state (frame p i z vs) fs os input out) (fetches h) = λ l. l
+apply-keeps g memory output (state (frame p i z vs) fs os input out) (stores h) = λ l. l
+apply-keeps g memory output (state (frame p i z vs) fs os input out) (sizes h) = λ l. l
+apply-keeps g memory output (state (frame p i z vs) fs os input out) (new-records t h) = λ l. l
+apply-keeps g memory output (state (frame p i z vs) fs os input out) (gets-slot h) = λ l. l
+apply-keeps g memory output (state (frame p i z vs) fs os input out) (sets-slot h) = λ l. l
+apply-keeps g memory output (state (frame p i z vs) fs os input out) (calls t h) = λ l. l
+apply-keeps g memory output (state (frame p i z vs) [] os input out) (returns q j y e h) = tt
+apply-keeps g memory output (state (frame p i z vs) (frame o k x us ∷ fs) os input out) (returns q j y e h) = λ l. l
+apply-keeps g memory output (state (frame p i z vs) fs os input out) (finishes h) = tt
 
 step-comes : (m : Mode) (g : Program) (memory output : ℕ) (s : State m) → Comes m (Keeps output s) (step g memory output s)
 unfolding step
 step-comes m g memory output (state (frame p i z vs) fs os input out) =
     let s : State m = state (frame p i z vs) fs os input out in
-    and-with (plan-comes m g (view memory output s) (g .operation p i)) λ e r. goes (apply-keeps g output s e r)
+    and-with (plan-comes m g (view memory output s) (g .operation p i)) λ e r. goes (apply-keeps g memory output s r)
 
 -- ---- The run
 

@@ -15,6 +15,8 @@ pub mod Steps
 pub mod Typing
 pub mod Run
 pub mod Open
+pub mod Comes
+pub mod Planned
 pub mod Plans
 pub mod Ends
 pub mod AnyProgram

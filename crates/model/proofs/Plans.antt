@@ -1,365 +1,262 @@
 -- What the plan of an instruction can come to, of any program, accepted or not, and in either mode: the watched machine is not stuck, the plain one does not stop
--- with a wrong kind or a missing right, neither stops for fuel, and a word is put only where the output has room. Each proof repeats the plan line by line.
-use Prim.Native.Nat.{ℕ, zero, suc, _<_}
-use mathlib.Core.Path.{_≡_, refl}
-use mathlib.Core.Bool.{Bool, true, false, _&&_}
-use mathlib.Core.List.{List}
+-- with a wrong kind or a missing right, neither stops for fuel, a word is put only where the output has room, and each value in an effect is one that the
+-- instruction found (Planned). Each proof repeats the plan line by line.
+use Prim.Native.Nat.{ℕ, zero, suc, pred, _+_, _<_}
+use mathlib.Core.Path.{_≡_, refl, sym, ap, subst}
+use mathlib.Core.Bool.{Bool, true, false}
+use mathlib.Core.List.{List, _∷_}
 use mathlib.Core.Option.{Option, none, some}
-use lib.Dec.{eqb}
+use native.Mathlib.Omega.{arith}
+use lib.ListN.{getD}
 use borrow.Author.Tests.{ltb-true}
-use Rattle.model.specs.Rights.{within, has}
-use Rattle.model.specs.Qualified.{Qual, rights}
-use Rattle.model.specs.Generic.{Bound, is-settled, is-enough}
+use Rattle.model.specs.Qualified.{Qual, element}
 use Rattle.model.specs.Program.{Program}
-use Rattle.model.specs.Rules.{optional, amplifies}
+use Rattle.model.specs.Rules.{optional}
 use Rattle.model.specs.declared.Operation.{Operation}
 use Rattle.model.specs.declared.Operation.the-variants.{Set, Add, Subtract, Less, JumpZero, Bind, Take, Put, NewArray, Fetch, Store, Size, NewRecord, GetSlot, SetSlot, Call, Return}
-use Rattle.model.specs.Outcome.{Stop, done, fuel-spent, blank, past-end, input-ended, output-full, memory-full, wrong-kind, missing-right, Res, ok, stop, stuck, _>>=_, _>>_, ensure, found}
-use Rattle.model.specs.Modes.{Mode, plain, watched, Carried, ElementInfo, TypeInfo, SettledSet, Kind, amiss, demand, licence, is-of, fits, bind, settle-set, is-record-of, raise-if, raise, bind-element, bind-result}
-use Rattle.model.specs.Machine.{Value, word, object, Cell, empty, filled, Head, array-head, record-head, no-head, View, Effect, write, take, put, jump, skip, new-array, new-record, store, call, resume, finish, held, as-integer, array-head-of, record-head-of, array-at, record-at, moved, give, integers, one-integer, plan-array, plan-record, plan-fetch, plan-store, plan-size, slot-there, plan-get, plan-set, settle-call, actual, actuals, plan-call, handed, into-caller, to-caller, plan-return, gives, branch, plan}
-
--- ---- What a result may be
-
-abbrev pub Watching : Mode → Type 0
-Watching plain = ⊥
-Watching watched = Unit {0}
-
-abbrev pub Unwatched : Mode → Type 0
-Unwatched plain = Unit {0}
-Unwatched watched = ⊥
-
--- which stops, where fuel is spent only if F
-abbrev pub Stops : (m : Mode) (F : Type 0) → Stop → Type 0
-Stops m F done = Unit {0}
-Stops m F fuel-spent = F
-Stops m F blank = Unit {0}
-Stops m F past-end = Unit {0}
-Stops m F input-ended = Unit {0}
-Stops m F output-full = Unit {0}
-Stops m F memory-full = Unit {0}
-Stops m F wrong-kind = Watching m
-Stops m F missing-right = Watching m
-
--- a value of which P holds, a stop but for fuel, or stuck, but not where the machine is watched
-pub data Comes (m : Mode) {A : Type 0} (P : A → Type 0) : Res A → Type 0 where
-  goes : {a : A} → P a → Comes m P (ok a)
-  stops : {x : Stop} → Stops m ⊥ x → Comes m P (stop x)
-  sticks : Unwatched m → Comes m P stuck
-
-abbrev Any : {A : Type 0} → A → Type 0
-Any a = Unit {0}
-
-module _ {m : Mode} {A : Type 0} {P : A → Type 0} where
-  pub and-with : {B : Type 0} {Q : B → Type 0} {r : Res B} {f : B → Res A} → Comes m Q r → ((x : B) → Q x → Comes m P (f x)) → Comes m P (r >>= f)
-  unfolding _>>=_
-  and-with (goes q) k = k _ q
-  and-with (stops c) k = stops c
-  and-with (sticks u) k = sticks u
-
-  and-then : {B : Type 0} {r : Res B} {f : B → Res A} → Comes m Any r → ((x : B) → Comes m P (f x)) → Comes m P (r >>= f)
-  and-then h k = and-with h λ x t. k x
-
-  and-do : {r : Res (Unit {0})} {r′ : Res A} → Comes m Any r → Comes m P r′ → Comes m P (r >> r′)
-  unfolding _>>_
-  and-do (goes q) k = k
-  and-do (stops c) k = stops c
-  and-do (sticks u) k = sticks u
-
-  and-test : (s : Stop) → Stops m ⊥ s → (b : Bool) {r : Res A} → (b ≡ true → Comes m P r) → Comes m P (ensure s b >> r)
-  unfolding ensure _>>_
-  and-test s c true k = k refl
-  and-test s c false k = stops c
-
--- ---- The tests of Modes.antt
-
-test-comes : {m : Mode} (s : Stop) → Stops m ⊥ s → (b : Bool) → Comes m Any (ensure s b)
-unfolding ensure
-test-comes s c true = goes tt
-test-comes s c false = stops c
-
-found-comes : {m : Mode} {A : Type 0} (s : Stop) → Stops m ⊥ s → (x : Option A) → Comes m Any (found s x)
-unfolding found
-found-comes s c none = stops c
-found-comes s c (some y) = goes tt
-
-amiss-comes : (m : Mode) {A : Type 0} {P : A → Type 0} → Comes m P (amiss m)
-unfolding amiss
-amiss-comes plain = sticks tt
-amiss-comes watched = stops tt
-
-demand-comes : (m : Mode) (b : Bool) → Comes m Any (demand m b)
-unfolding demand
-demand-comes plain b = goes tt
-demand-comes watched b = test-comes wrong-kind tt b
-
-licence-comes : (m : Mode) (i : ℕ) (r : Carried m) → Comes m Any (licence m i r)
-unfolding licence
-licence-comes plain i r = goes tt
-licence-comes watched i r = test-comes missing-right tt (has i r)
-
-is-of-comes : (m : Mode) (t : ℕ) (u : TypeInfo m) → Comes m Any (is-of m t u)
-unfolding is-of
-is-of-comes plain t u = goes tt
-is-of-comes watched t u = test-comes wrong-kind tt (eqb u t)
-
-bind-comes : (m : Mode) (q : Qual) (k : Kind m) (r : Carried m) → Comes m Any (bind m q k r)
-unfolding bind
-bind-comes plain q k r = goes tt
-bind-comes watched q k r =
-    and-do (test-comes wrong-kind tt (fits q k))
-    (and-do (test-comes missing-right tt (within (rights q) r))
-    (goes tt))
-
-settle-comes : (m : Mode) (b : Bound) (used : Bool) (found : List Qual) → Comes m Any (settle-set m b used found)
-unfolding settle-set
-settle-comes plain b used found = goes tt
-settle-comes watched b used found =
-    and-do (test-comes wrong-kind tt (is-settled b used found))
-    (and-do (test-comes missing-right tt (is-enough b found))
-    (goes tt))
-
-raise-comes : (m : Mode) (o : ℕ) (inner q : Qual) (k : Kind m) (r : Carried m) → Comes m Any (raise m o inner q k r)
-unfolding raise raise-if
-raise-comes plain o inner q k r = goes tt
-raise-comes watched o inner q k r = either (is-record-of o k && amplifies o inner)
-  where
-    either : (b : Bool) → Comes watched Any (raise-if b q k r)
-    either true = goes tt
-    either false = bind-comes watched q k r
-
-element-comes : (m : Mode) (e : ElementInfo m) (k : Kind m) (r : Carried m) → Comes m Any (bind-element m e k r)
-unfolding bind-element
-element-comes plain e k r = goes tt
-element-comes watched e k r = bind-comes watched e k r
-
-result-comes : (m : Mode) (q : Option Qual) (k : Kind m) (r : Carried m) → Comes m Any (bind-result m q k r)
-unfolding bind-result
-result-comes plain q k r = goes tt
-result-comes watched none k r = stops tt
-result-comes watched (some q) k r = bind-comes watched q k r
+use Rattle.model.specs.Outcome.{past-end, input-ended, output-full, memory-full}
+use Rattle.model.specs.Modes.{Mode, ElementInfo, SettledSet, carried}
+use Rattle.model.specs.Machine.{Value, word, object, Cell, empty, filled, Head, array-head, record-head, no-head, View, write, resume, held, as-integer, array-head-of, record-head-of, kept, read-in, declared-as, array-at, record-at, moved, give, integers, one-integer, plan-array, plan-record, plan-fetch, plan-store, plan-size, slot-there, plan-get, plan-set, settle-call, actual, actuals, plan-call, handed, into-caller, to-caller, plan-return, gives, branch, plan}
+use Rattle.model.proofs.Comes.{Comes, goes, stops, Any, and-with, and-then, and-do, and-map, and-test, found-comes, amiss-comes, demand-comes, licence-comes, is-of-comes, bind-comes, settle-comes, raise-comes, element-comes, result-comes}
+use Rattle.model.proofs.Planned.{Moved, Given, Passed, AllPassed, Handed, Resumed, Planned, sets, adds, subtracts, compares, jumps, skips, binds, takes, puts, new-arrays, fetches, stores, sizes, new-records, gets-slot, sets-slot, calls, finishes, returns}
 
 -- ---- What an instruction reads
 
 module _ {m : Mode} where
-  held-comes : (c : Cell m) → Comes m Any (held c)
+  held-comes : (c : Cell m) → Comes m (λ h. c ≡ filled (h .0) (h .1)) (held c)
   unfolding held
   held-comes empty = stops tt
-  held-comes (filled x r) = goes tt
+  held-comes (filled x r) = goes refl
 
-  integer-comes : (x : Value) → Comes m Any (as-integer m x)
+  integer-comes : (x : Value) → Comes m (λ n. x ≡ word n) (as-integer m x)
   unfolding as-integer
-  integer-comes (word n) = goes tt
+  integer-comes (word n) = goes refl
   integer-comes (object a) = amiss-comes m
 
-  array-head-comes : (a : ℕ) (h : Head m) → Comes m Any (array-head-of m a h)
-  unfolding array-head-of
-  array-head-comes a (array-head e n) = goes tt
-  array-head-comes a (record-head t n) = amiss-comes m
-  array-head-comes a no-head = amiss-comes m
+  module _ (heads : ℕ → Head m) where
+    -- the array that a value names
+    abbrev NamesArray : Value → ℕ × ElementInfo m × ℕ → Type 0
+    NamesArray x o = (x ≡ object (o .0)) × (heads (o .0) ≡ array-head (o .1) (o .2))
 
-  record-head-comes : (t a : ℕ) (h : Head m) → Comes m Any (record-head-of m t a h)
+    array-head-comes : (a : ℕ) (h : Head m) → heads a ≡ h → Comes m (NamesArray (object a)) (array-head-of m a h)
+    unfolding array-head-of
+    array-head-comes a (array-head e n) f = goes (refl, f)
+    array-head-comes a (record-head t n) f = amiss-comes m
+    array-head-comes a no-head f = amiss-comes m
+
+  record-head-comes : (t a : ℕ) (h : Head m) → Comes m (λ o. object a ≡ object (o .0)) (record-head-of m t a h)
   unfolding record-head-of
-  record-head-comes t a (record-head u n) = and-do (is-of-comes m t u) (goes tt)
+  record-head-comes t a (record-head u n) = and-do (is-of-comes m t u) (goes refl)
   record-head-comes t a (array-head e n) = amiss-comes m
   record-head-comes t a no-head = amiss-comes m
 
--- a word is put only where the output has room
-abbrev pub Room : {m : Mode} → (free : ℕ) → Effect m → Type 0
-Room free (put n) = 0 < free
-Room free (write a c) = Unit {0}
-Room free (take a c) = Unit {0}
-Room free (jump k) = Unit {0}
-Room free skip = Unit {0}
-Room free (new-array a e n r) = Unit {0}
-Room free (new-record a t n r) = Unit {0}
-Room free (store a j c) = Unit {0}
-Room free (call k z cs) = Unit {0}
-Room free (resume w) = Unit {0}
-Room free finish = Unit {0}
+-- ---- One line for each line of a plan
 
 module _ (m : Mode) (g : Program) (v : View m) where
-  array-comes : (x : Value) → Comes m Any (array-at m g v x)
+  array-comes : (x : Value) → Comes m (NamesArray (v .head) x) (array-at m g v x)
   unfolding array-at
   array-comes (word n) = amiss-comes m
-  array-comes (object a) = array-head-comes a (v .head a)
+  array-comes (object a) = array-head-comes (v .head) a (v .head a) refl
 
-  record-comes : (t : ℕ) (x : Value) → Comes m Any (record-at m g v t x)
+  record-comes : (t : ℕ) (x : Value) → Comes m (λ o. x ≡ object (o .0)) (record-at m g v t x)
   unfolding record-at
   record-comes t (word n) = amiss-comes m
   record-comes t (object a) = record-head-comes t a (v .head a)
 
-  moved-comes : (q : Qual) (c : Cell m) → Comes m Any (moved m g v q c)
+  moved-comes : (q : Qual) (c : Cell m) → Comes m (Moved m g v q c) (moved m g v q c)
   unfolding moved
-  moved-comes q c = and-then (held-comes c) λ h. and-then (bind-comes m q _ (h .1)) λ r. goes tt
+  moved-comes q c =
+      and-with (held-comes c) λ h e.
+      and-with (bind-comes m q _ (h .1)) λ r f.
+      goes (record { value = h .0; had = h .1; gets = r; source = e; target = refl; grants = f })
 
-  give-comes : (a n : ℕ) → Comes m Any (give m g v a n)
+  give-comes : (a n : ℕ) → Comes m (Given m g v a) (give m g v a n)
   unfolding give
-  give-comes a n = moved-comes _ _
+  give-comes a n = and-map (moved-comes (declared-as m g v a) (filled (word n) (carried m 0))) λ d h. (n, h)
 
   integers-comes : (b c : ℕ) → Comes m Any (integers m g v b c)
   unfolding integers
   integers-comes b c =
-      and-then (held-comes (v .variable b)) λ x.
-      and-then (held-comes (v .variable c)) λ y.
-      and-then (integer-comes (x .0)) λ i.
-      and-then (integer-comes (y .0)) λ j.
+      and-with (held-comes (v .variable b)) λ x e.
+      and-with (held-comes (v .variable c)) λ y f.
+      and-with (integer-comes (x .0)) λ i h.
+      and-with (integer-comes (y .0)) λ j k.
       goes tt
 
   one-comes : (a : ℕ) → Comes m Any (one-integer m g v a)
   unfolding one-integer
-  one-comes a = and-then (held-comes (v .variable a)) λ x. integer-comes (x .0)
+  one-comes a = and-with (held-comes (v .variable a)) λ x e. and-map (integer-comes (x .0)) λ n h. tt
 
   slot-comes : (b : Bool) → Comes m Any (slot-there m g v b)
   unfolding slot-there
   slot-comes true = goes tt
   slot-comes false = amiss-comes m
 
-  actual-comes : (k b : ℕ) (z : SettledSet m) (j : ℕ) → Comes m Any (actual m g v k b z j)
+  actual-comes : (k b : ℕ) (z : SettledSet m) (j : ℕ) → Comes m (Passed m g v k b z j) (actual m g v k b z j)
   unfolding actual
   actual-comes k b z j =
-      and-then (moved-comes _ _) λ c.
-      and-then (held-comes c) λ h.
-      and-then (raise-comes m _ _ _ _ (h .1)) λ r.
-      goes tt
+      and-with (moved-comes (read-in m g v k z (g .need k j)) (v .variable (b + j))) λ c e.
+      and-with (held-comes c) λ h f.
+      and-with (raise-comes m _ _ _ _ (h .1)) λ r d.
+      goes (record { between = c; to-need = e; value = h .0; had = h .1; gets = r; source = f; target = refl; to-inner = d })
 
-  actuals-comes : (k b : ℕ) (z : SettledSet m) (j n : ℕ) → Comes m Any (actuals m g v k b z j n)
+  one-more :
+      (k b : ℕ) (z : SettledSet m) (j n : ℕ) (c : Cell m) (cs : List (Cell m)) → Passed m g v k b z j c → AllPassed m g v k b z (suc j) n cs →
+      AllPassed m g v k b z j (suc n) (c ∷ cs)
+  one-more k b z j n c cs e f = record { count = ap suc (f .count); each = at }
+    where
+      at : (x : ℕ) → x < suc n → Passed m g v k b z (j + x) (getD (c ∷ cs) x empty)
+      at zero l = let i : j + 0 ≡ j = omega arith in rw i e
+      at (suc x) l = let i : j + suc x ≡ suc j + x = omega arith in rw i (f .each x (omega (arith, l)))
+
+  actuals-comes : (k b : ℕ) (z : SettledSet m) (j n : ℕ) → Comes m (AllPassed m g v k b z j n) (actuals m g v k b z j n)
   unfolding actuals
-  actuals-comes k b z j zero = goes tt
-  actuals-comes k b z j (suc n) = and-then (actual-comes k b z j) λ c. and-then (actuals-comes k b z (suc j) n) λ cs. goes tt
+  actuals-comes k b z j zero = goes (record { count = refl; each = λ x l. absurd (omega (arith, l)) })
+  actuals-comes k b z j (suc n) =
+      and-with (actual-comes k b z j) λ c e.
+      and-with (actuals-comes k b z (suc j) n) λ cs f.
+      goes (one-more k b z j n c cs e f)
 
-  handed-comes : (a : Option ℕ) → Comes m Any (handed m g v a)
+  handed-comes : (a : Option ℕ) → Comes m (Handed m g v a) (handed m g v a)
   unfolding handed
   handed-comes none = goes tt
-  handed-comes (some a) = and-then (held-comes (v .variable a)) λ h. and-then (result-comes m _ _ (h .1)) λ r. goes tt
+  handed-comes (some a) =
+      and-with (held-comes (v .variable a)) λ h e.
+      and-with (result-comes m _ _ (h .1)) λ r f.
+      goes (record { value = h .0; had = h .1; gets = r; source = e; target = refl; grants = f })
 
-  -- ---- One line for each line of a plan
-
-  abbrev pub Planned : Res (Effect m) → Type 0
-  Planned r = Comes m (Room (v .free)) r
-
-  gives-comes : (a n : ℕ) → Planned (gives m g v a n)
+  gives-comes : (a n : ℕ) (op : Operation) → ((d : Cell m) → Given m g v a d → Planned m g v op (write a d)) → Comes m (Planned m g v op) (gives m g v a n)
   unfolding gives
-  gives-comes a n = and-then (give-comes a n) λ d. goes tt
+  gives-comes a n op k = and-with (give-comes a n) λ d h. goes (k d h)
 
-  branch-comes : (n k : ℕ) → Room (v .free) (branch m g v n k)
+  branch-comes : (a n k : ℕ) → Planned m g v (JumpZero a k) (branch m g v n k)
   unfolding branch
-  branch-comes zero k = tt
-  branch-comes (suc n) k = tt
+  branch-comes a zero k = jumps
+  branch-comes a (suc n) k = skips
 
-  new-array-comes : (a b : ℕ) → Planned (plan-array m g v a b)
+  new-array-comes : (a b : ℕ) → Comes m (Planned m g v (NewArray a b)) (plan-array m g v a b)
   unfolding plan-array
   new-array-comes a b =
       and-then (one-comes b) λ n.
       and-do (demand-comes m _)
       (and-test memory-full tt _ λ e.
-      and-then (bind-comes m _ _ _) λ r.
-      goes tt)
+      and-with (bind-comes m _ _ _) λ r f.
+      goes (new-arrays f))
 
-  new-record-comes : (a t : ℕ) → Planned (plan-record m g v a t)
+  new-record-comes : (a t : ℕ) → Comes m (Planned m g v (NewRecord a)) (plan-record m g v a t)
   unfolding plan-record
   new-record-comes a t =
       and-test memory-full tt _ λ e.
-      and-then (bind-comes m _ _ _) λ r.
-      goes tt
+      and-with (bind-comes m _ _ _) λ r f.
+      goes (new-records t f)
 
-  fetch-comes : (a b c : ℕ) → Planned (plan-fetch m g v a b c)
+  fetch-comes : (a b c : ℕ) → Comes m (Planned m g v (Fetch a b c)) (plan-fetch m g v a b c)
   unfolding plan-fetch
   fetch-comes a b c =
-      and-then (held-comes (v .variable b)) λ x.
-      and-then (held-comes (v .variable c)) λ y.
-      and-then (array-comes (x .0)) λ o.
-      and-then (integer-comes (y .0)) λ i.
+      and-with (held-comes (v .variable b)) λ x p.
+      and-with (held-comes (v .variable c)) λ y q.
+      and-with (array-comes (x .0)) λ o e.
+      and-with (integer-comes (y .0)) λ i f.
       and-do (licence-comes m _ (x .1))
-      (and-test past-end tt _ λ e.
-      and-then (moved-comes _ _) λ s.
-      and-then (moved-comes _ _) λ d.
-      goes tt)
+      (and-test past-end tt _ λ l.
+      and-with (moved-comes (element (declared-as m g v b)) (v .cell (o .0) i)) λ s h.
+      and-with (moved-comes (declared-as m g v a) s) λ d k.
+      goes (fetches (record { name = o .0; index = i; between = s; array = (x .1, rw (e .0) at p); at = (y .1, rw f at q); to-element = h; to-variable = k })))
 
-  store-comes : (a b c : ℕ) → Planned (plan-store m g v a b c)
+  store-comes : (a b c : ℕ) → Comes m (Planned m g v (Store a b c)) (plan-store m g v a b c)
   unfolding plan-store
   store-comes a b c =
-      and-then (held-comes (v .variable a)) λ x.
-      and-then (held-comes (v .variable b)) λ y.
-      and-then (array-comes (x .0)) λ o.
-      and-then (integer-comes (y .0)) λ i.
+      and-with (held-comes (v .variable a)) λ x p.
+      and-with (held-comes (v .variable b)) λ y q.
+      and-with (array-comes (x .0)) λ o e.
+      and-with (integer-comes (y .0)) λ i f.
       and-do (licence-comes m _ (x .1))
-      (and-test past-end tt _ λ e.
-      and-then (held-comes (v .variable c)) λ h.
-      and-then (element-comes m (o .1) _ (h .1)) λ r.
-      goes tt)
+      (and-test past-end tt _ λ l.
+      and-with (held-comes (v .variable c)) λ h t.
+      and-with (element-comes m (o .1) _ (h .1)) λ r k.
+      goes (stores (record { size = o .2; own = o .1; array = (x .1, rw (e .0) at p); at = (y .1, rw f at q); is-array = e .1; value = h .0; had = h .1; gets = r; source = t; target = refl; grants = k })))
 
-  size-comes : (a b : ℕ) → Planned (plan-size m g v a b)
+  size-comes : (a b : ℕ) → Comes m (Planned m g v (Size a b)) (plan-size m g v a b)
   unfolding plan-size
   size-comes a b =
-      and-then (held-comes (v .variable b)) λ x.
-      and-then (array-comes (x .0)) λ o.
+      and-with (held-comes (v .variable b)) λ x p.
+      and-with (array-comes (x .0)) λ o e.
       and-do (licence-comes m _ (x .1))
-      (and-then (give-comes a (o .2)) λ d.
-      goes tt)
+      (and-with (give-comes a (o .2)) λ d h.
+      goes (sizes h))
 
-  get-comes : (a b k t : ℕ) → Planned (plan-get m g v a b k t)
+  get-comes : (a b k : ℕ) → Comes m (Planned m g v (GetSlot a b k)) (plan-get m g v a b k (g .owner (v .procedure)))
   unfolding plan-get
-  get-comes a b k t =
-      and-then (held-comes (v .variable b)) λ x.
-      and-then (record-comes t (x .0)) λ o.
+  get-comes a b k =
+      and-with (held-comes (v .variable b)) λ x p.
+      and-with (record-comes _ (x .0)) λ o e.
       and-do (licence-comes m _ (x .1))
       (and-do (slot-comes _)
-      (and-then (moved-comes _ _) λ d.
-      goes tt))
+      (and-with (moved-comes (declared-as m g v a) (v .cell (o .0) k)) λ d h.
+      goes (gets-slot (record { name = o .0; holder = (x .1, rw e at p); to-variable = h }))))
 
-  set-comes : (a b k t : ℕ) → Planned (plan-set m g v a b k t)
+  set-comes : (a b k : ℕ) → Comes m (Planned m g v (SetSlot a b k)) (plan-set m g v a b k (g .owner (v .procedure)))
   unfolding plan-set
-  set-comes a b k t =
-      and-then (held-comes (v .variable a)) λ x.
-      and-then (record-comes t (x .0)) λ o.
+  set-comes a b k =
+      and-with (held-comes (v .variable a)) λ x p.
+      and-with (record-comes _ (x .0)) λ o e.
       and-do (licence-comes m _ (x .1))
       (and-do (slot-comes _)
-      (and-then (moved-comes _ _) λ d.
-      goes tt))
+      (and-with (moved-comes _ (v .variable b)) λ d h.
+      goes (sets-slot (record { holder = (x .1, rw e at p); to-slot = h }))))
 
-  call-comes : (a b k : ℕ) → Planned (plan-call m g v a b k)
+  call-comes : (a b k : ℕ) → Comes m (Planned m g v (Call a b k)) (plan-call m g v a b k)
   unfolding plan-call settle-call
   call-comes a b k =
       and-do (demand-comes m _)
-      (and-then (settle-comes m _ _ _) λ z.
+      (and-with (settle-comes m _ _ _) λ z s.
       and-test memory-full tt _ λ e.
-      and-then (actuals-comes k b z 0 (g .formals k)) λ cs.
-      goes tt)
+      and-with (actuals-comes k b z 0 (g .formals k)) λ cs h.
+      goes (calls (record { settles = s }) h))
 
-  into-caller-comes : (p : ℕ) (z : SettledSet m) (a : Option ℕ) (c : Option (Cell m)) → Planned (into-caller m g v p z a c)
+  into-caller-comes :
+      (p : ℕ) (z : SettledSet m) (x a : Option ℕ) (c : Option (Cell m)) → Handed m g v a c →
+      Comes m (λ e. (w : Option (ℕ × Cell m)) × (e ≡ resume w) × Resumed m g v p z x a w) (into-caller m g v p z x c)
   unfolding into-caller
-  into-caller-comes p z none c = goes tt
-  into-caller-comes p z (some a) none = amiss-comes m
-  into-caller-comes p z (some a) (some c) = and-then (moved-comes _ c) λ d. goes tt
+  into-caller-comes p z none a c h = goes (none, refl, tt)
+  into-caller-comes p z (some x) a none h = amiss-comes m
+  into-caller-comes p z (some x) none (some c) h = absurd h
+  into-caller-comes p z (some x) (some a) (some c) h =
+      and-with (moved-comes (read-in m g v p z (g .inner p x)) c) λ d k.
+      goes (some (x, d), refl, (refl, record { between = c; to-result = h; to-variable = k }))
 
-  to-caller-comes : (place : Option (ℕ × ℕ × SettledSet m)) (c : Option (Cell m)) → Planned (to-caller m g v place c)
+  to-caller-comes :
+      (a : ℕ) (w : Option (ℕ × ℕ × SettledSet m)) → v .caller ≡ w → (c : Option (Cell m)) → Handed m g v (optional a) c →
+      Comes m (Planned m g v (Return a)) (to-caller m g v w c)
   unfolding to-caller
-  to-caller-comes none c = goes tt
-  to-caller-comes (some place) c = into-caller-comes (place .0) (place .2) _ c
+  to-caller-comes a none e c h = goes (finishes e)
+  to-caller-comes a (some w) e c h =
+      and-map (into-caller-comes (w .0) (w .2) (kept (g .operation (w .0) (pred (w .1)))) (optional a) c h) λ f k.
+      subst (Planned m g v (Return a)) (sym (k .1)) (returns (w .0) (w .1) (w .2) e (k .2))
 
-  return-comes : (a : Option ℕ) → Planned (plan-return m g v a)
+  return-comes : (a : ℕ) → Comes m (Planned m g v (Return a)) (plan-return m g v (optional a))
   unfolding plan-return
   return-comes a =
       and-do (demand-comes m _)
-      (and-then (handed-comes a) λ c.
-      to-caller-comes (v .caller) c)
+      (and-with (handed-comes (optional a)) λ c h.
+      to-caller-comes a (v .caller) refl c h)
 
-  pub plan-comes : (op : Operation) → Planned (plan m g v op)
+  pub plan-comes : (op : Operation) → Comes m (Planned m g v op) (plan m g v op)
   unfolding plan
-  plan-comes (Set a k) = gives-comes a k
-  plan-comes (Add a b c) = and-then (integers-comes b c) λ n. gives-comes a _
-  plan-comes (Subtract a b c) = and-then (integers-comes b c) λ n. gives-comes a _
-  plan-comes (Less a b c) = and-then (integers-comes b c) λ n. gives-comes a _
-  plan-comes (JumpZero a k) = and-then (one-comes a) λ n. goes (branch-comes n k)
-  plan-comes (Bind a b) = and-then (moved-comes _ _) λ d. goes tt
-  plan-comes (Take a) = and-then (found-comes input-ended tt (v .next-input)) λ n. and-then (give-comes a n) λ d. goes tt
-  plan-comes (Put a) = and-then (one-comes a) λ n. and-test output-full tt _ λ e. goes (ltb-true 0 (v .free) e)
+  plan-comes (Set a k) = gives-comes a k _ λ d h. sets h
+  plan-comes (Add a b c) = and-then (integers-comes b c) λ n. gives-comes a _ _ λ d h. adds h
+  plan-comes (Subtract a b c) = and-then (integers-comes b c) λ n. gives-comes a _ _ λ d h. subtracts h
+  plan-comes (Less a b c) = and-then (integers-comes b c) λ n. gives-comes a _ _ λ d h. compares h
+  plan-comes (JumpZero a k) = and-then (one-comes a) λ n. goes (branch-comes a n k)
+  plan-comes (Bind a b) = and-with (moved-comes (declared-as m g v a) (v .variable b)) λ d h. goes (binds h)
+  plan-comes (Take a) = and-then (found-comes input-ended tt (v .next-input)) λ n. and-with (give-comes a n) λ d h. goes (takes h)
+  plan-comes (Put a) = and-then (one-comes a) λ n. and-test output-full tt _ λ e. goes (puts (ltb-true 0 (v .free) e))
   plan-comes (NewArray a b) = new-array-comes a b
   plan-comes (Fetch a b c) = fetch-comes a b c
   plan-comes (Store a b c) = store-comes a b c
   plan-comes (Size a b) = size-comes a b
   plan-comes (NewRecord a) = new-record-comes a _
-  plan-comes (GetSlot a b k) = get-comes a b k _
-  plan-comes (SetSlot a b k) = set-comes a b k _
+  plan-comes (GetSlot a b k) = get-comes a b k
+  plan-comes (SetSlot a b k) = set-comes a b k
   plan-comes (Call a b k) = call-comes a b k
-  plan-comes (Return a) = return-comes (optional a)
+  plan-comes (Return a) = return-comes a

@@ -112,7 +112,7 @@ found-new (x ∷ os) o =
     let d : n + u - n ≡ u = omega arith in
     rw (e, le-ltb (n + u) n (omega arith), d) (found-new os o)
 
-with-length : (o : Object watched) (i : ℕ) (c : Cell watched) → length (cells-of (with-cells o (set (cells-of o) i c))) ≡ length (cells-of o)
+pub with-length : (o : Object watched) (i : ℕ) (c : Cell watched) → length (cells-of (with-cells o (set (cells-of o) i c))) ≡ length (cells-of o)
 with-length (array-of e cs) i c = length-set cs i c
 with-length (record-of t cs) i c = length-set cs i c
 

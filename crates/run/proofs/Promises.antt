@@ -14,7 +14,7 @@ use Rattle.model.specs.Refusal.{between, Gives, verdict, big-memory, refusal-nu
 use Rattle.model.specs.Run.{End, stopped, stuck-at, run}
 use Rattle.model.specs.declared.Verdict.{Verdict}
 use Rattle.model.specs.declared.Verdict.the-variants.{Accepted, Refused}
-use Rattle.model.proofs.Plans.{Stops}
+use Rattle.model.proofs.Comes.{Stops}
 use Rattle.model.proofs.AnyProgram.{watched-not-stuck}
 use Rattle.model.proofs.Ends.{run-ended}
 use Rattle.model.proofs.Verdicts.{either-true}

@@ -1,2 +1,3 @@
 pub mod Formed
 pub mod Condition3
+pub mod Provenance

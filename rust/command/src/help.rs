@@ -74,7 +74,7 @@ fn list(options: &[Known]) -> String {
         } else {
             ""
         };
-        entry(&format!("  {indent}{names}{value}"), 21, known.about)
+        entry(&format!("  {indent}{names}{value}"), 25, known.about)
     });
     all.collect()
 }

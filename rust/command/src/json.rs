@@ -44,6 +44,10 @@ impl Object {
         self.add(key, &list(values.map(Object::said)))
     }
 
+    pub fn object(self, key: &str, value: Object) -> Self {
+        self.add(key, &value.said())
+    }
+
     pub fn said(self) -> String {
         self.said + "}"
     }
@@ -88,13 +92,14 @@ mod tests {
 
     #[test]
     fn an_object_is_on_one_line_and_escapes_what_it_must() {
-        let inner = Object::new().number("n", 1).is("yes");
+        let inner = || Object::new().number("n", 1).is("yes");
         let said = Object::new()
             .text("a\"b", "c\\d\n\u{1b}\u{7f}é\u{2028}")
             .numbers("none", &[])
             .texts("two", &[String::from("x"), String::from("\t")])
-            .objects("objects", [inner].into_iter());
-        let expected = r#"{"a\"b":"c\\d\n\u001b\u007fé\u2028","none":[],"two":["x","\t"],"objects":[{"n":1,"yes":true}]}"#;
+            .objects("objects", [inner()].into_iter())
+            .object("object", inner());
+        let expected = r#"{"a\"b":"c\\d\n\u001b\u007fé\u2028","none":[],"two":["x","\t"],"objects":[{"n":1,"yes":true}],"object":{"n":1,"yes":true}}"#;
         assert_eq!(said.said(), expected);
         assert_eq!(Object::new().said(), "{}");
     }

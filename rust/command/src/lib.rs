@@ -30,6 +30,7 @@ mod stop;
 mod streams;
 mod tasks;
 mod trace;
+mod why;
 mod words;
 mod writing;
 

@@ -7,6 +7,7 @@ use crate::json::Object;
 use crate::located::Located;
 use crate::options::Form;
 use crate::source::Source;
+use crate::why;
 use crate::words;
 use std::ffi::OsStr;
 
@@ -85,7 +86,11 @@ fn stopped(object: Object, source: &Source, ended: &Stopped, with_words: bool) -
     object = instruction(object, Some(&ended.procedure), ended.instruction);
     object = object.number("place", ended.at.place as u64);
     object = line(object, source, &ended.at);
-    reason(object, &ended.reason)
+    object = reason(object, &ended.reason);
+    match &ended.why {
+        Some(told) => object.object("why", why::object(told, source)),
+        None => object,
+    }
 }
 
 /// The number with its word and its meaning.
@@ -98,7 +103,7 @@ fn numbered(object: Object, number: u64) -> Object {
 }
 
 /// The line and the column, of the text or of the disassembly.
-fn line(object: Object, source: &Source, at: &Located) -> Object {
+pub fn line(object: Object, source: &Source, at: &Located) -> Object {
     let Some((line, column)) = at.line_and_column() else {
         return object;
     };
@@ -110,7 +115,8 @@ fn line(object: Object, source: &Source, at: &Located) -> Object {
     }
 }
 
-fn instruction(object: Object, procedure: Option<&str>, number: Option<usize>) -> Object {
+/// The procedure and the number of an instruction, where there is one.
+pub fn instruction(object: Object, procedure: Option<&str>, number: Option<usize>) -> Object {
     let object = match procedure {
         Some(procedure) => object.text("procedure", procedure),
         None => object,

@@ -3,6 +3,7 @@
 use crate::arguments::{misplaced, misuse, nearest, Given};
 use crate::paint::When;
 use crate::tasks::{by_word, Entry, Kind, TASKS};
+use crate::why::Question;
 use crate::{help, Failure};
 use std::ffi::{OsStr, OsString};
 use std::os::unix::ffi::OsStrExt;
@@ -63,9 +64,17 @@ pub struct Run {
     pub report: u64,
     pub watch: bool,
     pub trace: bool,
+    pub why: Option<Why>,
     /// The file for the words put.
     pub words: Option<OsString>,
     pub expect_done: bool,
+}
+
+/// Where a right came from is asked.
+pub struct Why {
+    pub question: Question,
+    /// After so many steps; None at the stop.
+    pub after: Option<u64>,
 }
 
 /// The most words of a report that are lent.
@@ -204,27 +213,52 @@ fn run(given: &Given) -> Result<Run, Failure> {
     let mut sheets = sheets(given)?;
     either(given, "--trace", "--json")?;
     either(given, "--trace", "--quiet")?;
+    either(given, "--why", "--quiet")?;
     let mut words = given.value("--words").map(OsStr::to_owned);
     if words.is_some() && sheets.files.len() > 1 {
         return given.misuse("--words is for one file");
     }
     if words.as_deref() == Some(OsStr::new("-")) {
         // Nothing but the words can go there.
-        if given.has("--trace") || given.has("--json") {
-            return given.misuse("--words - excludes --trace and --json");
+        let others = ["--trace", "--why", "--json"];
+        if others.iter().any(|other| given.has(other)) {
+            return given.misuse("--words - excludes --trace, --why and --json");
         }
         sheets.manner = Manner::Quiet;
         words = None;
     }
+    let watch = given.task.kind == Kind::Watch || given.has("--watch");
     Ok(Run {
         sheets,
         reads: given.value("--reads").map(OsStr::to_owned),
         fuel: given.number("--fuel", 1_000_000, u64::MAX)?,
         memory: given.number("--memory", 65_536, u64::MAX)?,
         report: given.number("--report", 65_536, MAX_REPORT)?,
-        watch: given.task.kind == Kind::Watch || given.has("--watch"),
+        watch,
         trace: given.has("--trace"),
+        why: why(given, watch)?,
         words,
         expect_done: given.has("--expect-done"),
     })
+}
+
+/// The question of --why, about a run on the watched machine: only that keeps
+/// the rights.
+fn why(given: &Given, watch: bool) -> Result<Option<Why>, Failure> {
+    let Some(value) = given.value("--why") else {
+        return match given.has("--after") {
+            true => given.misuse("--after needs --why"),
+            false => Ok(None),
+        };
+    };
+    if !watch {
+        return given.misuse("--why needs --watch");
+    }
+    let question = Question::read(&value.to_string_lossy());
+    let question = question.or_else(|message| given.misuse(message))?;
+    let after = match given.has("--after") {
+        true => Some(given.number("--after", 0, u64::MAX)?),
+        false => None,
+    };
+    Ok(Some(Why { question, after }))
 }

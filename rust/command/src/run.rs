@@ -8,6 +8,7 @@ use crate::options::{self, Manner, SheetFile};
 use crate::output::Output;
 use crate::source::Source;
 use crate::trace::trace;
+use crate::why::{Asked, Told};
 use crate::{
     objects, progress, reads, sheets, stop, writing, Failure, ACCEPTED, NOT_DONE, REFUSED,
 };
@@ -61,13 +62,42 @@ fn one(
     if options.trace && matches!(outcome, Outcome::Stopped { .. }) {
         trace(&source, &lent, options.watch, outcome, &report, output)?;
     }
+    let told = chain(options, file, &source, &lent, outcome, &report)?;
+    if let Some(told) = told.as_ref().filter(|_| is_full) {
+        write!(output, "{}", told.said())?;
+    }
     hand_over(options, outcome, &report, output)?;
     // What is told of a stop may take long to find.
     if options.sheets.manner != Manner::Quiet {
-        let answer = answer(&source, &lent, options.watch, outcome, &report)?;
+        let answer = answer(&source, &lent, options.watch, outcome, &report, told)?;
         tell(options, file, &source, &answer, output)?;
     }
     Ok(status(outcome, options.expect_done))
+}
+
+/// Where the right came from that is asked for; None where none is, or
+/// nothing was run.
+fn chain(
+    options: &options::Run,
+    file: &SheetFile,
+    source: &Source,
+    lent: &Lent,
+    outcome: Outcome,
+    report: &[u32],
+) -> Result<Option<Told>, Failure> {
+    let Some(why) = &options.why else {
+        return Ok(None);
+    };
+    let path = &file.path;
+    let asked = Asked {
+        path,
+        source,
+        lent,
+        why,
+        outcome,
+        report,
+    };
+    progress::shown(|| asked.told())
 }
 
 /// Prints what is said of a file after its words.
@@ -132,6 +162,7 @@ fn answer<'a>(
     watch: bool,
     outcome: Outcome,
     report: &'a [u32],
+    why: Option<Told>,
 ) -> Result<Answer<'a>, Failure> {
     match outcome {
         Outcome::Refused { number, place } => {
@@ -155,6 +186,7 @@ fn answer<'a>(
                 instruction: told.is_instruction.then_some(place.instruction),
                 at: Located::new(source, told.place, &told.parts),
                 reason: told.reason,
+                why: why.map(Box::new),
             }))
         }
     }

@@ -142,6 +142,19 @@ pub const OF_RUNS: &[Known] = &[
         &["first lists every step, as the second engine makes it"],
     ),
     valued(
+        &["--why"],
+        "PLACE.RIGHT",
+        &[
+            "with --watch: first tells where the right came from that PLACE, a variable,",
+            "a cell or a slot, carries (docs/PROVENANCE.md)",
+        ],
+    ),
+    valued(
+        &["--after"],
+        "N",
+        &["with --why: after N steps, as --trace counts them; else at the stop"],
+    ),
+    valued(
         &["--words"],
         "OUT",
         &[

@@ -6,11 +6,12 @@ use generator::damage::damaged;
 use generator::large::{two_deep_arrays, unequal_inside, unequal_outside, widened_arrays, SHEETS};
 use generator::records::RecordKind;
 use generator::runs::families::{MISDECLARED, RUNNABLE, SETTLING, TRIALS};
+use generator::runs::short::short;
 use generator::showcase::showcase;
 use generator::typing::Typing;
 use generator::wellformed::wellformed;
 use generator::Random;
-use reference::{check, Verdict};
+use reference::{check, Outcome, Stop, Verdict};
 
 #[test]
 fn accepted_sheets_are_accepted() {
@@ -186,5 +187,20 @@ fn trials_and_misdeclared_sheets_parse_and_most_are_refused() {
             refused += usize::from(check(&sheet) != Verdict::Accepted);
         }
         assert!(refused > 2_500, "{}: {refused}", family.name);
+    }
+}
+
+#[test]
+fn short_sheets_are_accepted_and_soon_done() {
+    for seed in 0..300 {
+        let run = short(&mut Random::new(seed));
+        assert!(run.sheet.len() <= 260, "seed {seed}");
+        let (outcome, _) = run.on(reference::run);
+        match outcome {
+            Outcome::Stopped { stop, steps, .. } => {
+                assert!(stop == Stop::Done && steps <= 18, "seed {seed}");
+            }
+            refused => panic!("seed {seed}: {refused:?}"),
+        }
     }
 }

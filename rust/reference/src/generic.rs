@@ -31,7 +31,7 @@ impl Bound {
 }
 
 /// What ?R is read as.
-#[derive(Clone, Copy, Debug, PartialEq, Eq)]
+#[derive(Clone, Copy, Debug, PartialEq, Eq, Hash)]
 pub enum Reading {
     /// Not at all: as it stands in its QT.
     Unread,
@@ -53,7 +53,7 @@ impl Reading {
 }
 
 /// A qualified type by its number, and what ?R is read as in it.
-#[derive(Clone, Copy, Debug, PartialEq, Eq)]
+#[derive(Clone, Copy, Debug, PartialEq, Eq, Hash)]
 pub struct Read {
     pub qualified: usize,
     pub reading: Reading,

@@ -6,6 +6,7 @@
 //! to it (6 to 9, 20, 21); [`check`] does one after the other. [`run`] runs
 //! an accepted sheet on the plain machine, [`watch`] a well-formed one on the
 //! watched machine; [`machine`] has both, to be driven step by step.
+//! [`provenance`] tells where a right came from in a run on the watched one.
 
 pub mod access;
 mod calls;
@@ -16,6 +17,7 @@ pub mod layout;
 pub mod machine;
 mod order;
 mod program;
+pub mod provenance;
 mod refusal;
 mod settling;
 

@@ -49,7 +49,7 @@ pub enum Kind {
 }
 
 /// A set of rights: entry i says whether right i is in it.
-#[derive(Clone, Copy, Debug, PartialEq, Eq)]
+#[derive(Clone, Copy, Debug, PartialEq, Eq, Hash)]
 pub struct Rights([bool; 16]);
 
 impl Rights {

@@ -2,6 +2,7 @@
 //! in one form, and a record of what the compared sheets have covered.
 
 pub mod coverage;
+pub mod exhibits;
 pub mod frozen;
 pub mod generics;
 pub mod machines;

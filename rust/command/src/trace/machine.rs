@@ -288,7 +288,7 @@ fn unwatched(cell: plain::Cell) -> Cell {
 }
 
 /// Bit i for right i.
-fn bits(rights: &Rights) -> u32 {
+pub fn bits(rights: &Rights) -> u32 {
     rights.members().fold(0, |bits, right| bits | 1 << right)
 }
 

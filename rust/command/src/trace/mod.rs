@@ -1,6 +1,6 @@
 //! The steps of a run, one a line, as the second engine makes them.
 
-mod columns;
+pub mod columns;
 mod effect;
 pub mod machine;
 pub mod value;

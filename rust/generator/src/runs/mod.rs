@@ -2,6 +2,7 @@
 //!
 //! - [`program::runnable`]: accepted sheets that loop, recurse, nest arrays
 //!   and fill records, mostly with filled variables;
+//! - [`short::short`]: accepted sheets that are done in a few steps;
 //! - [`settling::settling`]: well-formed sheets that lead up to one call of a
 //!   procedure with a rights name;
 //! - [`trial::trial`]: well-formed sheets that lead up to one instruction on
@@ -17,6 +18,7 @@ mod filling;
 mod generics;
 pub mod program;
 pub mod settling;
+pub mod short;
 mod statements;
 pub mod stops;
 pub mod trial;

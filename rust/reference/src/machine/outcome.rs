@@ -44,7 +44,7 @@ impl Stop {
 }
 
 /// A procedure and one of its instructions.
-#[derive(Clone, Copy, Debug, Default, PartialEq, Eq)]
+#[derive(Clone, Copy, Debug, Default, PartialEq, Eq, Hash)]
 pub struct Place {
     pub procedure: usize,
     pub instruction: usize,

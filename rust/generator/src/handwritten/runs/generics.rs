@@ -34,7 +34,7 @@ pub fn cases() -> Vec<RunCase> {
 
 /// Main and the others, with the types of the rights names. Main's instruction
 /// i stands at 218 + 4 v + 8 i.
-fn with(variables: &[u8], body: &[InstructionRecord], others: &[Procedure]) -> Run {
+pub(super) fn with(variables: &[u8], body: &[InstructionRecord], others: &[Procedure]) -> Run {
     let main = Procedure::main().variables(variables).body(body);
     let all = others.iter().cloned();
     let sheet = all.fold(generic_types().procedure(main), SheetBuilder::procedure);

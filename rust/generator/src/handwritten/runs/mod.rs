@@ -4,6 +4,7 @@
 //! The table needs no engine: it is for every one that has a run and a watch.
 
 mod calls;
+pub mod chains;
 mod depths;
 mod generics;
 mod known;
