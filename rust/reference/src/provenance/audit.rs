@@ -7,7 +7,7 @@
 use super::{History, Link, Location, Origin};
 use crate::machine::watched::{Cell, Held, Machine, State, Value};
 use crate::machine::{Resources, Stop};
-use crate::program::{Kind, Program};
+use crate::program::{Kind, Program, Rights};
 
 /// A run with its state after every number of steps.
 pub struct Recorded<'a> {
@@ -102,27 +102,51 @@ impl<'a> Recorded<'a> {
     }
 
     /// The step of the link gives the value these rights.
-    fn gives(&self, link: &Link, Held { value, rights }: Held) -> bool {
+    fn gives(&self, link: &Link, held: Held) -> bool {
         match link.origin {
             Origin::Stays | Origin::GivenUp => false,
-            Origin::Made => {
-                let made_before = self.state(link.step - 1).objects.len();
-                value == Value::Object(made_before)
-            }
+            Origin::Made => self.creates(link.step, held),
             Origin::BoundFrom { ref through, .. } => {
                 let declared = through.iter().map(|&read| self.program.read(read));
                 let mut declared = declared.map(|declared| declared.rights);
-                !through.is_empty() && declared.all(|declared| declared.includes(&rights))
+                !through.is_empty() && declared.all(|declared| declared.includes(&held.rights))
             }
             Origin::Amplified { procedure, formal } => {
-                let procedure = &self.program.procedures[procedure];
-                let inner = &self.program.qualified[procedure.variables[formal].inner];
-                let own = procedure.owner.map(|of| Kind::Record { of });
-                formal < procedure.formals
-                    && own == Some(self.state(link.step).kind(value))
-                    && inner.rights.includes(&rights)
+                self.amplifies(link, procedure, formal, held)
             }
         }
+    }
+
+    /// The step makes this very object: "9 and 13 give all rights", and these
+    /// are among them.
+    fn creates(&self, step: u64, Held { value, rights }: Held) -> bool {
+        let made_before = self.state(step - 1).objects.len();
+        let given = match self.state(step).kind(value) {
+            Kind::Array { .. } => Rights::range(Rights::FETCH, Rights::SIZE),
+            Kind::Record { of } => Rights::range(Rights::OPEN, self.program.types[of].named_rights),
+            Kind::Integer | Kind::Generic => Rights::NONE,
+        };
+        value == Value::Object(made_before) && given.includes(&rights)
+    }
+
+    /// The step opens a frame of a procedure of the value's own module, which
+    /// has these rights inside, and the location is its formal.
+    fn amplifies(&self, link: &Link, number: usize, formal: usize, held: Held) -> bool {
+        let state = self.state(link.step);
+        let procedure = &self.program.procedures[number];
+        let inner = &self.program.qualified[procedure.variables[formal].inner];
+        let opened = state.frames.last().map(|frame| frame.procedure);
+        let depth = state.frames.len() - 1;
+        let own = procedure.owner.map(|of| Kind::Record { of });
+        opened == Some(number)
+            && link.at
+                == Location::Variable {
+                    depth,
+                    index: formal,
+                }
+            && formal < procedure.formals
+            && own == Some(state.kind(held.value))
+            && inner.rights.includes(&held.rights)
     }
 
     /// What a step is said to do to each location is what has become of it.
