@@ -70,6 +70,34 @@ static const uint8_t records[] = {
     'I', 'N', 17, 1, 255, 255, 0, 0                         /* 156: 1  return time */
 };
 
+/* Document 02, S-5: the same in edition 2, where main has the call under right 31 alone */
+static const uint8_t wide_records[] = {
+    'H', 'D', 2, 1, 3, 3,                                   /*   0: edition 2, one type, three qualified types, three procedures */
+    'T', 'Y', 31, 1, 0, 255, 255, 255, 255, 255, 255, 255,  /*   6: type 2, call: 31 named rights; one slot, QT 0 */
+    'Q', 'T', 0, 0, 0, 0, 0, 255,                           /*  18: 0  integer */
+    'Q', 'T', 2, 0, 0, 0, 128, 255,                         /*  26: 1  call{right 31} */
+    'Q', 'T', 2, 1, 0, 0, 128, 255,                         /*  34: 2  call{open,right 31} */
+    'P', 'R', 0, 0, 2, 255, 4, 0,                           /*  42: main: two variables, four instructions */
+    'V', 'R', 1, 255,                                       /*  50: 0  one */
+    'V', 'R', 0, 255,                                       /*  54: 1  n */
+    'I', 'N', 16, 0, 255, 255, 1, 0,                        /*  58: 0  one <- procedure 1 */
+    'I', 'N', 16, 1, 0, 255, 2, 0,                          /*  66: 1  n <- procedure 2 (one) */
+    'I', 'N', 8, 1, 255, 255, 0, 0,                         /*  74: 2  put n */
+    'I', 'N', 17, 255, 255, 255, 0, 0,                      /*  82: 3  return */
+    'P', 'R', 2, 0, 2, 1, 4, 0,                             /*  90: of call: two variables, result call{right 31} */
+    'V', 'R', 2, 255,                                       /*  98: 0  call */
+    'V', 'R', 0, 255,                                       /* 102: 1  time */
+    'I', 'N', 13, 0, 255, 255, 0, 0,                        /* 106: 0  call <- new record */
+    'I', 'N', 1, 1, 255, 255, 7, 0,                         /* 114: 1  time := 7 */
+    'I', 'N', 15, 0, 1, 255, 0, 0,                          /* 122: 2  slot 0 of call <- time */
+    'I', 'N', 17, 0, 255, 255, 0, 0,                        /* 130: 3  return call */
+    'P', 'R', 2, 1, 2, 0, 2, 0,                             /* 138: of call: one formal, result integer */
+    'V', 'R', 2, 1,                                         /* 146: 0  call: needs call{right 31}, inside call{open,right 31} */
+    'V', 'R', 0, 255,                                       /* 150: 1  time */
+    'I', 'N', 14, 1, 0, 255, 0, 0,                          /* 154: 0  time <- slot 0 of call */
+    'I', 'N', 17, 1, 255, 255, 0, 0                         /* 162: 1  return time */
+};
+
 static const uint32_t three[1] = {3};
 static const uint32_t from_three[3] = {3, 2, 1};
 static const uint32_t seven[1] = {7};
@@ -144,6 +172,8 @@ static void values(machine *call)
     expect_stop("no room for the record", with_bench(run, 9), WN_MEMORY_FULL, 1, 0, NULL, 1, 0);
     expect_stop("no room for the frame", with_bench(run, 7), WN_MEMORY_FULL, 0, 0, NULL, 0, 0);
     expect_stop("fuel spent in a procedure called", with_fuel(run, 3), WN_FUEL_SPENT, 3, 0, NULL, 1, 2);
+    run = ordinary(call, wide_records, sizeof wide_records);
+    expect_stop("the same in edition 2", run, WN_DONE, 10, 1, seven, 0, 3);
 }
 
 /* The sheet `records` with one byte changed */
@@ -165,7 +195,7 @@ static void malformed(machine *call)
     expect_refusal("torn", ordinary(call, records, sizeof records - 1), WN_TORN, 156);
     expect_refusal("no sheet, at NULL", ordinary(call, NULL, 0), WN_TORN, 0);
     expect_changed(call, "stray mark", 6, 'Q', WN_STRAY_MARK, 6);
-    expect_changed(call, "edition 2", 2, 2, WN_BAD_EDITION, 0);
+    expect_changed(call, "edition 3", 2, 3, WN_BAD_EDITION, 0);
     expect_changed(call, "code 18", 54, 18, WN_OFF_SCALE, 52);
 }
 

@@ -114,7 +114,7 @@ static void form(void)
     expect_changed("stray mark at the second PR", 119, 'V', WN_STRAY_MARK, 118);
     expect_changed("stray mark at a later VR", 130, 'W', WN_STRAY_MARK, 130);
     expect_changed("stray mark at the last IN", 163, 'M', WN_STRAY_MARK, 162);
-    expect_changed("edition 2", 2, 2, WN_BAD_EDITION, 0);
+    expect_changed("edition 3", 2, 3, WN_BAD_EDITION, 0);
     expect_changed("33 types", 3, 33, WN_OFF_SCALE, 0);
     expect_changed("no procedures", 5, 0, WN_OFF_SCALE, 0);
     expect_changed("sixteen named rights", 8, 16, WN_OFF_SCALE, 6);
@@ -162,6 +162,45 @@ static void access_rules(void)
     expect_changed("a refusal before one with a lower number", 123, 3, WN_WRONG_KIND, 102);
 }
 
+/* Document 02, S-5: edition 2, with four bytes of rights. Main binds a call under right 31 to one under rights 16 and 31. */
+static const uint8_t wide[] = {
+    'H', 'D', 2, 1, 3, 2,                                   /*   0: edition 2, one type, three qualified types, two procedures */
+    'T', 'Y', 31, 0, 255, 255, 255, 255, 255, 255, 255, 255, /*   6: type 2, call: 31 named rights */
+    'Q', 'T', 2, 0, 0, 0, 128, 255,                         /*  18: 0  call{right 31} */
+    'Q', 'T', 2, 0, 0, 1, 128, 255,                         /*  26: 1  call{right 16,right 31} */
+    'Q', 'T', 255, 0, 0, 0, 0, 255,                         /*  34: 2  ?R */
+    'P', 'R', 0, 0, 2, 255, 3, 0,                           /*  42: main */
+    'V', 'R', 0, 255,                                       /*  50: 0 */
+    'V', 'R', 1, 255,                                       /*  54: 1 */
+    'I', 'N', 6, 0, 1, 255, 0, 0,                           /*  58: 0 <- 1 */
+    'I', 'N', 16, 255, 1, 255, 1, 0,                        /*  66: procedure 1 (1) */
+    'I', 'N', 17, 255, 255, 255, 0, 0,                      /*  74 */
+    'P', 'R', 0, 1, 1, 255, 1, 0,                           /*  82 */
+    'G', 'N', 2, 0, 0, 0, 128,                              /*  90: for ?R >= call{right 31} */
+    'V', 'R', 2, 2,                                         /*  97 */
+    'I', 'N', 17, 255, 255, 255, 0, 0                       /* 101 */
+};
+
+/* One byte of the sheet of edition 2 changed */
+static void expect_wide(const char *what, size_t at, uint8_t byte, uint64_t number, uint64_t place)
+{
+    expect_byte(what, wide, sizeof wide, at, byte, number, place);
+}
+
+static void editions(void)
+{
+    expect("a sheet of edition 2", wide, sizeof wide, WN_ACCEPTED, 0);
+    expect("a QT of edition 2 cut after six bytes", wide, 24, WN_TORN, 18);
+    expect("a GN of edition 2 cut after five bytes", wide, 95, WN_TORN, 90);
+    expect_wide("neither 1 nor 2", 2, 3, WN_BAD_EDITION, 0);
+    expect_wide("its bytes as edition 1", 2, 1, WN_OFF_SCALE, 6);
+    expect_wide("32 named rights", 8, 32, WN_OFF_SCALE, 6);
+    expect_wide("right 31 of 30", 8, 30, WN_OFF_SCALE, 18);
+    expect_wide("?R with right 16", 39, 1, WN_OFF_SCALE, 34);
+    expect_wide("a binding that would add right 30", 24, 192, WN_MISSING_RIGHT, 58);
+    expect_wide("a settled set that lacks right 17", 95, 2, WN_SHORT, 66);
+}
+
 /* main calls a procedure whose two formals are ?R, at least call{read}, with two calls that may be read */
 static const uint8_t named[] = {
     'H', 'D', 1, 1, 3, 2,                                   /*   0 */
@@ -205,6 +244,7 @@ int main(void)
     replies();
     form();
     reading_arrays();
+    editions();
     access_rules();
     rights_names();
     return finish();

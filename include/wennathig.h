@@ -32,7 +32,7 @@ extern "C" {
 
 /* The version, which stands here and nowhere else: a request that lands raises the minor number. */
 #define WN_VERSION_MAJOR 1
-#define WN_VERSION_MINOR 4
+#define WN_VERSION_MINOR 5
 #define WN_VERSION_PATCH 0
 
 /* The same as text, "MAJOR.MINOR.PATCH". */
@@ -63,7 +63,7 @@ WN_OVERLONG       =  1, /* crw overlong: more than 32,768 bytes; place 0        
 WN_TORN           =  2, /* crw torn: a record is cut short, or bytes are left over,  */
                         /*     whose place is then the first of these                */
 WN_STRAY_MARK     =  3, /* crw stray mark: not the mark that is due                  */
-WN_BAD_EDITION    =  4, /* crw edition: not 1                                        */
+WN_BAD_EDITION    =  4, /* crw edition: neither 1 nor 2                              */
 WN_OFF_SCALE      =  5, /* crw off scale: a field is outside the layout              */
 WN_OPEN_EXPOSED   =  6, /* cr  loose key: the right open stands where it may not     */
 WN_FALSE_RAISE    =  7, /* cr  false raise: need and inner of a formal disagree      */

@@ -1,9 +1,9 @@
 // The checker: from any bytes to a verdict.
 use access::passes::access;
-use form::calls::well_formed;
 use index::Index;
 use index::make::indexed;
 use model::Verdict;
+use well_formed::well_formed;
 ghost use mathlib.Core.Path.{_≡_};
 ghost use Rattle.index.specs.Indexed.{Indexed};
 ghost use Rattle.checking.specs.Check as def;

@@ -2,7 +2,7 @@
 use Prim.Native.Nat.{ℕ, zero, suc, _+_, _*_, _-_, _<_, _≤_}
 use mathlib.Core.Path.{_≡_, sym, ap, _∙_}
 use mathlib.Core.List.{List, [], _∷_, _++_}
-use mathlib.Core.Bool.{Bool, true, _&&_, cond}
+use mathlib.Core.Bool.{Bool, true, _&&_, _||_, cond}
 use native.Mathlib.Omega.{arith}
 use native.Mathlib.Numerals.{add-one}
 use lib.ListN.{length, getD}
@@ -119,7 +119,7 @@ unfolding header-tests header-scale
 header-small s h =
     let w = passed-test torn (wholeAt s 0 6) _ (accepted-tests 0 _ h) in
     let k = passed-test stray-mark (markedAt s 0 hd-mark) _ (w .1) in
-    let e = passed-test bad-edition (eqb (editionOf s) 1) _ (k .1) in
+    let e = passed-test bad-edition (eqb (editionOf s) 1 || eqb (editionOf s) 2) _ (k .1) in
     let l = all-held true _ (passed-test off-scale (header-scale (typesOf s) (qualsOf s) (proceduresOf s)) [] (e .1) .0) .1 in
     (leb-true (typesOf s) 32 (l .0), leb-true (qualsOf s) 64 (l .1 .0), leb-true 1 (proceduresOf s) (l .1 .1 .0), leb-true (proceduresOf s) 64 (l .1 .1 .1 .0))
 

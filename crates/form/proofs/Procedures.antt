@@ -9,7 +9,7 @@ use borrow.Author.Tests.{leb-true}
 use Rattle.model.specs.Refusal.{verdict, each}
 use Rattle.model.specs.declared.Verdict.the-variants.{Accepted}
 use Rattle.model.proofs.Verdicts.{left-accepted, right-accepted, each-accepted, all-held}
-use Rattle.sheet.specs.Layout.{pr-mark, gn-mark, in-mark, typesOf, qualsOf, proceduresOf, namedOf, ownerAt, formalsAt, variablesAt, resultAt, instructionsAt, boundBaseAt, leastAt, isBounded, instructionFrom, procedureAt, startAt}
+use Rattle.sheet.specs.Layout.{pr-mark, gn-mark, gn-size, editionIn, in-mark, typesOf, qualsOf, proceduresOf, namedOf, ownerAt, formalsAt, variablesAt, resultAt, instructionsAt, boundBaseAt, leastAt, isBounded, instructionFrom, procedureAt, startAt}
 use Rattle.sheet.specs.Reader.{recordAt, pastAt}
 use Rattle.sheet.proofs.Laws.{in-sized, record-sized, procedure-next}
 use Rattle.limits.specs.Scale.{procedure-scale, bound-scale}
@@ -51,7 +51,7 @@ module _ (s : List ℕ) (h : verdict (each (proceduresOf s) (procedure-tests s))
     unfolding bound-tests
     bound-true b =
         let pr = procedureAt s p in
-        record-formed s (pr + 8) 5 gn-mark _ (rw b at (left-accepted (bound-tests s p pr) _ after-head)) .1
+        record-formed s (pr + 8) (gn-size (editionIn s)) gn-mark _ (rw b at (left-accepted (bound-tests s p pr) _ after-head)) .1
 
     pub some-instruction : 1 ≤ instructionsAt s (procedureAt s p)
     unfolding procedure-scale

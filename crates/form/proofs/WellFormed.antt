@@ -16,7 +16,7 @@ use Rattle.model.specs.Refusal.{overlong, torn, off-scale, test, failure, verdi
 use Rattle.model.specs.declared.Operation.the-variants.{Call}
 use Rattle.model.specs.declared.Verdict.the-variants.{Accepted}
 use Rattle.model.proofs.Verdicts.{left-accepted, right-accepted, each-accepted, accepted-tests, passed-span, passed-test, both-true, either-true, implied, Held, all-held}
-use Rattle.sheet.specs.Layout.{ty-mark, qt-mark, vr-mark, in-mark, typesOf, qualsOf, proceduresOf, typeAt, namedOf, slotsOf, slotOf, qualAt, baseOf, rightsOf, elementOf, ownerAt, formalsAt, variablesAt, resultAt, instructionsAt, boundBaseAt, leastAt, isBounded, variableAt, innerAt, needAt, codeAt, kAt, procedureAt, startAt, instructionAt}
+use Rattle.sheet.specs.Layout.{ty-mark, qt-mark, vr-mark, in-mark, qt-size, most-named, editionIn, typesOf, qualsOf, proceduresOf, typeAt, namedOf, slotsOf, slotOf, qualAt, baseOf, rightsOf, elementOf, ownerAt, formalsAt, variablesAt, resultAt, instructionsAt, boundBaseAt, leastAt, isBounded, variableAt, innerAt, needAt, codeAt, kAt, procedureAt, startAt, instructionAt}
 use Rattle.sheet.specs.Instructions.{Line, table, line-in, line-of}
 use Rattle.sheet.specs.Decode.{unlisted, operation-by, decode, fieldsAt, operationAt}
 use Rattle.sheet.specs.declared.decode.Fields.{Fields}
@@ -163,7 +163,7 @@ module _ (s : List ℕ) (wf : verdict (form-tests s) ≡ Accepted) where
         each-accepted (type-tests s) (typesOf s) (left-accepted (each (typesOf s) (type-tests s)) _ (right-accepted (header-tests s) _ layout-accepted))
         (t - 2) (omega arith)
 
-    type-held : Held (leb (namedOf s t) 15 ∷ leb (slotsOf s t) 8 ∷ all-below 8 (λ k. below-or-none (qualsOf s) (ltb k (slotsOf s t)) (slotOf s t k)) ∷ [])
+    type-held : Held (leb (namedOf s t) (most-named (editionIn s)) ∷ leb (slotsOf s t) 8 ∷ all-below 8 (λ k. below-or-none (qualsOf s) (ltb k (slotsOf s t)) (slotOf s t k)) ∷ [])
     unfolding type-tests type-scale
     type-held =
         let e : 2 + (t - 2) ≡ t = omega arith in
@@ -198,7 +198,7 @@ module _ (s : List ℕ) (wf : verdict (form-tests s) ≡ Accepted) where
     unfolding qual-tests
     qual-scaled =
         let h = each-accepted (qual-tests s) (qualsOf s) (left-accepted (each (qualsOf s) (qual-tests s)) _ after-types) j l in
-        record-formed s (qualAt s j) 6 qt-mark _ h .1
+        record-formed s (qualAt s j) (qt-size (editionIn s)) qt-mark _ h .1
 
     -- other than ?R
     module _ (n : baseOf s j ≡ 255 → ⊥) where

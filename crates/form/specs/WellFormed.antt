@@ -10,7 +10,7 @@ use Rattle.model.specs.Refusal.{overlong, torn, stray-mark, bad-edition, off-sc
 use Rattle.model.specs.Qualified.{Qual}
 use Rattle.model.specs.Generic.{uses}
 use Rattle.sheet.specs.Bytes.{byteAt, wholeAt, Mark, markedAt}
-use Rattle.sheet.specs.Layout.{hd-mark, ty-mark, qt-mark, pr-mark, gn-mark, vr-mark, in-mark, hd-size, ty-size, qt-size, pr-size, gn-size, vr-size, in-size, editionOf, typesOf, qualsOf, proceduresOf, typeAt, namedOf, slotsOf, slotOf, qualAt, baseOf, rightsOf, elementOf, ownerAt, formalsAt, variablesAt, resultAt, instructionsAt, boundAt, boundBaseAt, leastAt, isBounded, startFrom, variableAt, innerAt, needAt, instructionFrom, codeAt, kAt, procedureAt}
+use Rattle.sheet.specs.Layout.{hd-mark, ty-mark, qt-mark, pr-mark, gn-mark, vr-mark, in-mark, hd-size, ty-size, qt-size, pr-size, gn-size, vr-size, in-size, most-named, editionOf, editionIn, typesOf, qualsOf, proceduresOf, typeAt, namedOf, slotsOf, slotOf, qualAt, baseOf, rightsOf, elementOf, ownerAt, formalsAt, variablesAt, resultAt, instructionsAt, boundAt, boundBaseAt, leastAt, isBounded, startFrom, variableAt, innerAt, needAt, instructionFrom, codeAt, kAt, procedureAt}
 use Rattle.sheet.specs.Decode.{fieldsAt}
 use Rattle.sheet.specs.Meaning.{slotIn, innerIn, needIn, resultIn}
 use Rattle.limits.specs.declared.Limits.{Limits}
@@ -25,13 +25,13 @@ unfoldable pub record-tests : List ℕ → (at size : ℕ) → Mark → Bool →
 record-tests s at size m scale =
     tests at (test torn (wholeAt s at size) ∷ test stray-mark (markedAt s at m) ∷ test off-scale scale ∷ []) ∷ []
 
--- HD; 4 is "not 1"
+-- HD; S-5: "Refusal 4 then means neither 1 nor 2."
 unfoldable pub header-tests : List ℕ → List Tests
 header-tests s =
     tests 0 (
     test torn (wholeAt s 0 hd-size) ∷
     test stray-mark (markedAt s 0 hd-mark) ∷
-    test bad-edition (eqb (editionOf s) 1) ∷
+    test bad-edition (eqb (editionOf s) 1 || eqb (editionOf s) 2) ∷
     test off-scale (header-scale (typesOf s) (qualsOf s) (proceduresOf s)) ∷
     [])
     ∷ []
@@ -40,12 +40,12 @@ header-tests s =
 unfoldable pub type-tests : List ℕ → ℕ → List Tests
 type-tests s i =
     record-tests s (typeAt (2 + i)) ty-size ty-mark
-    (type-scale (qualsOf s) (namedOf s (2 + i)) (slotsOf s (2 + i)) (slotOf s (2 + i)))
+    (type-scale (most-named (editionIn s)) (qualsOf s) (namedOf s (2 + i)) (slotsOf s (2 + i)) (slotOf s (2 + i)))
 
 -- QT number j
 unfoldable pub qual-tests : List ℕ → ℕ → List Tests
 qual-tests s j =
-    record-tests s (qualAt s j) qt-size qt-mark
+    record-tests s (qualAt s j) (qt-size (editionIn s)) qt-mark
     (qual-scale (typesOf s) (namedOf s (baseOf s j)) j (baseOf s j) (rightsOf s j) (elementOf s j))
 
 -- PR number p, at `pr`
@@ -58,7 +58,7 @@ head-tests s p pr =
 unfoldable pub bound-tests : List ℕ → (p pr : ℕ) → List Tests
 bound-tests s p pr =
     cond (isBounded s p pr)
-    (record-tests s (boundAt pr) gn-size gn-mark
+    (record-tests s (boundAt pr) (gn-size (editionIn s)) gn-mark
     (bound-scale (typesOf s) (namedOf s (boundBaseAt s pr)) (boundBaseAt s pr) (leastAt s pr)))
     []
 

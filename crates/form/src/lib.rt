@@ -1,5 +1,1 @@
-// Well-formedness: refusals 1 to 5.
-pub mod records; // one record of each kind
-pub mod layout; // all records in their order, and bytes left over
-pub mod uses; // where ?R may not stand
-pub mod calls; // the limits that wait for the procedure called
+// Well-formedness, refusals 1 to 5: defined in specs/; in proofs/ what a well-formed sheet has, and laws for the passes that ask it.

@@ -8,7 +8,7 @@ use lib.Seq.{getD-drop}
 use Rattle.model.specs.Rules.{callee}
 use Rattle.model.specs.declared.Operation.{Operation}
 use Rattle.model.specs.declared.Operation.the-variants.{Call}
-use Rattle.sheet.specs.Bytes.{byteAt, wordAt}
+use Rattle.sheet.specs.Bytes.{byteAt, numberAt, wordAt}
 use Rattle.sheet.specs.Layout.{codeAt, kAt}
 use Rattle.sheet.specs.Decode.{operationAt}
 use Rattle.form.specs.Named.{Named}
@@ -24,7 +24,7 @@ byte-drop s n at k =
     getD-drop n s (at + k) 0 ∙ ap (λ (i : ℕ). getD s i 0) e
 
 operation-drop : (s : List ℕ) (n at : ℕ) → operationAt (drop n s) at ≡ operationAt s (n + at)
-unfolding operationAt codeAt kAt wordAt
+unfolding operationAt codeAt kAt wordAt numberAt
 operation-drop s n at =
     rw (byte-drop s n at 2, byte-drop s n at 3, byte-drop s n at 4, byte-drop s n at 5, byte-drop s n at 6, byte-drop s n at 7)
 

@@ -135,7 +135,7 @@ module _ {m : Mode} {c : Given} {words out : List ℕ} {r : Registers} {p i : �
   new-slots =
       let here : slot-in m (qualOf (c .sheet)) w ≡ back-to (c .sheet) p (suc i) held = place-is ∙ rw (keeps, add-one, S .next) in
       let more : slot-in m (qualOf (c .sheet)) (r .procedure) ≡ procedure-slot (c .sheet) p (length vs) =
-      S .is-procedure m (qualOf (c .sheet)) ∙ rw (S .procedure, S .variables, S .first, S .bounded) in
+      S .is-procedure m (qualOf (c .sheet)) ∙ rw (S .procedure, S .variables, S .first, S .bound) in
       sym (map-drop (slot-in m (qualOf (c .sheet))) at words′)
       ∙ ap (slots m c) after
       ∙ rw (map-append, map-append, map-append, map-replicate, map-replicate, slot-zero, there, waiting-slots, here, more, append-assoc)
@@ -153,7 +153,7 @@ module _ {m : Mode} {c : Given} {words out : List ℕ} {r : Registers} {p i : �
         procedure = of .number;
         next = refl;
         first = of .first;
-        bounded = of .bounded;
+        bound = of .bound;
         variables = sym many ∙ sym new-long;
         sane = record { room = room; frame = rw long (omega arith); small = rw long (S .sane .small) };
         running = record { procedure = known; variables = new-long ∙ many ∙ of .variables };

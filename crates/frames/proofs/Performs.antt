@@ -3,7 +3,6 @@
 use Prim.Native.Nat.{ℕ, zero, suc, _+_, _-_, _<_}
 use native.Mathlib.Omega.{arith}
 use mathlib.Core.Path.{_≡_, refl, sym, ap, subst, _∙_}
-use mathlib.Core.Bool.{Bool, true, false, cond}
 use mathlib.Core.List.{List}
 use lib.Dec.{ltb}
 use lib.ListN.{length, take, drop, length-drop}
@@ -16,7 +15,7 @@ use Rattle.model.specs.Machine as M
 use Rattle.model.specs.Machine.{Cell, Object, Frame, frame, State, state, Next, View, Effect, view, plan, apply, one-integer, branch, first-of}
 use Rattle.model.specs.declared.Operation.{Operation}
 use Rattle.model.specs.declared.Operation.the-variants as Op
-use Rattle.sheet.specs.Layout.{proceduresOf, isBounded, startFrom, variableAt, instructionFrom, procedureAt, startAt, instructionAt}
+use Rattle.sheet.specs.Layout.{proceduresOf, startFrom, variableAt, instructionFrom, startAt, instructionAt}
 use Rattle.sheet.specs.Meaning.{programOf, qualOf}
 use Rattle.index.specs.Procedures.{start-of, place-of}
 use Rattle.index.specs.Indexed.{PlacedWord}
@@ -92,11 +91,7 @@ unfolding start-of place-of startAt startFrom instructionAt instructionFrom vari
 placed {c = c} {r = r} {p} S =
     let s = c .sheet in
     let starts : start-of (r .procedure) ≡ startAt s p = rw (S .first, S .variables, S .running .variables) (omega arith) in
-    record { bounded = S .bounded; start = starts; place = rw (starts, S .bounded) (before (isBounded s p (procedureAt s p))) }
-  where
-    before : {pr : ℕ} (g : Bool) → pr + 8 + cond g 5 0 - cond g 13 8 ≡ pr
-    before true = omega arith
-    before false = omega arith
+    record { bound = S .bound; start = starts; place = rw (starts, S .bound) (omega arith) }
 
 -- the running procedure is one of the sheet's, the registers have its word, and its frame's set is what is read of the words
 pub record Running {m : Mode} (s words : List ℕ) (r : Registers) (v : View m) : Type 0 where

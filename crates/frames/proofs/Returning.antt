@@ -18,10 +18,10 @@ use Rattle.model.specs.Modes.{Mode, plain, watched, SettledSet, amiss, bind, bi
 use Rattle.model.specs.Machine as M
 use Rattle.model.specs.Machine.{Value, Cell, empty, filled, Object, Frame, frame, State, state, Effect, View, view, apply, kept, held, moved, plan, plan-return, handed, to-caller, into-caller, read-in, frame-units}
 use Rattle.model.specs.declared.Operation.the-variants.{Return}
-use Rattle.sheet.specs.Layout.{isBounded, procedureAt, instructionAt}
+use Rattle.sheet.specs.Layout.{boundSize, procedureAt, instructionAt}
 use Rattle.sheet.specs.Decode.{operationAt}
 use Rattle.sheet.specs.Meaning.{programOf, qualOf}
-use Rattle.words.specs.Word.{low, back-kept, back-next, number-of, variables-of, bounded-of, first-of, IsProcedure, cell, slot-in}
+use Rattle.words.specs.Word.{low, back-kept, back-next, number-of, variables-of, bound-of, first-of, IsProcedure, cell, slot-in}
 use Rattle.words.proofs.Laws.{blank-word, filled-word, back-word, procedure-told}
 use Rattle.writers.specs.declared.Registers.{Registers}
 use Rattle.writers.specs.declared.Stepped.{Stepped}
@@ -55,7 +55,7 @@ module _ {m : Mode} {c : Given} {words out : List ℕ} {r : Registers} {p i q k 
   back-sound = S .waiting
 
   stands-back : (w next above : ℕ) → IsProcedure w × (q ≡ number-of w) × (length us ≡ variables-of w) × (instructionAt (c .sheet) q 0 ≡ first-of w)
-      × (isBounded (c .sheet) q (procedureAt (c .sheet) q) ≡ bounded-of w)
+      × (boundSize (c .sheet) q (procedureAt (c .sheet) q) ≡ bound-of w)
       → next ≡ k → above ≡ r .base + (variables-in r + 2) → Stands m c words out (waiting-registers r w next above) q k y us gs os input put
   stands-back w next above told at-k at =
       let room = S .sane .room in
@@ -66,7 +66,7 @@ module _ {m : Mode} {c : Given} {words out : List ℕ} {r : Registers} {p i q k 
         procedure = sym (told .1);
         next = at-k;
         first = sym (told .3);
-        bounded = sym (told .4);
+        bound = sym (told .4);
         variables = sym many;
         sane = record { room = omega arith; frame = omega arith; small = S .sane .small };
         running = back-sound .0;

@@ -7,9 +7,9 @@ use native.Mathlib.Omega.{arith}
 use lib.Dec.{eqb}
 use lib.ListN.{length, getD, set, replicate}
 use lib.Seq.{getD-set-same, getD-set-other}
-use Rattle.sheet.specs.Layout.{baseOf, rightsOf, elementOf, formalsAt, variablesAt, isBounded, startFrom, variableAt, instructionFrom, procedureAt, startAt, instructionAt}
-use Rattle.words.specs.Word.{number-of, variables-of, formals-of, bounded-of, first-of, procedure-word}
-use Rattle.words.proofs.Laws.{procedure-is, number-is, variables-is, formals-is, bounded-is, first-is}
+use Rattle.sheet.specs.Layout.{baseOf, rightsOf, elementOf, formalsAt, variablesAt, boundSize, startFrom, variableAt, instructionFrom, procedureAt, startAt, instructionAt}
+use Rattle.words.specs.Word.{number-of, variables-of, formals-of, bound-of, first-of, procedure-word}
+use Rattle.words.proofs.Laws.{procedure-is, number-is, variables-is, formals-is, bound-is, first-is}
 use Rattle.index.specs.Types.{rights-of, shape-of, element-of, uses-of, element-below, use-in, UseTold}
 use Rattle.index.specs.Indexed.{TypeWord, ProcedureWord}
 use Rattle.index.specs.Procedures.{start-of, place-of}
@@ -28,14 +28,14 @@ pub other-kept : (l old : List ℕ) (i w k : ℕ) → (k ≡ i → ⊥) → getD
 other-kept l old i w k n e = getD-set-other l i k w 0 n ∙ e
 
 -- the three parts of a type's word do not overlap
-pub below-element : (b r : ℕ) → b < 2 ^ 8 → r < 2 ^ 16 → cond (eqb b 255) (511 * 2 ^ 32) (b * 2 ^ 32 + r) < 2 ^ 41
+pub below-element : (b r : ℕ) → b < 2 ^ 8 → r < 2 ^ 32 → cond (eqb b 255) (511 * 2 ^ 32) (b * 2 ^ 32 + r) < 2 ^ 41
 below-element b r h k = go (eqb b 255)
   where
     go : (u : Bool) → cond u (511 * 2 ^ 32) (b * 2 ^ 32 + r) < 2 ^ 41
     go true = omega arith
     go false = omega arith
 
-module _ (b r e : ℕ) (h : b < 2 ^ 8) (k : r < 2 ^ 16) (l : e < 2 ^ 8) where
+module _ (b r e : ℕ) (h : b < 2 ^ 8) (k : r < 2 ^ 32) (l : e < 2 ^ 8) where
   part-shape : (u : Bool) → (cond u (511 * 2 ^ 32) (b * 2 ^ 32 + r) + 2199023255552 * e) / 2 ^ 32 % 2 ^ 9 ≡ cond u 511 b
   part-shape true = omega arith
   part-shape false = omega arith
@@ -87,39 +87,35 @@ module _ (w : ℕ) (h : w < 2 ^ 49) where
       rw none (sym told)
 
 -- the word of no variables for a place
-pub end-place : (at : ℕ) → at < 2 ^ 31 → place-of (procedure-word 0 0 0 false (at + 8)) ≡ at
+pub end-place : (at : ℕ) → at < 2 ^ 31 → place-of (procedure-word 0 0 0 0 (at + 8)) ≡ at
 unfolding place-of start-of
 end-place at h =
     let few : 0 < 2 ^ 6 = omega arith in
     let none : 0 < 2 ^ 8 = omega arith in
+    let without : 0 < 2 ^ 3 = omega arith in
     let near : at + 8 < 2 ^ 32 = omega arith in
-    rw (variables-is 0 0 0 false (at + 8) few none none near, bounded-is 0 0 0 false (at + 8) few none none near, first-is 0 0 0 false (at + 8) few none none near)
+    rw (variables-is 0 0 0 0 (at + 8) few none none without near, bound-is 0 0 0 0 (at + 8) few none none without near, first-is 0 0 0 0 (at + 8) few none none without near)
     (omega arith)
 
--- a place before what stands between it and the VRs
-before-start : (at : ℕ) (g : Bool) → at + 8 + cond g 5 0 - cond g 13 8 ≡ at
-before-start at true = omega arith
-before-start at false = omega arith
-
 -- a word packed from what the PR of procedure k says
-pub entry : (s : List ℕ) (k v f : ℕ) (g : Bool) (i w : ℕ) → k < 2 ^ 6 → v < 2 ^ 8 → f < 2 ^ 8 → i < 2 ^ 32
-    → v ≡ variablesAt s (procedureAt s k) → f ≡ formalsAt s (procedureAt s k) → g ≡ isBounded s k (procedureAt s k) → i ≡ instructionAt s k 0
+pub entry : (s : List ℕ) (k v f g i w : ℕ) → k < 2 ^ 6 → v < 2 ^ 8 → f < 2 ^ 8 → g < 2 ^ 3 → i < 2 ^ 32
+    → v ≡ variablesAt s (procedureAt s k) → f ≡ formalsAt s (procedureAt s k) → g ≡ boundSize s k (procedureAt s k) → i ≡ instructionAt s k 0
     → w ≡ procedure-word k v f g i → ProcedureWord s k w
 unfolding place-of start-of instructionAt instructionFrom variableAt startAt startFrom
-entry s k v f g i w small few fewer near variables formals bounded first is =
-    let has : variables-of w ≡ v = ap variables-of is ∙ variables-is k v f g i small few fewer near in
-    let starts : first-of w ≡ i = ap first-of is ∙ first-is k v f g i small few fewer near in
-    let bounds : bounded-of w ≡ g = ap bounded-of is ∙ bounded-is k v f g i small few fewer near in
+entry s k v f g i w small few fewer short near variables formals bound first is =
+    let has : variables-of w ≡ v = ap variables-of is ∙ variables-is k v f g i small few fewer short near in
+    let starts : first-of w ≡ i = ap first-of is ∙ first-is k v f g i small few fewer short near in
+    let bounds : bound-of w ≡ g = ap bound-of is ∙ bound-is k v f g i small few fewer short near in
     let begins : start-of w ≡ startAt s k = rw (starts, has) (omega arith) in
     record {
-      is-procedure = rw is (procedure-is k v f g i small few fewer near);
-      number = ap number-of is ∙ number-is k v f g i small few fewer near;
-      formals = ap formals-of is ∙ formals-is k v f g i small few fewer near ∙ formals;
+      is-procedure = rw is (procedure-is k v f g i small few fewer short near);
+      number = ap number-of is ∙ number-is k v f g i small few fewer short near;
+      formals = ap formals-of is ∙ formals-is k v f g i small few fewer short near ∙ formals;
       variables = has ∙ variables;
-      bounded = bounds ∙ bounded;
+      bound = bounds ∙ bound;
       first = starts ∙ first;
       start = begins;
-      place = rw (begins, bounds, bounded) (before-start (procedureAt s k) (isBounded s k (procedureAt s k)));
+      place = rw (begins, bounds, bound) (omega arith);
     }
 
 -- an index before it is filled

@@ -173,7 +173,7 @@ module _ (t : List ℕ) (n : ℕ) where
 
 -- ---- the types of a scope
 pub placed-word : {s : List ℕ} {k w : ℕ} → ProcedureWord s k w → PlacedWord s k w
-placed-word p = record { bounded = p .bounded; start = p .start; place = p .place }
+placed-word p = record { bound = p .bound; start = p .start; place = p .place }
 
 module _ {s : List ℕ} {p : ℕ} {ρ : Qual} {c : Scope} (scope : ScopeOf s p ρ c) where
   pub inner-read : (x : ℕ) → innerAs s c x ≡ read ρ (innerIn s (startAt s p) x)

@@ -5,11 +5,11 @@ use mathlib.Core.List.{List}
 use mathlib.Core.Bool.{cond}
 use lib.Dec.{eqb}
 use lib.ListN.{length, getD}
-use Rattle.sheet.specs.Layout.{qualsOf, baseOf, rightsOf, elementOf, proceduresOf, formalsAt, variablesAt, isBounded, procedureAt, startAt, instructionAt}
+use Rattle.sheet.specs.Layout.{qualsOf, baseOf, rightsOf, elementOf, proceduresOf, formalsAt, variablesAt, boundSize, procedureAt, startAt, instructionAt}
 use Rattle.sheet.specs.Meaning.{qualOf}
 use Rattle.index.specs.Types.{rights-of, shape-of, element-of, qualIn, UseTold, UsesTold}
 use Rattle.index.specs.Procedures.{procedure-in, start-of, place-of}
-use Rattle.words.specs.Word.{number-of, variables-of, formals-of, bounded-of, first-of, IsProcedure}
+use Rattle.words.specs.Word.{number-of, variables-of, formals-of, bound-of, first-of, IsProcedure}
 
 -- the word of QT j, whose base is a byte; 255 is ?R, which has no rights of its own
 pub record TypeWord (s : List ℕ) (j w : ℕ) : Type 0 where
@@ -20,7 +20,7 @@ pub record TypeWord (s : List ℕ) (j w : ℕ) : Type 0 where
 
 -- a word that tells where the records of procedure k stand
 pub record PlacedWord (s : List ℕ) (k w : ℕ) : Type 0 where
-  pub bounded : bounded-of w ≡ isBounded s k (procedureAt s k)
+  pub bound : bound-of w ≡ boundSize s k (procedureAt s k)
   pub start : start-of w ≡ startAt s k
   pub place : place-of w ≡ procedureAt s k
 
@@ -30,7 +30,7 @@ pub record ProcedureWord (s : List ℕ) (k w : ℕ) : Type 0 where
   pub number : number-of w ≡ k
   pub formals : formals-of w ≡ formalsAt s (procedureAt s k)
   pub variables : variables-of w ≡ variablesAt s (procedureAt s k)
-  pub bounded : bounded-of w ≡ isBounded s k (procedureAt s k)
+  pub bound : bound-of w ≡ boundSize s k (procedureAt s k)
   pub first : first-of w ≡ instructionAt s k 0
   pub start : start-of w ≡ startAt s k
   pub place : place-of w ≡ procedureAt s k

@@ -4,7 +4,7 @@ use mathlib.Core.List.{List}
 use mathlib.Core.Bool.{cond}
 use lib.Dec.{ltb}
 use lib.ListN.{getD}
-use Rattle.words.specs.Word.{variables-of, bounded-of, first-of}
+use Rattle.words.specs.Word.{variables-of, bound-of, first-of}
 
 -- word p, of the 65; another number reads as 0
 unfoldable pub procedure-in : List ℕ → ℕ → ℕ
@@ -15,4 +15,4 @@ unfoldable pub start-of : ℕ → ℕ
 start-of w = first-of w - 4 * variables-of w
 
 unfoldable pub place-of : ℕ → ℕ
-place-of w = start-of w - cond (bounded-of w) 13 8
+place-of w = start-of w - (8 + bound-of w)

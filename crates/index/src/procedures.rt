@@ -1,15 +1,16 @@
 // The procedures of an index by their numbers.
 use crate::Index;
-use sheet::bytes::word;
+use sheet::edition::rights_at;
 use sheet::fields::field;
+use words::bound_in;
 use words::first_in;
-use words::is_bounded_in;
 use words::variables_in;
 ghost use mathlib.Core.Path.{_≡_};
-ghost use Prim.Native.Nat.{ℕ, _+_, _<_, _≤_};
+ghost use mathlib.Core.List.{List};
+ghost use Prim.Native.Nat.{ℕ, _+_, _-_, _<_, _≤_};
 ghost use Rattle.model.specs.Qualified.{declared, generic};
 ghost use Rattle.model.specs.Generic.{bound-base, least, own, instance};
-ghost use Rattle.sheet.specs.Layout.{procedureAt};
+ghost use Rattle.sheet.specs.Layout.{isBounded, procedureAt};
 ghost use Rattle.sheet.specs.Meaning.{boundIn};
 ghost use Rattle.index.specs.Types.{named-as};
 ghost use Rattle.index.specs.Procedures.{procedure-in, start-of, place-of};
@@ -50,7 +51,7 @@ pub fn place_in(w: u64) -> u32
     ensures { λ r. ⌜ r ≡ place-of w ⌝ }
 {
     let start = start_in(w);
-    let head = if is_bounded_in(w) { 13 } else { 8 };
+    let head = 8 + (bound_in(w) as u32);
     if start < head {
         return 0;
     }
@@ -85,6 +86,13 @@ fn base_bits(base: u8) -> u64
     (((base as u16) + 254) % 256 % 32) as u64
 }
 
+// Whether the procedure of a word has a GN.
+pub fn is_bounded_in(w: u64) -> bool
+    ensures { λ r. ⌜ ((s : List ℕ) (k : ℕ) → PlacedWord s k w → r ≡ isBounded s k (procedureAt s k)) ⌝ }
+{
+    0 < bound_in(w)
+}
+
 // The base of the bound of the procedure of a word, whose PR stands at a place; 2 where it has none.
 pub fn base_in(s: &[u8], w: u64, pr: u32) -> u8
     ensures { λ r. ⌜ ((k : ℕ) → PlacedWord (now (s .entry)) k w → pr ≡ procedureAt (now (s .entry)) k → r ≡ bound-base (boundIn (now (s .entry)) k pr)) ⌝ }
@@ -95,12 +103,22 @@ pub fn base_in(s: &[u8], w: u64, pr: u32) -> u8
     2
 }
 
+// A GN's size less its mark and its base.
+fn less_three(n: u8) -> u8
+    ensures { λ r. ⌜ r ≡ n - 3 ⌝ }
+{
+    if n < 3 {
+        return 0;
+    }
+    n - 3
+}
+
 // Its least set; empty where it has none.
 pub fn least_in(s: &[u8], w: u64, pr: u32) -> u32
     ensures { λ r. ⌜ ((k : ℕ) → PlacedWord (now (s .entry)) k w → pr ≡ procedureAt (now (s .entry)) k → r ≡ least (boundIn (now (s .entry)) k pr)) ⌝ }
 {
     if is_bounded_in(w) {
-        return word(s, (pr as usize) + 8, 3) as u32;
+        return rights_at(s, less_three(bound_in(w)), (pr as usize) + 8);
     }
     0
 }

@@ -40,7 +40,7 @@ counted-stands m c words out r q (state (frame p i z vs) fs os input put) S =
       procedure = S .procedure;
       next = S .next;
       first = S .first;
-      bounded = S .bounded;
+      bound = S .bound;
       variables = S .variables;
       sane = record { room = S .sane .room; frame = S .sane .frame; small = S .sane .small };
       running = S .running;

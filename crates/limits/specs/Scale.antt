@@ -1,4 +1,4 @@
--- Document 01, "Bytes of a worksheet" and "Instructions", and document 02, S-1: the limits of each record's fields, as rules on plain numbers. 5 where one is
+-- Document 01, "Bytes of a worksheet" and "Instructions", and document 02, S-1 and S-5: the limits of each record's fields, as rules on plain numbers. 5 where one is
 -- exceeded.
 -- t, q and p are the header's counts of types, qualified types and procedures.
 use Prim.Native.Nat.{ℕ, zero, suc, _+_}
@@ -25,9 +25,10 @@ below-or-none n due x = cond due (ltb x n) (eqb x 255)
 unfoldable pub header-scale : (t q p : ℕ) → Bool
 header-scale t q p = all (leb t 32 ∷ leb q 64 ∷ leb 1 p ∷ leb p 64 ∷ [])
 
--- TY: "named rights n 0..15, slots s 0..8, eight slot bytes: a QT number below q for the first s, else 255"
-unfoldable pub type-scale : (q n s : ℕ) → (slot : ℕ → ℕ) → Bool
-type-scale q n s slot = all (leb n 15 ∷ leb s 8 ∷ all-below 8 (λ k. below-or-none q (ltb k s) (slot k)) ∷ [])
+-- TY: "named rights n 0..15, slots s 0..8, eight slot bytes: a QT number below q for the first s, else 255"; S-5: "Edition 2 has n 0..31": `most` is the
+-- edition's largest n
+unfoldable pub type-scale : (most q n s : ℕ) → (slot : ℕ → ℕ) → Bool
+type-scale most q n s slot = all (leb n most ∷ leb s 8 ∷ all-below 8 (λ k. below-or-none q (ltb k s) (slot k)) ∷ [])
 
 -- QT: "Integer: rights 0. Tray: bits 1 fetch, 2 store, 3 size only. Declared type: bits 0..n"; `named` is that type's n
 unfoldable pub rights-scale : (named base rights : ℕ) → Bool
@@ -56,7 +57,7 @@ procedure-scale t q i owner f v result n =
     (not (eqb i 0) || (eqb owner 0 && eqb f 0 && eqb result 255)) ∷
     [])
 
--- GN: "base (a declared type), least set (2 bytes, named rights)"; `named` is that type's n, and open is no named right
+-- GN: "base (a declared type), least set (named rights)"; `named` is that type's n, and open is no named right
 unfoldable pub bound-scale : (t named base least : ℕ) → Bool
 bound-scale t named base least = all (leb 2 base ∷ ltb base (t + 2) ∷ none-above named least ∷ not (has open-right least) ∷ [])
 

@@ -1,11 +1,11 @@
 // A run of any bytes: check them, then a machine in the lent memory.
 use checking::check_indexed;
-use form::calls::well_formed;
 use index::Index;
 use index::make::indexed;
 use model::Verdict;
 use run_by_frames::Ended;
 use run_by_frames::run::run_in;
+use well_formed::well_formed;
 use words::clear;
 ghost use mathlib.Core.Path.{_≡_};
 ghost use mathlib.Core.Option.{some};

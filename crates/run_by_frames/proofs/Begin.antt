@@ -65,7 +65,7 @@ begins m s words zeros input out v w wf of e room small cleared =
       procedure = of .number;
       next = refl;
       first = of .first;
-      bounded = of .bounded;
+      bound = of .bound;
       variables = has ∙ sym (length-replicate _ empty);
       sane = record { room = zero-le; frame = rw l (omega arith); small = rw l small };
       running = record { procedure = form-small s wf .2; variables = length-replicate _ empty };

@@ -2,7 +2,7 @@
 use Prim.Native.Nat.{ℕ, zero, suc, _+_}
 use mathlib.Core.Path.{_≡_, refl, sym, ap, ap₂, subst, _∙_}
 use mathlib.Core.List.{List, [], _∷_, _++_, append-assoc}
-use mathlib.Core.Bool.{Bool, true, false, false≢true, not, _&&_, _||_}
+use mathlib.Core.Bool.{Bool, true, false, false≢true, not, _&&_, _||_, cond}
 use native.Mathlib.Omega.{arith}
 use Rattle.model.specs.Rights.{within}
 use Rattle.model.specs.Qualified.{Qual, declared, base, rights, same}
@@ -11,7 +11,10 @@ use Rattle.model.specs.Generic.{Bound, no-bound, at-least, bound-base, least, o
 use Rattle.model.specs.Rules.{Callee, found-by}
 use Rattle.model.proofs.Rights.{within-refl}
 use Rattle.model.proofs.Order.{same-refl}
+use Rattle.sheet.specs.Layout.{isBounded, procedureAt}
+use Rattle.sheet.specs.Meaning.{boundIn}
 use Rattle.index.specs.Types.{named-as}
+use Rattle.index.specs.Scope.{boundOf, ScopeOf}
 use Rattle.index.specs.declared.procedures.Scope.{Scope}
 use Rattle.settling.specs.Settles.{settles-as, uses-as, SettlesIs, FoundIs, least-name, has-bound, Settling, BoundOf}
 use Rattle.settling.specs.declared.Settles.{Settles}
@@ -150,3 +153,12 @@ unbounded inner c b {to} n e of = go (c .bound) (of .has) (ap named-as e ∙ lea
         → (is-settled k (some-uses (c .need) 0 (c .formals)) (found-by inner c b) ≡ true) × (is-enough k (found-by inner c b) ≡ true) × (named-as n ≡ settled k (found-by inner c b))
     go no-bound h e = unfold is-settled is-enough settled least instance rights in (refl, within-refl 0, e)
     go (at-least t l) h e = absurd (false≢true h)
+
+-- the procedure called has the bound that the sheet gives it
+pub bound-here : {s : List ℕ} {k : ℕ} {to : Scope} {x : Bool} → ScopeOf s k (own (boundOf s k)) to → x ≡ isBounded s k (procedureAt s k) → BoundOf (boundOf s k) x to
+unfolding boundIn
+bound-here {s} {k} scope is = record { has = is ∙ told _ _ (isBounded s k (procedureAt s k)); name = scope .name }
+  where
+    told : (t l : ℕ) (g : Bool) → g ≡ has-bound (cond g (at-least t l) no-bound)
+    told t l true = refl
+    told t l false = refl

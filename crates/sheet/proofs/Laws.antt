@@ -2,16 +2,16 @@
 use Prim.Native.Nat.{ℕ, suc, _+_, _*_, _-_, _<_, _≤_}
 use mathlib.Core.Path.{_≡_, refl, _∙_}
 use mathlib.Core.List.{List}
-use mathlib.Core.Logic.{_⊎_, inl, inr}
+use mathlib.Core.Logic.{_⊎_, inl, inr, ⊎-elim}
 use mathlib.Core.Bool.{Bool, true, false, _&&_, cond}
 use native.Mathlib.Omega.{arith}
 use lib.Dec.{leb, ltb, eqb}
 use lib.ListN.{length, getD, take, drop, length-take, length-drop}
 use lib.Seq.{getD-take, getD-drop, length-take-le}
-use borrow.Author.Tests.{leb-true, leb-false, le-leb, lt-leb, ltb-true, ltb-false, eqb-true}
+use borrow.Author.Tests.{leb-true, leb-false, le-leb, lt-leb, ltb-true, ltb-false, lt-ltb, eqb-true}
 use Rattle.model.proofs.Verdicts.{both-true}
-use Rattle.sheet.specs.Bytes.{byteAt, wholeAt, mark, markedAt}
-use Rattle.sheet.specs.Layout.{hd-mark, in-mark, variableAt, innerAt, needAt, variablesAt, instructionsAt, startFrom, instructionFrom, procedureAt, instructionAt, startAt}
+use Rattle.sheet.specs.Bytes.{byteAt, numberAt, wordAt, wholeAt, mark, markedAt}
+use Rattle.sheet.specs.Layout.{hd-mark, in-mark, rights-size, editionIn, rightsAt, isBounded, boundSize, variableAt, innerAt, needAt, variablesAt, instructionsAt, startFrom, instructionFrom, procedureAt, instructionAt, startAt}
 use Rattle.sheet.specs.Reader.{sizeAt, recordAt}
 
 -- ---- tests
@@ -87,6 +87,44 @@ module _ (s : List ℕ) (at n : ℕ) (z : sizeAt s at ≡ n) (w : wholeAt s at n
   record-byte k l =
       let e : 0 + k ≡ k = omega arith in
       rw (z, w, e) (getD-take n (drop at s) k 0 l ∙ getD-drop at s k 0)
+
+-- a word by its bytes
+pub word-bytes : (s : List ℕ) (at k : ℕ) → wordAt s at k ≡ byteAt s at k + 256 * byteAt s at (k + 1)
+unfolding wordAt numberAt
+word-bytes s at k = omega arith
+
+-- ---- rights, in two bytes or in four
+two-or-four : (e : ℕ) → (rights-size e ≡ 2) ⊎ (rights-size e ≡ 4)
+unfolding rights-size
+two-or-four e = go (eqb e 2)
+  where
+    go : (t : Bool) → (_≡_ {A = ℕ} (cond t 4 2) 2) ⊎ (_≡_ {A = ℕ} (cond t 4 2) 4)
+    go true = inr refl
+    go false = inl refl
+
+pub size-range : (e n : ℕ) → n ≡ rights-size e → (2 ≤ n) × (n ≤ 4)
+size-range e n size = ⊎-elim (λ h. (omega arith, omega arith)) (λ h. (omega arith, omega arith)) (two-or-four e)
+
+pub else-two : (e n : ℕ) → n ≡ rights-size e → (n ≡ 4 → ⊥) → n ≡ 2
+else-two e n size h = ⊎-elim (λ k. size ∙ k) (λ k. absurd (h (size ∙ k))) (two-or-four e)
+
+module _ (s : List ℕ) (at n : ℕ) (size : n ≡ rights-size (editionIn s)) where
+  pub rights-wide : n ≡ 4 → byteAt s at 3 + 256 * byteAt s at 4 + 65536 * (byteAt s at 5 + 256 * byteAt s at 6) ≡ rightsAt s at
+  unfolding rightsAt numberAt
+  rights-wide h = rw (← size, h) (omega arith)
+
+  pub rights-narrow : (n ≡ 4 → ⊥) → byteAt s at 3 + 256 * byteAt s at 4 ≡ rightsAt s at
+  unfolding rightsAt numberAt
+  rights-narrow h = rw (← size, else-two (editionIn s) n size h) (omega arith)
+
+-- a procedure has a GN exactly where its size is not 0
+pub bound-told : (s : List ℕ) (p pr : ℕ) → ltb 0 (boundSize s p pr) ≡ isBounded s p pr
+unfolding boundSize
+bound-told s p pr = go (isBounded s p pr)
+  where
+    go : (g : Bool) → ltb 0 (cond g (3 + rights-size (editionIn s)) 0) ≡ g
+    go true = lt-ltb 0 (3 + rights-size (editionIn s)) (omega arith)
+    go false = refl
 
 -- ---- the places of procedures
 -- the next procedure starts where the instructions of this one end

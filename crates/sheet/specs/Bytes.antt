@@ -1,5 +1,5 @@
--- Bytes and 16-bit words of a sheet, which is a list of numbers (document 01: "integers little-endian").
-use Prim.Native.Nat.{ℕ, _+_, _*_}
+-- Bytes and numbers of a sheet, which is a list of numbers (document 01: "integers little-endian").
+use Prim.Native.Nat.{ℕ, zero, suc, _+_, _*_}
 use mathlib.Core.List.{List}
 use mathlib.Core.Bool.{Bool, _&&_}
 use lib.ListN.{length, getD}
@@ -9,8 +9,13 @@ use lib.Dec.{leb, eqb}
 unfoldable pub byteAt : List ℕ → ℕ → ℕ → ℕ
 byteAt s at k = getD s (at + k) 0
 
+-- the number in n bytes from byte k on
+unfoldable pub numberAt : List ℕ → (at k n : ℕ) → ℕ
+numberAt s at k zero = 0
+numberAt s at k (suc n) = byteAt s at k + 256 * numberAt s at (k + 1) n
+
 unfoldable pub wordAt : List ℕ → ℕ → ℕ → ℕ
-wordAt s at k = byteAt s at k + 256 * byteAt s at (k + 1)
+wordAt s at k = numberAt s at k 2
 
 -- n bytes stand whole from `at`
 unfoldable pub wholeAt : List ℕ → ℕ → ℕ → Bool

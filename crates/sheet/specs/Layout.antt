@@ -1,10 +1,10 @@
--- Document 01, "Bytes of a worksheet", and document 02, S-1: where each record and each of its fields stands.
+-- Document 01, "Bytes of a worksheet", and document 02, S-1 and S-5: where each record and each of its fields stands.
 -- "Order: HD, all TY, all QT, then for each procedure its PR, VRs, INs."; "by a GN record after its PR"
 use Prim.Native.Nat.{ℕ, zero, suc, _+_, _*_, _-_}
 use mathlib.Core.List.{List}
 use mathlib.Core.Bool.{Bool, _&&_, cond}
-use lib.Dec.{ltb}
-use Rattle.sheet.specs.Bytes.{byteAt, wordAt, Mark, mark, markedAt}
+use lib.Dec.{ltb, eqb}
+use Rattle.sheet.specs.Bytes.{byteAt, numberAt, wordAt, Mark, mark, markedAt}
 
 -- "Each record starts with a two-byte ASCII mark": its two letters
 abbrev pub hd-mark : Mark
@@ -28,21 +28,31 @@ vr-mark = mark 86 82
 abbrev pub in-mark : Mark
 in-mark = mark 73 78
 
--- sizes in bytes
+-- ---- what the edition decides, and nothing else does
+-- S-5: "four rights bytes in QT and GN"; two in edition 1
+unfoldable pub rights-size : (edition : ℕ) → ℕ
+rights-size e = cond (eqb e 2) 4 2
+
+-- "so these take 8 and 7 bytes"
+abbrev pub qt-size : (edition : ℕ) → ℕ
+qt-size e = 4 + rights-size e
+
+abbrev pub gn-size : (edition : ℕ) → ℕ
+gn-size e = 3 + rights-size e
+
+-- "Edition 2 has n 0..31", edition 1 "0..15": right 0, open, and n named ones fill the bits
+abbrev pub most-named : (edition : ℕ) → ℕ
+most-named e = 8 * rights-size e - 1
+
+-- ---- the other sizes, in bytes
 abbrev pub hd-size : ℕ
 hd-size = 6
 
 abbrev pub ty-size : ℕ
 ty-size = 12
 
-abbrev pub qt-size : ℕ
-qt-size = 6
-
 abbrev pub pr-size : ℕ
 pr-size = 8
-
-abbrev pub gn-size : ℕ
-gn-size = 5
 
 abbrev pub vr-size : ℕ
 vr-size = 4
@@ -53,6 +63,10 @@ in-size = 8
 -- HD: edition, types t, qualified types q, procedures p
 unfoldable pub editionOf : List ℕ → ℕ
 editionOf s = byteAt s 0 2
+
+-- the edition by which the records are read: 2 where an HD at the start says so, else 1; another edition is refused (4)
+unfoldable pub editionIn : List ℕ → ℕ
+editionIn s = cond (eqb (editionOf s) 2 && markedAt s 0 hd-mark) 2 1
 
 unfoldable pub typesOf : List ℕ → ℕ
 typesOf s = byteAt s 0 3
@@ -76,18 +90,22 @@ slotsOf s t = byteAt s (typeAt t) 3
 unfoldable pub slotOf : List ℕ → ℕ → ℕ → ℕ
 slotOf s t k = byteAt s (typeAt t) (4 + k)
 
+-- the rights in the QT or the GN at `at`, after its base
+unfoldable pub rightsAt : List ℕ → ℕ → ℕ
+rightsAt s at = numberAt s at 3 (rights-size (editionIn s))
+
 -- QT: base, rights, element
 unfoldable pub qualAt : List ℕ → ℕ → ℕ
-qualAt s j = hd-size + ty-size * typesOf s + qt-size * j
+qualAt s j = hd-size + ty-size * typesOf s + qt-size (editionIn s) * j
 
 unfoldable pub baseOf : List ℕ → ℕ → ℕ
 baseOf s j = byteAt s (qualAt s j) 2
 
 unfoldable pub rightsOf : List ℕ → ℕ → ℕ
-rightsOf s j = wordAt s (qualAt s j) 3
+rightsOf s j = rightsAt s (qualAt s j)
 
 unfoldable pub elementOf : List ℕ → ℕ → ℕ
-elementOf s j = byteAt s (qualAt s j) 5
+elementOf s j = byteAt s (qualAt s j) (3 + rights-size (editionIn s))
 
 -- PR at `pr`: owner, formals, variables, result, instructions
 unfoldable pub ownerAt : List ℕ → ℕ → ℕ
@@ -113,15 +131,19 @@ unfoldable pub boundBaseAt : List ℕ → ℕ → ℕ
 boundBaseAt s pr = byteAt s (boundAt pr) 2
 
 unfoldable pub leastAt : List ℕ → ℕ → ℕ
-leastAt s pr = wordAt s (boundAt pr) 3
+leastAt s pr = rightsAt s (boundAt pr)
 
 -- "A procedure but main may declare one": a GN is due exactly where its mark stands after the PR, at `pr`, of another procedure than 0
 unfoldable pub isBounded : List ℕ → (p pr : ℕ) → Bool
 isBounded s p pr = ltb 0 p && markedAt s (boundAt pr) gn-mark
 
+-- the bytes of that GN, 0 where there is none
+unfoldable pub boundSize : List ℕ → (p pr : ℕ) → ℕ
+boundSize s p pr = cond (isBounded s p pr) (gn-size (editionIn s)) 0
+
 -- where the VRs of procedure p, whose PR stands at `pr`, start
 unfoldable pub startFrom : List ℕ → (p pr : ℕ) → ℕ
-startFrom s p pr = pr + pr-size + cond (isBounded s p pr) gn-size 0
+startFrom s p pr = pr + pr-size + boundSize s p pr
 
 -- VR x of a procedure whose VRs start at `start`: inner, need
 unfoldable pub variableAt : (start x : ℕ) → ℕ

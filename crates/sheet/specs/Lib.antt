@@ -1,5 +1,6 @@
 pub mod Bytes
 pub mod Layout
+pub mod Quals
 pub mod Reader
 pub mod Instructions
 pub mod Decode

@@ -4,16 +4,16 @@ use mathlib.Core.List.{List}
 use mathlib.Core.Bool.{cond}
 use lib.ListN.{length, take, drop}
 use Rattle.sheet.specs.Bytes.{wholeAt, markedAt}
-use Rattle.sheet.specs.Layout.{hd-mark, ty-mark, qt-mark, pr-mark, gn-mark, vr-mark, in-mark, hd-size, ty-size, qt-size, pr-size, gn-size, vr-size, in-size}
+use Rattle.sheet.specs.Layout.{hd-mark, ty-mark, qt-mark, pr-mark, gn-mark, vr-mark, in-mark, hd-size, ty-size, qt-size, pr-size, gn-size, vr-size, in-size, editionIn}
 
 -- the size of the record whose mark stands at `at`, 0 where no known mark does
 unfoldable pub sizeAt : List ℕ → ℕ → ℕ
 sizeAt s at =
     cond (markedAt s at hd-mark) hd-size
     (cond (markedAt s at ty-mark) ty-size
-    (cond (markedAt s at qt-mark) qt-size
+    (cond (markedAt s at qt-mark) (qt-size (editionIn s))
     (cond (markedAt s at pr-mark) pr-size
-    (cond (markedAt s at gn-mark) gn-size
+    (cond (markedAt s at gn-mark) (gn-size (editionIn s))
     (cond (markedAt s at vr-mark) vr-size
     (cond (markedAt s at in-mark) in-size
     0))))))

@@ -1,6 +1,7 @@
 // What a reader of records asks of the sheet at a place: the bytes of one record, as part of the sheet, where it ends, and what is left.
 use crate::bytes::byte;
 use crate::bytes::whole;
+use crate::edition::rights_size;
 ghost use mathlib.Core.Path.{_≡_};
 ghost use mathlib.Core.Bool.{cond};
 ghost use Rattle.sheet.specs.Reader.{sizeAt, recordAt, pastAt, leftAt};
@@ -15,13 +16,14 @@ fn pick(t: bool, a: usize, b: usize) -> usize
 fn size_at(s: &[u8], at: usize) -> usize
     ensures { λ r. ⌜ r ≡ sizeAt (now (s .entry)) at ⌝ }
 {
+    let rights = rights_size(s) as usize;
     let m = byte(s, at, 0);
     let n = byte(s, at, 1);
     let of_in = pick((m == b'I') & (n == b'N'), 8, 0);
     let of_vr = pick((m == b'V') & (n == b'R'), 4, of_in);
-    let of_gn = pick((m == b'G') & (n == b'N'), 5, of_vr);
+    let of_gn = pick((m == b'G') & (n == b'N'), 3 + rights, of_vr);
     let of_pr = pick((m == b'P') & (n == b'R'), 8, of_gn);
-    let of_qt = pick((m == b'Q') & (n == b'T'), 6, of_pr);
+    let of_qt = pick((m == b'Q') & (n == b'T'), 4 + rights, of_pr);
     let of_ty = pick((m == b'T') & (n == b'Y'), 12, of_qt);
     pick((m == b'H') & (n == b'D'), 6, of_ty)
 }

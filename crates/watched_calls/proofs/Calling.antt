@@ -3,7 +3,7 @@ use Prim.Native.Nat.{ℕ, suc, _+_, _-_, _≤_, _<_}
 use native.Mathlib.Omega.{arith}
 use native.Mathlib.Numerals.{add-one}
 use mathlib.Core.Path.{_≡_, refl, sym, ap, subst, _∙_}
-use mathlib.Core.Bool.{Bool, true, false, cond, not, _&&_}
+use mathlib.Core.Bool.{Bool, true, false, not, _&&_}
 use mathlib.Core.List.{List, [], _∷_, _++_, map, append-assoc, append-nil, map-append}
 use borrow.Author.Tests.{le-leb, lt-leb}
 use lib.Dec.{eqb}
@@ -11,7 +11,7 @@ use lib.ListN.{length, take, drop, set, length-set, length-drop}
 use lib.Seq.{take-set-le, drop-set-lt, drop-set-add, take-suc-set}
 use Rattle.model.specs.Rights.{Rights}
 use Rattle.model.specs.Qualified.{Qual, rights}
-use Rattle.model.specs.Generic.{no-bound, at-least, own, settled, some-uses, is-settled, is-enough}
+use Rattle.model.specs.Generic.{own, settled, some-uses, is-settled, is-enough}
 use Rattle.model.specs.Rules.{Callee, found-by, called, optional, keeps}
 use Rattle.model.specs.Outcome.{wrong-kind, missing-right, memory-full, Res, ok, stop, stuck, ensure, _>>=_, _>>_}
 use Rattle.model.specs.Program.{Program}
@@ -20,18 +20,18 @@ use Rattle.model.specs.Machine as M
 use Rattle.model.specs.Machine.{Cell, frame, State, state, View, view, apply, operation-in, declared-as, settle-call, actual, actuals, plan, plan-call}
 use Rattle.model.proofs.Settling.{settled-instance}
 use Rattle.model.specs.declared.Operation.the-variants.{Call}
-use Rattle.sheet.specs.Layout.{procedureAt, startAt, formalsAt, resultAt, isBounded}
+use Rattle.sheet.specs.Layout.{procedureAt, startAt, formalsAt, resultAt}
 use Rattle.sheet.specs.Decode.{operationAt}
-use Rattle.sheet.specs.Meaning.{qualOf, programOf, resultIn, boundIn}
+use Rattle.sheet.specs.Meaning.{qualOf, programOf, resultIn}
 use Rattle.index.specs.Types.{named-as}
 use Rattle.index.specs.Indexed.{ProcedureWord}
 use Rattle.index.specs.Scope.{boundOf, ScopeOf, innerAs}
 use Rattle.index.specs.declared.procedures.Scope.{Scope}
 use Rattle.index.proofs.Reading.{inner-read, need-read, result-read}
-use Rattle.settling.specs.Settles.{calleeAs, has-bound, Settling, BoundOf}
+use Rattle.settling.specs.Settles.{calleeAs, Settling}
 use Rattle.settling.specs.declared.Settled.{Settled}
 use Rattle.settling.specs.declared.Settled.the-variants as All
-use Rattle.words.specs.Word.{cell, slot-in, as-cell, formals-of, variables-of, bounded-of}
+use Rattle.words.specs.Word.{cell, slot-in, as-cell, formals-of, variables-of}
 use Rattle.words.specs.Sees.{Sees}
 use Rattle.words.specs.Answers.{halted, IsCell}
 use Rattle.words.specs.declared.Number.the-variants as N
@@ -254,15 +254,6 @@ entered s k v b head start name =
       start = start;
       name = name ∙ settled-instance (boundOf s (v .procedure)) (v .set-held) (boundOf s k) (programOf s .formals k) (programOf s .need k) (λ j. programOf s .inner (v .procedure) (b + j));
     }
-
--- the procedure called has the bound that the sheet gives it
-pub bound-of : {s : List ℕ} {k w : ℕ} {to : Scope} {x : Bool} → ProcedureWord s k w → ScopeOf s k (own (boundOf s k)) to → x ≡ bounded-of w → BoundOf (boundOf s k) x to
-unfolding boundIn
-bound-of {s} {k} C scope is = record { has = is ∙ C .bounded ∙ same _ _ (isBounded s k (procedureAt s k)); name = scope .name }
-  where
-    same : (t l : ℕ) (g : Bool) → g ≡ has-bound (cond g (at-least t l) no-bound)
-    same t l true = refl
-    same t l false = refl
 
 -- its needs and its result, as it reads them itself
 callee-is : {s : List ℕ} {k : ℕ} {to : Scope} → ScopeOf s k (own (boundOf s k)) to → calleeAs s (boundOf s k) to ≡ called (programOf s) k

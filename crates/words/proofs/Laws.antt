@@ -12,8 +12,8 @@ use borrow.Author.Tests.{eqb-true, eqb-false, ne-eqb}
 use Rattle.model.specs.Qualified.{Qual, declared}
 use Rattle.model.specs.Generic.{read}
 use Rattle.model.specs.Modes.{Mode, ElementInfo, TypeInfo, SettledSet, settled-set, carried, element-info, type-info}
-use Rattle.model.specs.Machine.{word, object, Cell, empty, filled, array-head, record-head, flag}
-use Rattle.words.specs.Word.{low, tag, payload, pack, size-of, info-of, settled-base, back-kept, back-next, number-of, variables-of, formals-of, bounded-of, first-of, procedure-word, IsProcedure, Slot, cell, head, back, procedure, slot-in, as-cell, as-head}
+use Rattle.model.specs.Machine.{word, object, Cell, empty, filled, array-head, record-head}
+use Rattle.words.specs.Word.{low, tag, payload, pack, size-of, info-of, settled-base, back-kept, back-next, number-of, variables-of, formals-of, bound-of, first-of, procedure-word, IsProcedure, Slot, cell, head, back, procedure, slot-in, as-cell, as-head}
 use Rattle.words.specs.Answer.{read-as}
 use Rattle.words.specs.Sees.{head-size}
 use Rattle.words.specs.Answers.{IsCell}
@@ -67,7 +67,7 @@ module _ (m : Mode) (qual : ℕ → Qual) (w : ℕ) where
   unfolding slot-in
   slot-back e = rw (ne-eqb w 0 (tagged w 4 e), e)
 
-  slot-procedure : tag w ≡ 6 → slot-in m qual w ≡ procedure (number-of w) (variables-of w) (first-of w) (bounded-of w)
+  slot-procedure : tag w ≡ 6 → slot-in m qual w ≡ procedure (number-of w) (variables-of w) (first-of w) (bound-of w)
   unfolding slot-in
   slot-procedure e = rw (ne-eqb w 0 (tagged w 5 e), e)
 
@@ -158,11 +158,11 @@ module _ (m : Mode) (qual : ℕ → Qual) (w : ℕ) where
           (cc, cc, cc)
       by (a-procedure t) = let k = t m qual in absurd (let z : _≡_ {A = ℕ} 0 1 = cc in omega arith)
 
-  pub procedure-told : {p v f : ℕ} {g : Bool} → slot-in m qual w ≡ procedure p v f g
-      → IsProcedure w × (p ≡ number-of w) × (v ≡ variables-of w) × (f ≡ first-of w) × (g ≡ bounded-of w)
+  pub procedure-told : {p v f g : ℕ} → slot-in m qual w ≡ procedure p v f g
+      → IsProcedure w × (p ≡ number-of w) × (v ≡ variables-of w) × (f ≡ first-of w) × (g ≡ bound-of w)
   procedure-told {p} {v} {f} {g} e = by (reading w)
     where
-      by : Reading w → IsProcedure w × (p ≡ number-of w) × (v ≡ variables-of w) × (f ≡ first-of w) × (g ≡ bounded-of w)
+      by : Reading w → IsProcedure w × (p ≡ number-of w) × (v ≡ variables-of w) × (f ≡ first-of w) × (g ≡ bound-of w)
       by (a-blank z) =
           let k : slot-in m qual w ≡ cell empty = rw (z, slot-zero m qual) in
           absurd (let z : _≡_ {A = ℕ} 0 1 = cc in omega arith)
@@ -172,7 +172,7 @@ module _ (m : Mode) (qual : ℕ → Qual) (w : ℕ) where
       by (a-record t) = let k = slot-record m qual w t in absurd (let z : _≡_ {A = ℕ} 0 1 = cc in omega arith)
       by (a-back t) = let k = slot-back m qual w t in absurd (let z : _≡_ {A = ℕ} 0 1 = cc in omega arith)
       by (a-procedure t) =
-          let k : procedure p v f g ≡ procedure (number-of w) (variables-of w) (first-of w) (bounded-of w) = sym e ∙ t m qual in
+          let k : procedure p v f g ≡ procedure (number-of w) (variables-of w) (first-of w) (bound-of w) = sym e ∙ t m qual in
           (t, cc, cc, cc, cc)
 
 -- ---- what the two machines, and all maps of element numbers, have in common
@@ -258,18 +258,8 @@ module _ (m : Mode) (qual : ℕ → Qual) where
       slot-back m qual _ (tag-pack 5 _ r (omega arith) r-fits) ∙ rw (payload-pack 5 all r (omega arith) r-fits, low-pack 5 all r (omega arith) r-fits, kept, next)
 
 -- the word of a procedure
-flag-fits : (g : Bool) → flag g < 2
-unfolding flag
-flag-fits true = omega arith
-flag-fits false = omega arith
-
-eqb-flag : (g : Bool) → eqb (flag g) 1 ≡ g
-unfolding flag
-eqb-flag true = refl
-eqb-flag false = refl
-
-module _ (p v f : ℕ) (g : Bool) (i : ℕ) (p-fits : p < 2 ^ 6) (v-fits : v < 2 ^ 8) (f-fits : f < 2 ^ 8) (i-fits : i < 2 ^ 32) where
-  counts : payload (procedure-word p v f g i) ≡ ((flag g * 2 ^ 8 + f) * 2 ^ 6 + p) * 2 ^ 8 + v
+module _ (p v f g i : ℕ) (p-fits : p < 2 ^ 6) (v-fits : v < 2 ^ 8) (f-fits : f < 2 ^ 8) (g-fits : g < 2 ^ 3) (i-fits : i < 2 ^ 32) where
+  counts : payload (procedure-word p v f g i) ≡ ((g * 2 ^ 8 + f) * 2 ^ 6 + p) * 2 ^ 8 + v
   counts = payload-pack 6 _ i (omega arith) i-fits
 
   pub procedure-is : IsProcedure (procedure-word p v f g i)
@@ -277,24 +267,23 @@ module _ (p v f : ℕ) (g : Bool) (i : ℕ) (p-fits : p < 2 ^ 6) (v-fits : v < 2
 
   pub number-is : number-of (procedure-word p v f g i) ≡ p
   number-is =
-      let here : (((flag g * 2 ^ 8 + f) * 2 ^ 6 + p) * 2 ^ 8 + v) / 2 ^ 8 % 2 ^ 6 ≡ p = omega arith in
+      let here : (((g * 2 ^ 8 + f) * 2 ^ 6 + p) * 2 ^ 8 + v) / 2 ^ 8 % 2 ^ 6 ≡ p = omega arith in
       rw (counts, here)
 
   pub variables-is : variables-of (procedure-word p v f g i) ≡ v
   variables-is =
-      let here : (((flag g * 2 ^ 8 + f) * 2 ^ 6 + p) * 2 ^ 8 + v) % 2 ^ 8 ≡ v = omega arith in
+      let here : (((g * 2 ^ 8 + f) * 2 ^ 6 + p) * 2 ^ 8 + v) % 2 ^ 8 ≡ v = omega arith in
       rw (counts, here)
 
   pub formals-is : formals-of (procedure-word p v f g i) ≡ f
   formals-is =
-      let here : (((flag g * 2 ^ 8 + f) * 2 ^ 6 + p) * 2 ^ 8 + v) / 2 ^ 14 % 2 ^ 8 ≡ f = omega arith in
+      let here : (((g * 2 ^ 8 + f) * 2 ^ 6 + p) * 2 ^ 8 + v) / 2 ^ 14 % 2 ^ 8 ≡ f = omega arith in
       rw (counts, here)
 
-  pub bounded-is : bounded-of (procedure-word p v f g i) ≡ g
-  bounded-is =
-      let fits = flag-fits g in
-      let here : (((flag g * 2 ^ 8 + f) * 2 ^ 6 + p) * 2 ^ 8 + v) / 2 ^ 22 % 2 ≡ flag g = omega arith in
-      rw (counts, here, eqb-flag g)
+  pub bound-is : bound-of (procedure-word p v f g i) ≡ g
+  bound-is =
+      let here : (((g * 2 ^ 8 + f) * 2 ^ 6 + p) * 2 ^ 8 + v) / 2 ^ 22 % 2 ^ 3 ≡ g = omega arith in
+      rw (counts, here)
 
   pub first-is : first-of (procedure-word p v f g i) ≡ i
   first-is = low-pack 6 _ i (omega arith) i-fits

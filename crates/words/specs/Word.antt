@@ -10,17 +10,17 @@
 --   5  where to go back    the set of the frame above            35..42 the variable that its call keeps (255 none), 43..48 0,
 --                                                                49..63 its next instruction
 --   6  a procedure         where its instructions start          35..42 its count of variables, 43..48 its number, 49..56 its count of formals,
---                                                                57 whether it has a GN, 58..63 0 today: S-13, which sheet
+--                                                                57..59 the bytes of its GN (0 none), 60..63 0 today: S-13, which sheet
 --
 -- The word 0 is a blank cell, and nothing else is. Any other tag is read as 6, which alone is written.
 use Prim.Native.Nat.{ℕ, _+_, _*_, _/_, _%_, _^_}
 use mathlib.Core.Path.{_≡_}
-use mathlib.Core.Bool.{Bool, cond}
+use mathlib.Core.Bool.{cond}
 use lib.Dec.{eqb}
 use Rattle.model.specs.Qualified.{Qual, declared}
 use Rattle.model.specs.Generic.{read}
 use Rattle.model.specs.Modes.{Mode, SettledSet, settled-set, carried, element-info, type-info}
-use Rattle.model.specs.Machine.{word, object, Cell, empty, filled, Head, array-head, record-head, no-head, flag}
+use Rattle.model.specs.Machine.{word, object, Cell, empty, filled, Head, array-head, record-head, no-head}
 
 unfoldable pub low : ℕ → ℕ
 low w = w % 2 ^ 32
@@ -59,22 +59,22 @@ number-of w = payload w / 2 ^ 8 % 2 ^ 6
 abbrev pub formals-of : ℕ → ℕ
 formals-of w = payload w / 2 ^ 14 % 2 ^ 8
 
-abbrev pub bounded-of : ℕ → Bool
-bounded-of w = eqb (payload w / 2 ^ 22 % 2) 1
+abbrev pub bound-of : ℕ → ℕ
+bound-of w = payload w / 2 ^ 22 % 2 ^ 3
 
 abbrev pub first-of : ℕ → ℕ
 first-of w = low w
 
 -- the word of a procedure
-abbrev pub procedure-word : (number variables formals : ℕ) → (bounded : Bool) → (first : ℕ) → ℕ
-procedure-word p v f g i = pack 6 (((flag g * 2 ^ 8 + f) * 2 ^ 6 + p) * 2 ^ 8 + v) i
+abbrev pub procedure-word : (number variables formals bound first : ℕ) → ℕ
+procedure-word p v f g i = pack 6 (((g * 2 ^ 8 + f) * 2 ^ 6 + p) * 2 ^ 8 + v) i
 
 -- one word of the memory; `qual` gives the type of an element's number
 pub data Slot (m : Mode) : Type 0 where
   cell : Cell m → Slot m
   head : Head m → Slot m
   back : (next kept : ℕ) → SettledSet m → Slot m
-  procedure : (number variables first : ℕ) → (bounded : Bool) → Slot m
+  procedure : (number variables first bound : ℕ) → Slot m
 
 unfoldable pub slot-in : (m : Mode) → (qual : ℕ → Qual) → ℕ → Slot m
 slot-in m qual w =
@@ -84,11 +84,11 @@ slot-in m qual w =
     (cond (eqb (tag w) 3) (head (array-head (element-info m (read (declared (settled-base w) (low w)) (qual (info-of w)))) (size-of w)))
     (cond (eqb (tag w) 4) (head (record-head (type-info m (info-of w)) (size-of w)))
     (cond (eqb (tag w) 5) (back (back-next w) (back-kept w) (settled-set m (low w)))
-    (procedure (number-of w) (variables-of w) (first-of w) (bounded-of w)))))))
+    (procedure (number-of w) (variables-of w) (first-of w) (bound-of w)))))))
 
 -- a word that is a procedure's, in both machines
 abbrev pub IsProcedure : ℕ → Type 0
-IsProcedure w = (m : Mode) (qual : ℕ → Qual) → slot-in m qual w ≡ procedure (number-of w) (variables-of w) (first-of w) (bounded-of w)
+IsProcedure w = (m : Mode) (qual : ℕ → Qual) → slot-in m qual w ≡ procedure (number-of w) (variables-of w) (first-of w) (bound-of w)
 
 -- a slot read as a cell, as a head
 abbrev pub as-cell : {m : Mode} → Slot m → Cell m

@@ -5,8 +5,8 @@ ghost use lib.ListN.{length, getD, set, replicate};
 ghost use Rattle.model.specs.Qualified.{Qual, declared};
 ghost use Rattle.model.specs.Generic as generic;
 ghost use Rattle.model.specs.Modes.{Mode, settled-set, carried, element-info, type-info};
-ghost use Rattle.model.specs.Machine.{word, object, filled, array-head, record-head, flag};
-ghost use Rattle.words.specs.Word.{cell, head, back, low, tag, payload, size-of, info-of, settled-base, back-kept, back-next, number-of, variables-of, formals-of, bounded-of, first-of, procedure-word, slot-in};
+ghost use Rattle.model.specs.Machine.{word, object, filled, array-head, record-head};
+ghost use Rattle.words.specs.Word.{cell, head, back, low, tag, payload, size-of, info-of, settled-base, back-kept, back-next, number-of, variables-of, formals-of, bound-of, first-of, procedure-word, slot-in};
 ghost use Rattle.words.specs.Answer.{read-as};
 
 // What a variable, a cell of an array or a slot of a record holds: a filled one by its word.
@@ -137,11 +137,11 @@ pub fn formals_in(w: u64) -> u8
     (w / 34359738368 / 16384 % 256) as u8
 }
 
-// Whether it has a GN.
-pub fn is_bounded_in(w: u64) -> bool
-    ensures { λ r. ⌜ r ≡ bounded-of w ⌝ }
+// The bytes of its GN, 0 where it has none.
+pub fn bound_in(w: u64) -> u8
+    ensures { λ n. ⌜ n ≡ bound-of w ⌝ }
 {
-    w / 34359738368 / 4194304 % 2 == 1
+    (w / 34359738368 / 4194304 % 8) as u8
 }
 
 pub fn first_in(w: u64) -> u32
@@ -188,22 +188,11 @@ pub fn back_word(next: u32, kept: u8, set: u32) -> u64
     (((next as u64) * 16384 + (kept as u64)) * 8 + 5) * 4294967296 + (set as u64)
 }
 
-// Whether a procedure has a GN, as a bit.
-fn flag_of(bounded: bool) -> u64
-    ensures { λ n. ⌜ n ≡ flag bounded ⌝ }
-    ensures { λ n. ⌜ n < 2 ⌝ }
+pub fn procedure_word(number: u8, variables: u8, formals: u8, bound: u8, first: u32) -> u64
+    requires { ⌜ (number < 2 ^ 6) × (bound < 2 ^ 3) ⌝ }
+    ensures { λ w. ⌜ w ≡ procedure-word number variables formals bound first ⌝ }
 {
-    if bounded {
-        return 1;
-    }
-    0
-}
-
-pub fn procedure_word(number: u8, variables: u8, formals: u8, bounded: bool, first: u32) -> u64
-    requires { ⌜ number < 2 ^ 6 ⌝ }
-    ensures { λ w. ⌜ w ≡ procedure-word number variables formals bounded first ⌝ }
-{
-    let counts = ((flag_of(bounded) * 256 + (formals as u64)) * 64 + (number as u64)) * 256
+    let counts = (((bound as u64) * 256 + (formals as u64)) * 64 + (number as u64)) * 256
         + (variables as u64);
     (counts * 8 + 6) * 4294967296 + (first as u64)
 }

@@ -113,7 +113,7 @@ gap-kept {m} {c} {words} {r = r} S wordsâ€² G =
       procedure = S .procedure;
       next = S .next;
       first = S .first;
-      bounded = S .bounded;
+      bound = S .bound;
       variables = S .variables;
       sane = rw (G .long) (S .sane);
       running = S .running;
@@ -145,7 +145,7 @@ module _ {m : Mode} {c : Given} {words out : List â„•} {r : Registers} {p i : â„
         procedure = S .procedure;
         next = at;
         first = S .first;
-        bounded = S .bounded;
+        bound = S .bound;
         variables = S .variables âˆ™ sym many;
         sane =
             record {
@@ -171,7 +171,7 @@ module _ {m : Mode} {c : Given} {words out : List â„•} {r : Registers} {p i : â„
         procedure = S .procedure;
         next = S .next;
         first = S .first;
-        bounded = S .bounded;
+        bound = S .bound;
         variables = S .variables;
         sane = record { room = S .sane .room; frame = S .sane .frame; small = S .sane .small };
         running = S .running;
@@ -204,7 +204,7 @@ module _ {m : Mode} {c : Given} {words out : List â„•} {r : Registers} {p i : â„
         procedure = S .procedure;
         next = S .next;
         first = S .first;
-        bounded = S .bounded;
+        bound = S .bound;
         variables = S .variables;
         sane = record { room = S .sane .room; frame = S .sane .frame; small = S .sane .small };
         running = S .running;

@@ -12,10 +12,10 @@ use Rattle.model.specs.Modes.{Mode, SettledSet, settled-set}
 use Rattle.model.specs.Machine.{Cell, empty, Object, cells-of, head-of, Frame, frame, kept, State, state, View}
 use Rattle.model.specs.Run.{written}
 use Rattle.model.specs.declared.Operation.{Operation}
-use Rattle.sheet.specs.Layout.{proceduresOf, variablesAt, isBounded, procedureAt, instructionAt}
+use Rattle.sheet.specs.Layout.{proceduresOf, variablesAt, boundSize, procedureAt, instructionAt}
 use Rattle.sheet.specs.Decode.{operationAt}
 use Rattle.sheet.specs.Meaning.{qualOf}
-use Rattle.words.specs.Word.{Slot, cell, head, back, procedure, slot-in, number-of, variables-of, bounded-of, first-of, IsProcedure}
+use Rattle.words.specs.Word.{Slot, cell, head, back, procedure, slot-in, number-of, variables-of, bound-of, first-of, IsProcedure}
 use Rattle.words.specs.Sees.{Sees}
 use Rattle.writers.specs.declared.Registers.{Registers}
 
@@ -43,7 +43,7 @@ abbrev pub back-to : {m : Mode} → (sheet : List ℕ) → (p next : ℕ) → (z
 back-to s p i z = back i (kept-byte (operationAt s (instructionAt s p (pred i)))) z
 
 abbrev pub procedure-slot : {m : Mode} → (sheet : List ℕ) → (p variables : ℕ) → Slot m
-procedure-slot s p v = procedure p v (instructionAt s p 0) (isBounded s p (procedureAt s p))
+procedure-slot s p v = procedure p v (instructionAt s p 0) (boundSize s p (procedureAt s p))
 
 -- what follows the variables of a frame with set z, where these frames wait; where none does, two blank words
 unfoldable pub flat-frames : {m : Mode} → (sheet : List ℕ) → (z : SettledSet m) → List (Frame m) → List (Slot m)
@@ -104,7 +104,7 @@ module _ (m : Mode) (c : Given) (words output : List ℕ) (r : Registers) where
     pub procedure : number-in r ≡ p
     pub next : r .next ≡ i
     pub first : first-in r ≡ instructionAt (c .sheet) p 0
-    pub bounded : bounded-of (r .procedure) ≡ isBounded (c .sheet) p (procedureAt (c .sheet) p)
+    pub bound : bound-of (r .procedure) ≡ boundSize (c .sheet) p (procedureAt (c .sheet) p)
     pub variables : variables-in r ≡ length vs
     pub sane : Sane (length words) r
     pub running : Sound (c .sheet) p vs

@@ -1,7 +1,7 @@
 //! A safe call of the plain C interpreter.
 
 use reference::machine::MAX_MEMORY;
-use reference::{check, parse, Verdict};
+use reference::{check, parse, Edition, Verdict};
 
 /// The interpreter in C.
 pub type Interpreter = unsafe extern "C" fn(
@@ -36,14 +36,15 @@ macro_rules! interpreter {
 }
 pub(crate) use interpreter;
 
-/// A sheet that the interpreter may be given: accepted, and without a rights name. It knows document 01's layout alone, for to
-/// look for a GN record at every jump would make it a slower yardstick.
+/// A sheet that the interpreter may be given: accepted, of edition 1 and without a rights name. It knows document 01's layout
+/// alone, for to look for a GN record at every jump would make it a slower yardstick.
 pub struct Accepted<'a>(&'a [u8]);
 
 impl<'a> Accepted<'a> {
     pub fn new(sheet: &'a [u8]) -> Option<Self> {
         let program = parse(sheet).ok()?;
-        let known = program.procedures.iter().all(|p| p.bound.is_none());
+        let first = Edition::numbered(sheet[2]) == Some(Edition::First);
+        let known = first && program.procedures.iter().all(|p| p.bound.is_none());
         (known && check(sheet) == Verdict::Accepted).then_some(Accepted(sheet))
     }
 

@@ -5,7 +5,7 @@ const WORDS: [(&str, &str); 21] = [
     ("overlong", "more than 32,768 bytes"),
     ("torn", "a record is cut short, or bytes are left over"),
     ("stray mark", "not the mark that is due"),
-    ("edition", "not 1"),
+    ("edition", "neither 1 nor 2"),
     ("off scale", "a field is outside the layout"),
     ("loose key", "the right open stands where it may not"),
     ("false raise", "need and inner of a formal disagree"),

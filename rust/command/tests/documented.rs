@@ -234,7 +234,7 @@ fn answering(number: usize) -> (Vec<String>, Vec<u8>) {
         1 => (call("check --bytes -"), vec![0; 32_769]),
         2 => (sample("torn.ws", "check"), none),
         3 => (call("check --bytes -"), b"??????".to_vec()),
-        4 => (call("check --text -"), b"raw\nHD 2 0 0 1".to_vec()),
+        4 => (sample("later-edition.ws", "check"), none),
         5 => (call("check --text -"), b"raw\nHD 1 0 0 0".to_vec()),
         6 => (sample("leak.ws", "check"), none),
         7 => (sample("stranger.ws", "check"), none),

@@ -254,10 +254,8 @@ fn layout() -> Vec<Case> {
         case(raw(&format!("HD 1 0 0 1\n{MAIN}\nbytes 00")), 2, "bytes 00", &["1 byte is left over after the last record"]),
         case(raw(&format!("HD 1 0 1 1\n{MAIN}")), 3, "PR 0 0 0 255 1", &["the mark QT is due here, found `PR`"]),
         case(raw("bytes FF 00 00 00 00 00"), 3, "bytes FF 00 00 00 00 00", &["the mark HD is due here, found the bytes FF 00"]),
-        case(raw(&format!("HD 2 0 0 1\n{MAIN}")), 4, "2", &["the edition is 2, it must be 1"]),
         case(raw("HD 1 33 0 1"), 5, "33", &["types: 33, it must be from 0 to 32"]),
         case(raw("HD 1 0 0 0"), 5, "0", &["procedures: 0, it must be from 1 to 64"]),
-        case(raw(&format!("HD 1 1 0 1\nTY 16 0 255 255 255 255 255 255 255 255\n{MAIN}")), 5, "16", &["named rights: 16, it must be from 0 to 15"]),
         case(raw(&format!("HD 1 1 0 1\nTY 0 1 0 255 255 255 255 255 255 255\n{MAIN}")), 5, "0", &["slot 0, a qualified type: 0, it must be below 0"]),
         case(raw(&format!("HD 1 0 1 1\nQT 1 16 0\n{MAIN}")), 5, "16", &["rights: 0b0000000000010000, and a tray has the rights 1 fetch, 2 store, 3 size"]),
         case(raw(&format!("HD 1 0 1 1\nQT 1 2 0\n{MAIN}")), 5, "0", &["element, a qualified type before this one: 0, it must be below 0"]),
@@ -271,6 +269,50 @@ fn layout() -> Vec<Case> {
         case(two_formals("IN 16 255 255 255 1"), 5, "255", &["b: 255, and procedure 1 has formals: 2"]),
         case(String::from("procedure main\n  variable n: integer\n  set n := 1"), 5, "set", &["the last instruction is a return, found set"]),
         case(String::from("procedure main\n  variable n: integer\n  newrecord n\n  return"), 5, "newrecord", &["newrecord needs a procedure that is of a type"]),
+    ]
+}
+
+/// A sheet of an edition with a type of so many named rights, the qualified
+/// type and, in a second procedure, the rights name.
+fn of_edition(edition: u32, named: u32, qualified: &str, name: &str) -> String {
+    let quals = u8::from(!qualified.is_empty());
+    let (slots, main) = (" 255".repeat(8), "PR 0 0 0 255 1\nIN 17 255 255 255 0");
+    let second = format!("PR 0 0 0 255 1\n{name}\nIN 17 255 255 255 0");
+    format!("raw\nHD {edition} 1 {quals} 2\nTY {named} 0{slots}\n{qualified}\n{main}\n{second}")
+}
+
+#[rustfmt::skip]
+fn editions() -> Vec<Case> {
+    let header = |lines: &str| format!("raw\nHD {lines}");
+    let rights = |edition, count| of_edition(edition, count, "", "");
+    let bits = |edition, record| of_edition(edition, 3 + 12 * edition, record, "");
+    let least = |edition, record| of_edition(edition, 3 + 12 * edition, "", record);
+    let cut = |text: String| String::from(text.trim_end_matches("\nIN 17 255 255 255 0"));
+    vec![
+        case(header("3 0 0 1"), 4, "3", &["the edition is 3, it must be 1 or 2"]),
+        case(header("0 0 0 1\nPR 0 0 0 255 1\nIN 17 255 255 255 0"), 4, "0", &["the edition is 0, it must be 1 or 2"]),
+        case(header("255 33 65 0"), 4, "255", &["the edition is 255, it must be 1 or 2"]),
+        case(header("2 33 65 0"), 5, "33", &["types: 33, it must be from 0 to 32"]),
+        case(rights(1, 16), 5, "16", &["named rights: 16, in edition 1 it must be from 0 to 15; edition 2 allows 31"]),
+        case(rights(1, 31), 5, "31", &["named rights: 31, in edition 1 it must be from 0 to 15; edition 2 allows 31"]),
+        case(rights(1, 32), 5, "32", &["named rights: 32, in edition 1 it must be from 0 to 15"]),
+        case(rights(2, 32), 5, "32", &["named rights: 32, in edition 2 it must be from 0 to 31"]),
+        case(rights(2, 255), 5, "255", &["named rights: 255, in edition 2 it must be from 0 to 31"]),
+        case(bits(1, "QT 0 32768 255"), 5, "32768", &["rights: 0b1000000000000000, and an integer has no rights"]),
+        case(bits(2, "QT 0 32768 255"), 5, "32768", &["rights: 0b00000000000000001000000000000000, and an integer has no rights"]),
+        case(bits(2, "QT 0 2147483648 255"), 5, "2147483648", &["rights: 0b10000000000000000000000000000000, and an integer has no rights"]),
+        case(bits(2, "QT 1 65536 255"), 5, "65536", &["rights: 0b00000000000000010000000000000000, and a tray has the rights 1 fetch, 2 store, 3 size"]),
+        case(bits(2, "QT 255 16777216 255"), 5, "16777216", &["rights: 0b00000001000000000000000000000000, and ?R has its rights from a call"]),
+        case(of_edition(1, 14, "QT 2 32768 255", ""), 5, "32768", &["rights: 0b1000000000000000, and type 2 has the rights 0 to 14"]),
+        case(of_edition(2, 22, "QT 2 8388608 255", ""), 5, "8388608", &["rights: 0b00000000100000000000000000000000, and type 2 has the rights 0 to 22"]),
+        case(bits(2, "QT 2 4026531840 255"), 5, "4026531840", &["rights: 0b11110000000000000000000000000000, and type 2 has the rights 0 to 27"]),
+        case(of_edition(1, 14, "", "GN 2 32768"), 5, "32768", &["least set of ?R: 0b1000000000000000, and type 2 names the rights 1 to 14"]),
+        case(of_edition(2, 22, "", "GN 2 8388608"), 5, "8388608", &["least set of ?R: 0b00000000100000000000000000000000, and type 2 names the rights 1 to 22"]),
+        case(least(2, "GN 2 65537"), 5, "65537", &["least set of ?R: 0b00000000000000010000000000000001, and open, right 0, is none of its rights"]),
+        case(header("1 0 1 1\nbytes 51 54 00 00 00"), 2, "bytes 51 54 00 00 00", &["QT, a record of 6 bytes, is due here, and 5 bytes are left"]),
+        case(header("2 0 1 1\nbytes 51 54 00 00 00 00 00"), 2, "bytes 51 54 00 00 00 00 00", &["QT, a record of 8 bytes, is due here, and 7 bytes are left"]),
+        case(cut(least(1, "bytes 47 4E 02 02")), 2, "bytes 47 4E 02 02", &["GN, a record of 5 bytes, is due here, and 4 bytes are left"]),
+        case(cut(least(2, "bytes 47 4E 02 02 00 00")), 2, "bytes 47 4E 02 02 00 00", &["GN, a record of 7 bytes, is due here, and 6 bytes are left"]),
     ]
 }
 
@@ -322,6 +364,7 @@ fn explanations_mark_the_part_and_say_what_is_missing() {
         operands(),
         records(),
         layout(),
+        editions(),
         rights_names(),
     ];
     for case in all.into_iter().flatten() {

@@ -33,10 +33,20 @@ fn with_main(before: &str) -> String {
 }
 
 /// A type with more rights or slots than a text can say.
-fn raw_type(rights: u64, slots: u64) -> String {
+fn raw_type(edition: u64, rights: u64, slots: u64) -> String {
     let bytes = if slots == 0 { " 255" } else { " 0" }.repeat(8);
     let main = "QT 0 0 255\nPR 0 0 0 255 1\nIN 17 255 255 255 0";
-    format!("raw\nHD 1 1 1 1\nTY {rights} {slots}{bytes}\n{main}")
+    format!("raw\nHD {edition} 1 1 1\nTY {rights} {slots}{bytes}\n{main}")
+}
+
+/// A type with so many named rights, in a text of an edition that has at most
+/// so many.
+fn named_rights(edition: u64, most: u64, count: u64) -> String {
+    let rights = list(count, |i| format!("r{i}"), ",");
+    match count > most {
+        true => raw_type(edition, count, 0),
+        false => with_main(&format!("edition {edition}\ntype t{{{rights}}}")),
+    }
 }
 
 /// A text in which there is so much of what a row of the table limits; None
@@ -52,13 +62,10 @@ fn declaring(what: &str, count: u64) -> Option<String> {
         "declared types" => with_main(&list(count, |i| format!("type t{i}"), "\n")),
         "qualified types" => with_main(&list(count, |i| format!("qual q{i} = integer"), "\n")),
         "procedures" => list(count, |i| format!("procedure p{i}\nreturn"), "\n"),
-        "named rights of a type, beside open" if count > 15 => raw_type(count, 0),
-        "named rights of a type, beside open" => {
-            let rights = list(count, |i| format!("r{i}"), ",");
-            with_main(&format!("type t{{{rights}}}"))
-        }
+        "named rights of a type, beside open, in edition 1" => named_rights(1, 15, count),
+        "named rights of a type, beside open, in edition 2" => named_rights(2, 31, count),
         "slots of a type" if count == 0 => with_main("type t"),
-        "slots of a type" if count > 8 => raw_type(0, count),
+        "slots of a type" if count > 8 => raw_type(1, 0, count),
         "slots of a type" => {
             let slots = list(count, |i| format!("s{i}: integer"), ", ");
             with_main(&format!("type t ({slots})"))
@@ -154,7 +161,7 @@ fn what_a_sheet_has_is_limited_as_the_table_says() {
             refused_outside(&within(from - 1), outside);
         }
     }
-    assert_eq!(tried, 12, "rows of which texts can have more and less");
+    assert_eq!(tried, 13, "rows of which texts can have more and less");
 }
 
 /// The limits of a row by the beginning of its first cell.

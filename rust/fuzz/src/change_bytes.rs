@@ -1,9 +1,10 @@
 //! Sheets changed by chance: bits, fields, records and whole parts.
 
-use generator::records::RecordKind;
+use crate::records::records;
 use generator::Random;
-use reference::MAX_SHEET;
+use reference::{Edition, MAX_SHEET};
 use std::ops::Range;
+use text::RecordKind;
 
 /// Changes a sheet, with another one at hand.
 type Change = fn(&mut Random, &mut Vec<u8>, &[u8]);
@@ -41,30 +42,14 @@ pub fn changed(random: &mut Random, mut sheet: Vec<u8>, other: &[u8]) -> Vec<u8>
     sheet
 }
 
-/// The kind of the whole record at the place.
-fn kind_at(sheet: &[u8], place: usize) -> Option<RecordKind> {
-    let mut kinds = RecordKind::ALL.into_iter();
-    let kind = kinds.find(|kind| sheet[place..].starts_with(&kind.mark()))?;
-    (place + kind.size() <= sheet.len()).then_some(kind)
-}
-
-/// The records from the start on, up to what is none.
-fn records(sheet: &[u8]) -> Vec<(RecordKind, usize)> {
-    let mut all = Vec::new();
-    let mut place = 0;
-    while let Some(kind) = kind_at(sheet, place) {
-        all.push((kind, place));
-        place += kind.size();
-    }
-    all
-}
-
 /// The bytes of one of the records, or of one that would stand at the end.
 fn some_record(random: &mut Random, sheet: &[u8]) -> Range<usize> {
     let end = sheet.len();
-    let records = records(sheet);
-    let some = random.pick(&records);
-    some.map_or(end..end, |(kind, place)| place..place + kind.size())
+    let mut records = records(sheet);
+    match records.len() {
+        0 => end..end,
+        count => records.swap_remove(random.below(count)).1,
+    }
 }
 
 /// Values at which something changes.
@@ -191,8 +176,9 @@ fn near_the_limit(random: &mut Random, sheet: &mut Vec<u8>, _: &[u8]) {
 /// does not always end the reading.
 fn recount(sheet: &mut [u8]) {
     let mut procedure = None;
-    for (kind, place) in records(sheet) {
-        match kind {
+    for (record, bytes) in records(sheet) {
+        let place = bytes.start;
+        match record.kind {
             RecordKind::Header => sheet[place + 3..place + 6].fill(0),
             RecordKind::Type => count(sheet, 3),
             RecordKind::Qualified => count(sheet, 4),
@@ -203,7 +189,7 @@ fn recount(sheet: &mut [u8]) {
                 procedure = Some(place);
             }
             // A GN is not counted: it is due where it stands.
-            RecordKind::Bound => {}
+            RecordKind::Name => {}
             RecordKind::Variable => procedure.into_iter().for_each(|at| count(sheet, at + 4)),
             RecordKind::Instruction => procedure
                 .into_iter()
@@ -225,7 +211,10 @@ fn count_word(sheet: &mut [u8], place: usize) {
 /// have no room.
 pub fn long_run(random: &mut Random) -> Vec<u8> {
     let kind = RecordKind::ALL[random.below(RecordKind::ALL.len())];
-    let fields = random.bytes(kind.size() - 2);
-    let record = [&kind.mark()[..], &fields].concat();
-    record.repeat(random.below(7 << 20) / kind.size())
+    let edition = Edition::ALL[random.below(Edition::ALL.len())];
+    let fields = random.bytes(kind.size(edition) - 2);
+    let record = [kind.mark().as_bytes(), &fields].concat();
+    let many = record.repeat(random.below(7 << 20) / record.len());
+    let header = [b'H', b'D', edition.number(), 0, 0, 0];
+    [&header[..], &many].concat()
 }

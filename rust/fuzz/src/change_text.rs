@@ -74,7 +74,8 @@ fn some_token(random: &mut Random, tokens: &[&str]) -> usize {
 }
 
 /// Words and numbers that mean something, and some that nearly do.
-const WORDS: [&str; 48] = [
+const WORDS: [&str; 57] = [
+    "edition",
     "type",
     "qual",
     "procedure",
@@ -95,11 +96,15 @@ const WORDS: [&str; 48] = [
     "TY",
     "QT",
     "PR",
+    "GN",
     "VR",
     "IN",
     "main",
     ":=",
     "<-",
+    ">=",
+    "?R",
+    "for",
     "{",
     "}",
     "[",
@@ -115,10 +120,14 @@ const WORDS: [&str; 48] = [
     ".",
     "#",
     "0",
+    "1",
+    "2",
     "255",
     "256",
     "65535",
     "65536",
+    "4294967295",
+    "4294967296",
     "0x10",
     "0xfffff",
     "99999999999999999999",

@@ -1,5 +1,6 @@
 //! The texts and the sheets that are changed.
 
+use crate::editions::second;
 use crate::{change_bytes, change_text};
 use generator::breach::Flaw;
 use generator::damage::{damaged, random_bytes};
@@ -13,6 +14,10 @@ use text::{assemble, disassemble};
 
 /// The sheets that are made to be run.
 const FAMILIES: [&Family; 4] = [&RUNNABLE, &ANY_ACCEPTED, &TRIALS, &MISDECLARED];
+
+/// By how many places, at most, the rights of a sheet move up in the second
+/// edition.
+const MOST_PLACES: usize = 32;
 
 pub struct Corpus {
     samples: Vec<String>,
@@ -75,7 +80,16 @@ impl Corpus {
         }
     }
 
+    /// A sheet of the generator, or the same in the second edition.
     fn generated(&self, random: &mut Random) -> Vec<u8> {
+        let sheet = self.of_generator(random);
+        match random.one_in(3) {
+            true => second(&sheet, || random.below(MOST_PLACES)),
+            false => sheet,
+        }
+    }
+
+    fn of_generator(&self, random: &mut Random) -> Vec<u8> {
         match random.below(128) {
             0 => large_sheet(random),
             1..=8 => self.cases[random.below(self.cases.len())].clone(),

@@ -27,6 +27,8 @@ pub enum Event {
     Text(bool),
     /// The number that both engines give, 0 for an accepted sheet.
     Check(u64),
+    /// A sheet by its edition, and whether it is accepted.
+    Edition(u8, bool),
     Run(u64),
     Watch(u64),
     /// A task of the program and its exit status.
@@ -39,6 +41,9 @@ impl Event {
         let mut all = Vec::from([Kind::Text, Kind::Bytes, Kind::Program].map(Event::Round));
         all.extend([false, true].map(Event::Text));
         all.extend((0..=9).chain([20, 21]).map(Event::Check));
+        for accepted in [false, true] {
+            all.extend([1, 2].map(|edition| Event::Edition(edition, accepted)));
+        }
         all.extend((1..=17).chain([20, 21]).map(Event::Run));
         all.extend((1..=5).chain(10..=19).map(Event::Watch));
         for task in [Task::Check, Task::Run] {
@@ -54,6 +59,7 @@ impl Event {
             Event::Round(_) => String::from("rounds"),
             Event::Text(_) => String::from("texts"),
             Event::Check(_) => String::from("check, by number"),
+            Event::Edition(..) => String::from("sheets, by edition"),
             Event::Run(_) => String::from("run, by number"),
             Event::Watch(_) => String::from("watch, by number"),
             Event::Program(task, _) => format!("wennathig {task:?}, by status").to_lowercase(),
@@ -66,6 +72,8 @@ impl Event {
             Event::Text(true) => String::from("assembled"),
             Event::Text(false) => String::from("not assembled"),
             Event::Check(0) => String::from("accepted"),
+            Event::Edition(edition, true) => format!("{edition} accepted"),
+            Event::Edition(edition, false) => format!("{edition} refused"),
             Event::Check(number) | Event::Run(number) | Event::Watch(number) => number.to_string(),
             Event::Program(_, status) => status.to_string(),
         }

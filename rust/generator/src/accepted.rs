@@ -8,8 +8,10 @@ use crate::body::Writer;
 use crate::random::Random;
 use crate::reading::Scope;
 use crate::records::{
-    BoundRecord, QualifiedRecord, TypeRecord, VariableRecord, ARRAY_ALL, NONE, OPEN, STORE,
+    named_rights, BoundRecord, QualifiedRecord, TypeRecord, VariableRecord, ARRAY_ALL, NONE, OPEN,
+    STORE,
 };
+use crate::second_edition::in_either_edition;
 use crate::sheet::{Procedure, Sheet, SheetBuilder};
 use crate::typing::Typing;
 
@@ -40,6 +42,13 @@ pub fn accepted(random: &mut Random) -> Sheet {
 }
 
 pub fn accepted_within(random: &mut Random, room: Room) -> Sheet {
+    let mut sheet = in_first_edition(random, room);
+    in_either_edition(random, &mut sheet);
+    sheet
+}
+
+/// An accepted sheet of edition 1.
+pub fn in_first_edition(random: &mut Random, room: Room) -> Sheet {
     let mut author = Author {
         random,
         sheet: SheetBuilder::new().build(),
@@ -98,9 +107,9 @@ impl Author<'_> {
         }
         let of = self.random.below(self.sheet.types.len());
         let (base, named) = (of as u8 + 2, self.named_rights(of));
-        let low = self.random.word() as u16 & named;
-        let more = low | self.random.word() as u16 & named;
-        let least = low & self.random.word() as u16;
+        let low = self.random.word() as u32 & named;
+        let more = low | self.random.word() as u32 & named;
+        let least = low & self.random.word() as u32;
         self.generic = Some(BoundRecord { base, least });
         let sets = [low, more].map(|rights| QualifiedRecord::record(base, rights));
         for leaf in [QualifiedRecord::GENERIC, sets[0], sets[1]] {
@@ -118,9 +127,8 @@ impl Author<'_> {
     }
 
     /// The named rights of a declared type.
-    fn named_rights(&self, of: usize) -> u16 {
-        let count = u32::from(self.sheet.types[of].named_rights);
-        ((1u32 << (count + 1)) - 2) as u16
+    fn named_rights(&self, of: usize) -> u32 {
+        named_rights(self.sheet.types[of].named_rights)
     }
 
     fn qualified(&mut self) -> QualifiedRecord {
@@ -149,17 +157,17 @@ impl Author<'_> {
         QualifiedRecord::array(element, rights & !STORE)
     }
 
-    fn array_rights(&mut self) -> u16 {
+    fn array_rights(&mut self) -> u32 {
         if self.random.one_in(2) {
             ARRAY_ALL
         } else {
-            self.random.word() as u16 & ARRAY_ALL
+            self.random.word() as u32 & ARRAY_ALL
         }
     }
 
     fn record(&mut self) -> QualifiedRecord {
         let of = self.random.below(self.sheet.types.len());
-        let mut named = self.random.word() as u16 & self.named_rights(of);
+        let mut named = self.random.word() as u32 & self.named_rights(of);
         if self.random.one_in(3) {
             named |= OPEN;
         }
@@ -224,7 +232,7 @@ impl Author<'_> {
             return None;
         }
         let of = self.random.below(self.sheet.types.len());
-        let some = self.random.word() as u16 & self.random.word() as u16;
+        let some = self.random.word() as u32 & self.random.word() as u32;
         let any = BoundRecord {
             base: of as u8 + 2,
             least: some & self.named_rights(of),
@@ -232,7 +240,7 @@ impl Author<'_> {
         match self.random.one_in(4) {
             true => Some(any),
             false => self.generic.map(|bound| BoundRecord {
-                least: bound.least & (some | self.random.word() as u16),
+                least: bound.least & (some | self.random.word() as u32),
                 ..bound
             }),
         }

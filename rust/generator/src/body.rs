@@ -184,12 +184,12 @@ impl Writer<'_> {
         self.variable(|typing, inner| typing.is_integer(inner))
     }
 
-    fn array(&mut self, rights: u16) -> Option<u8> {
+    fn array(&mut self, rights: u32) -> Option<u8> {
         self.variable(|typing, inner| typing.is_array_with(inner, rights))
     }
 
     /// A variable of the owner's type with the rights.
-    fn owned(&mut self, rights: u16) -> Option<u8> {
+    fn owned(&mut self, rights: u32) -> Option<u8> {
         let owner = self.procedure().head.owner;
         self.variable(|typing, inner| {
             let record = typing.get(inner);

@@ -2,8 +2,10 @@
 
 use crate::limits::{fields, Field};
 use crate::random::Random;
-use crate::records::RecordKind;
+use crate::records::{BoundRecord, RecordKind};
 use crate::sheet::Sheet;
+use reference::Edition;
+use std::ops::Range;
 
 const MAX_SHEET: usize = 32_768;
 
@@ -15,20 +17,22 @@ pub fn random_bytes(random: &mut Random) -> Vec<u8> {
         return random.bytes(count);
     }
     let mut bytes = Vec::new();
-    let counts = [1, random.below(3), random.below(4), random.between(1, 3)];
+    let edition = Edition::ALL[random.below(2)];
+    let counts = [random.below(3), random.below(4), random.between(1, 3)];
     bytes.extend(RecordKind::Header.mark());
+    bytes.push(edition.number());
     bytes.extend(counts.map(|count| count as u8));
     for (kind, count) in [RecordKind::Type, RecordKind::Qualified]
         .into_iter()
-        .zip([counts[1], counts[2]])
+        .zip([counts[0], counts[1]])
     {
         for _ in 0..count {
-            marked_record(random, kind, &mut bytes);
+            marked_record(random, kind, edition, &mut bytes);
         }
     }
     for _ in 0..random.below(12) {
         let kind = RecordKind::ALL[random.between(3, 6)];
-        marked_record(random, kind, &mut bytes);
+        marked_record(random, kind, edition, &mut bytes);
     }
     bytes
 }
@@ -38,9 +42,9 @@ fn any_kind(random: &mut Random) -> RecordKind {
 }
 
 /// A record with its mark and fields that are often in range.
-fn marked_record(random: &mut Random, kind: RecordKind, bytes: &mut Vec<u8>) {
+fn marked_record(random: &mut Random, kind: RecordKind, edition: Edition, bytes: &mut Vec<u8>) {
     bytes.extend(kind.mark());
-    for _ in 2..kind.size() {
+    for _ in 2..kind.size(edition) {
         bytes.push(match random.below(8) {
             0 => random.byte(),
             1..=3 => 255,
@@ -66,7 +70,7 @@ fn change(random: &mut Random, sheet: &Sheet, bytes: &mut Vec<u8>) {
     match random.below(13) {
         0 => flip_bits(random, bytes),
         1 => cut(random, sheet, bytes),
-        2 => extend(random, bytes),
+        2 => extend(random, sheet, bytes),
         3 => replace_bytes(random, bytes),
         4 => exchange_mark(random, sheet, bytes),
         5 => drop_record(random, sheet, bytes),
@@ -90,14 +94,14 @@ fn cut(random: &mut Random, sheet: &Sheet, bytes: &mut Vec<u8>) {
     let length = if random.one_in(2) {
         random.below(bytes.len() + 1)
     } else {
-        let (place, kind) = some_record(random, sheet);
-        place + random.below(kind.size())
+        let record = some_record(random, sheet);
+        record.start + random.below(record.len())
     };
     bytes.truncate(length);
 }
 
 /// Adds a few bytes, a record, or enough to be too long.
-fn extend(random: &mut Random, bytes: &mut Vec<u8>) {
+fn extend(random: &mut Random, sheet: &Sheet, bytes: &mut Vec<u8>) {
     match random.below(20) {
         0 => {
             let length = MAX_SHEET - 1 + random.below(4);
@@ -105,7 +109,7 @@ fn extend(random: &mut Random, bytes: &mut Vec<u8>) {
         }
         1..=8 => {
             let kind = any_kind(random);
-            marked_record(random, kind, bytes);
+            marked_record(random, kind, sheet.edition(), bytes);
         }
         _ => {
             let count = random.between(1, 12);
@@ -124,8 +128,8 @@ fn replace_bytes(random: &mut Random, bytes: &mut [u8]) {
     }
 }
 
-/// A record of a random kind, with its place in the undamaged sheet.
-fn some_record(random: &mut Random, sheet: &Sheet) -> (usize, RecordKind) {
+/// Where a record of a random kind stands in the undamaged sheet.
+fn some_record(random: &mut Random, sheet: &Sheet) -> Range<usize> {
     let kind = any_kind(random);
     let places = sheet.places();
     let of_kind: Vec<usize> = places
@@ -133,14 +137,15 @@ fn some_record(random: &mut Random, sheet: &Sheet) -> (usize, RecordKind) {
         .filter(|(at, _)| at.kind() == kind)
         .map(|&(_, place)| place)
         .collect();
-    match random.pick(&of_kind) {
+    let (place, kind) = match random.pick(&of_kind) {
         Some(place) => (place, kind),
         None => (0, RecordKind::Header),
-    }
+    };
+    place..place + kind.size(sheet.edition())
 }
 
 fn exchange_mark(random: &mut Random, sheet: &Sheet, bytes: &mut [u8]) {
-    let (place, _) = some_record(random, sheet);
+    let place = some_record(random, sheet).start;
     let mark = match random.below(4) {
         0 => [random.byte(), random.byte()],
         _ => any_kind(random).mark(),
@@ -151,15 +156,15 @@ fn exchange_mark(random: &mut Random, sheet: &Sheet, bytes: &mut [u8]) {
 }
 
 fn drop_record(random: &mut Random, sheet: &Sheet, bytes: &mut Vec<u8>) {
-    let (place, kind) = some_record(random, sheet);
-    let end = (place + kind.size()).min(bytes.len());
-    bytes.drain(place.min(end)..end);
+    let Range { start, end } = some_record(random, sheet);
+    let end = end.min(bytes.len());
+    bytes.drain(start.min(end)..end);
 }
 
 fn repeat_record(random: &mut Random, sheet: &Sheet, bytes: &mut Vec<u8>) {
-    let (place, kind) = some_record(random, sheet);
-    let end = (place + kind.size()).min(bytes.len());
-    let again = bytes[place.min(end)..end].to_vec();
+    let Range { start, end } = some_record(random, sheet);
+    let end = end.min(bytes.len());
+    let again = bytes[start.min(end)..end].to_vec();
     bytes.splice(end..end, again);
 }
 
@@ -171,11 +176,14 @@ fn insert_bound(random: &mut Random, sheet: &Sheet, bytes: &mut Vec<u8>) {
     let heads = places
         .iter()
         .filter(|(at, _)| !after_head || at.kind() == RecordKind::Procedure);
-    let heads: Vec<usize> = heads.map(|(at, place)| place + at.kind().size()).collect();
-    if let Some(place) = random.pick(&heads) {
-        let mut record = RecordKind::Bound.mark().to_vec();
-        record.push(random.between(1, sheet.types.len() + 2) as u8);
-        record.extend([random.byte() & 2, 0]);
+    let edition = sheet.edition();
+    let ends = heads.map(|(at, place)| place + at.kind().size(edition));
+    let ends: Vec<usize> = ends.collect();
+    if let Some(place) = random.pick(&ends) {
+        let base = random.between(1, sheet.types.len() + 2) as u8;
+        let least = random.word() as u32 & 2;
+        let mut record = Vec::new();
+        BoundRecord { base, least }.encode(edition, &mut record);
         record.truncate(random.between(4, 8));
         let place = place.min(bytes.len());
         bytes.splice(place..place, record);
@@ -199,7 +207,7 @@ fn set_field(random: &mut Random, sheet: &Sheet, bytes: &mut [u8]) {
 
 /// Writes a value into a field of the record at the place, as far as the
 /// bytes reach.
-pub fn write_field(bytes: &mut [u8], place: usize, field: &Field, value: u16) {
+pub fn write_field(bytes: &mut [u8], place: usize, field: &Field, value: u32) {
     let new = value.to_le_bytes();
     let target = bytes.iter_mut().skip(place + field.offset);
     for (byte, new) in target.zip(new).take(field.width) {

@@ -66,7 +66,7 @@ pub fn widened_arrays(bytes: usize) -> Sheet {
 /// Two chains of arrays, each 31 deep, over the two innermost elements that
 /// the start has, and binds from the end of the first to that of the second.
 /// The outermost element of the first has these rights.
-fn bound_chains(mut start: SheetBuilder, outside: u16, bytes: usize) -> Sheet {
+fn bound_chains(mut start: SheetBuilder, outside: u32, bytes: usize) -> Sheet {
     for number in 2..60 {
         start = start.array(number - 2, ARRAY_ALL);
     }

@@ -9,6 +9,9 @@
 //! - [`accepted::accepted`]: sheets that keep every rule;
 //! - [`breach`]: accepted sheets with exactly one rule broken.
 //!
+//! All come in both editions; [`second_edition`] makes the sheets of the later
+//! one.
+//!
 //! Those above are for check; [`runs`] has the sheets that are made to be run,
 //! and what each run is lent. [`bounds`] goes through every limit of document
 //! 01, for check and for runs.
@@ -27,6 +30,7 @@ pub mod random;
 pub mod reading;
 pub mod records;
 pub mod runs;
+pub mod second_edition;
 pub mod sheet;
 pub mod showcase;
 pub mod typing;

@@ -1,14 +1,14 @@
 //! The fields of each record with values just inside and just outside every
-//! limit that document 01 gives them.
+//! limit that document 01 gives them, and document 02 in edition 2.
 
-use crate::records::{ARRAY_ALL, NONE};
+use crate::records::{named_rights, ARRAY_ALL, NONE, OPEN};
 use crate::sheet::{At, Procedure, Sheet};
 
 /// A field of a record: where it stands, its bytes, and values to try.
 pub struct Field {
     pub offset: usize,
     pub width: usize,
-    pub values: Vec<u16>,
+    pub values: Vec<u32>,
 }
 
 /// A field of one byte with the values around some limits.
@@ -16,7 +16,7 @@ fn byte(offset: usize, limits: &[usize]) -> Field {
     let near = limits
         .iter()
         .flat_map(|&limit| [limit.saturating_sub(1), limit, limit + 1])
-        .map(|value| value.min(255) as u16);
+        .map(|value| value.min(255) as u32);
     Field {
         offset,
         width: 1,
@@ -29,7 +29,7 @@ fn word(offset: usize, limits: &[usize]) -> Field {
     let near = limits
         .iter()
         .flat_map(|&limit| [limit.saturating_sub(1), limit, limit + 1])
-        .map(|value| value.min(65_535) as u16);
+        .map(|value| value.min(65_535) as u32);
     Field {
         offset,
         width: 2,
@@ -43,21 +43,24 @@ pub fn fields(sheet: &Sheet, at: At) -> Vec<Field> {
     let qualified = sheet.qualified.len();
     match at {
         At::Header => vec![
-            byte(2, &[1, 255]),
+            byte(2, &[1, 2, 255]),
             byte(3, &[0, types, 32, 255]),
             byte(4, &[0, qualified, 64, 255]),
             byte(5, &[1, sheet.procedures.len(), 64, 255]),
         ],
         At::Type(number) => {
             let slots = usize::from(sheet.types[number].slot_count);
-            let mut fields = vec![byte(2, &[0, 15, 255]), byte(3, &[0, slots, 8, 255])];
+            let mut fields = vec![byte(2, &[0, 15, 31, 255]), byte(3, &[0, slots, 8, 255])];
             fields.extend((4..12).map(|offset| byte(offset, &[0, qualified, 255])));
             fields
         }
         At::Qualified(number) => vec![
             byte(2, &[0, 1, types + 2, 255]),
             rights(sheet, usize::from(sheet.qualified[number].base)),
-            byte(5, &[0, number, qualified, 255]),
+            byte(
+                3 + sheet.edition().rights_bytes(),
+                &[0, number, qualified, 255],
+            ),
         ],
         At::Procedure(number) => procedure_fields(sheet, &sheet.procedures[number]),
         At::Bound(number) => {
@@ -74,15 +77,16 @@ pub fn fields(sheet: &Sheet, at: At) -> Vec<Field> {
 /// a base.
 fn rights(sheet: &Sheet, base: usize) -> Field {
     let declared = base.checked_sub(2).and_then(|of| sheet.types.get(of));
-    let last = declared.map_or(3, |declared| u32::from(declared.named_rights));
-    let mut values = vec![0, ARRAY_ALL, ARRAY_ALL | 1, u16::MAX];
-    values.extend((0..16).map(|right| 1 << right));
-    values.push(((1u32 << (last + 1)) - 1) as u16);
-    values.push(((1u32 << (last + 1)) - 2) as u16);
-    values.push(((1u32 << (last + 2)) - 1) as u16);
+    let last = declared.map_or(3, |declared| declared.named_rights);
+    let mut values = vec![0, ARRAY_ALL, ARRAY_ALL | 1, u32::MAX];
+    let width = sheet.edition().rights_bytes();
+    values.extend((0..8 * width).map(|right| 1 << right));
+    values.push(OPEN | named_rights(last));
+    values.push(named_rights(last));
+    values.push(OPEN | named_rights(last + 1));
     Field {
         offset: 3,
-        width: 2,
+        width,
         values,
     }
 }

@@ -15,12 +15,12 @@ pub enum Leaf {
     Integer,
     Record {
         base: u8,
-        rights: u16,
+        rights: u32,
     },
     /// ?R itself, in the procedure that has the bound.
     Own {
         base: u8,
-        least: u16,
+        least: u32,
     },
 }
 
@@ -37,7 +37,7 @@ impl Leaf {
     }
 
     /// The rights that it surely has.
-    fn rights(self) -> u16 {
+    fn rights(self) -> u32 {
         match self {
             Leaf::Integer => 0,
             Leaf::Record { rights, .. } => rights,
@@ -64,7 +64,7 @@ impl Leaf {
 /// A type spelled out.
 #[derive(Clone, Debug, PartialEq, Eq)]
 pub struct Spelled {
-    pub arrays: Vec<u16>,
+    pub arrays: Vec<u32>,
     pub leaf: Leaf,
 }
 

@@ -1,7 +1,10 @@
 //! The seven kinds of record, with their fields as they stand in a sheet.
 //!
 //! Nothing here keeps a field in range: sheets that must be refused are
-//! written with the same structures.
+//! written with the same structures. Rights are numbers of 32 bits, of which
+//! a record of edition 1 has the lower half.
+
+use reference::Edition;
 
 /// The byte that says that a field names nothing.
 pub const NONE: u8 = 255;
@@ -10,12 +13,23 @@ pub const NONE: u8 = 255;
 pub const GENERIC: u8 = 255;
 
 /// Rights of an array, as bits of a QT record.
-pub const FETCH: u16 = 1 << 1;
-pub const STORE: u16 = 1 << 2;
-pub const SIZE: u16 = 1 << 3;
-pub const ARRAY_ALL: u16 = FETCH | STORE | SIZE;
+pub const FETCH: u32 = 1 << 1;
+pub const STORE: u32 = 1 << 2;
+pub const SIZE: u32 = 1 << 3;
+pub const ARRAY_ALL: u32 = FETCH | STORE | SIZE;
 /// The right open of a declared type.
-pub const OPEN: u16 = 1;
+pub const OPEN: u32 = 1;
+
+/// Rights 1 to this number, as bits.
+pub fn named_rights(count: u8) -> u32 {
+    ((1u64 << (count + 1)) - 2) as u32
+}
+
+/// The bytes that rights take in an edition.
+fn rights_bytes(rights: u32, edition: Edition) -> impl Iterator<Item = u8> {
+    let bytes = rights.to_le_bytes().into_iter();
+    bytes.take(edition.rights_bytes())
+}
 
 /// The kinds of record, by their marks.
 #[derive(Clone, Copy, Debug, PartialEq, Eq, PartialOrd, Ord)]
@@ -54,12 +68,13 @@ impl RecordKind {
     }
 
     /// The bytes of a record of this kind, mark included.
-    pub fn size(self) -> usize {
+    pub fn size(self, edition: Edition) -> usize {
         match self {
-            RecordKind::Header | RecordKind::Qualified => 6,
+            RecordKind::Header => 6,
             RecordKind::Type => 12,
+            RecordKind::Qualified => 4 + edition.rights_bytes(),
             RecordKind::Procedure | RecordKind::Instruction => 8,
-            RecordKind::Bound => 5,
+            RecordKind::Bound => 3 + edition.rights_bytes(),
             RecordKind::Variable => 4,
         }
     }
@@ -112,7 +127,7 @@ impl TypeRecord {
 #[derive(Clone, Copy, Debug, PartialEq)]
 pub struct QualifiedRecord {
     pub base: u8,
-    pub rights: u16,
+    pub rights: u32,
     pub element: u8,
 }
 
@@ -130,7 +145,7 @@ impl QualifiedRecord {
         element: NONE,
     };
 
-    pub fn array(element: u8, rights: u16) -> Self {
+    pub fn array(element: u8, rights: u32) -> Self {
         QualifiedRecord {
             base: 1,
             rights,
@@ -138,7 +153,7 @@ impl QualifiedRecord {
         }
     }
 
-    pub fn record(base: u8, rights: u16) -> Self {
+    pub fn record(base: u8, rights: u32) -> Self {
         QualifiedRecord {
             base,
             rights,
@@ -146,10 +161,10 @@ impl QualifiedRecord {
         }
     }
 
-    pub fn encode(&self, out: &mut Vec<u8>) {
+    pub fn encode(&self, edition: Edition, out: &mut Vec<u8>) {
         out.extend(RecordKind::Qualified.mark());
         out.push(self.base);
-        out.extend(self.rights.to_le_bytes());
+        out.extend(rights_bytes(self.rights, edition));
         out.push(self.element);
     }
 }
@@ -175,14 +190,14 @@ impl ProcedureRecord {
 #[derive(Clone, Copy, Debug, PartialEq)]
 pub struct BoundRecord {
     pub base: u8,
-    pub least: u16,
+    pub least: u32,
 }
 
 impl BoundRecord {
-    pub fn encode(&self, out: &mut Vec<u8>) {
+    pub fn encode(&self, edition: Edition, out: &mut Vec<u8>) {
         out.extend(RecordKind::Bound.mark());
         out.push(self.base);
-        out.extend(self.least.to_le_bytes());
+        out.extend(rights_bytes(self.least, edition));
     }
 }
 

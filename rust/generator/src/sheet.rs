@@ -4,6 +4,7 @@ use crate::records::{
     BoundRecord, Header, InstructionRecord, ProcedureRecord, QualifiedRecord, RecordKind,
     TypeRecord, VariableRecord, NONE,
 };
+use reference::Edition;
 
 #[derive(Clone, Debug, PartialEq)]
 pub struct Sheet {
@@ -50,6 +51,16 @@ impl At {
 }
 
 impl Sheet {
+    /// The edition by which the records are written: the first, where the
+    /// header names none that there is.
+    pub fn edition(&self) -> Edition {
+        Edition::numbered(self.header.edition).unwrap_or(Edition::First)
+    }
+
+    fn size(&self, at: At) -> usize {
+        at.kind().size(self.edition())
+    }
+
     /// Makes the counts of the header and the procedures those of the records
     /// that are there.
     pub fn seal(&mut self) {
@@ -63,16 +74,17 @@ impl Sheet {
     }
 
     pub fn encode(&self) -> Vec<u8> {
+        let edition = self.edition();
         let mut out = Vec::new();
         self.header.encode(&mut out);
         self.types.iter().for_each(|record| record.encode(&mut out));
-        self.qualified
-            .iter()
-            .for_each(|record| record.encode(&mut out));
+        for record in &self.qualified {
+            record.encode(edition, &mut out);
+        }
         for procedure in &self.procedures {
             procedure.head.encode(&mut out);
             if let Some(bound) = &procedure.bound {
-                bound.encode(&mut out);
+                bound.encode(edition, &mut out);
             }
             for variable in &procedure.variables {
                 variable.encode(&mut out);
@@ -104,7 +116,7 @@ impl Sheet {
         let mut all = Vec::new();
         for at in self.records() {
             all.push((at, place));
-            place += at.kind().size();
+            place += self.size(at);
         }
         all
     }
@@ -114,12 +126,12 @@ impl Sheet {
         self.records()
             .into_iter()
             .take_while(|&at| at != wanted)
-            .map(|at| at.kind().size())
+            .map(|at| self.size(at))
             .sum()
     }
 
     pub fn byte_count(&self) -> usize {
-        self.records().iter().map(|at| at.kind().size()).sum()
+        self.records().into_iter().map(|at| self.size(at)).sum()
     }
 }
 
@@ -151,6 +163,12 @@ impl SheetBuilder {
         SheetBuilder::default()
     }
 
+    pub fn in_edition(edition: Edition) -> Self {
+        let mut builder = SheetBuilder::default();
+        builder.sheet.header.edition = edition.number();
+        builder
+    }
+
     /// The next type, 2 being the first.
     pub fn record_type(mut self, named_rights: u8, slots: &[u8]) -> Self {
         self.sheet.types.push(TypeRecord::new(named_rights, slots));
@@ -166,11 +184,11 @@ impl SheetBuilder {
         self.qualified(QualifiedRecord::INTEGER)
     }
 
-    pub fn array(self, element: u8, rights: u16) -> Self {
+    pub fn array(self, element: u8, rights: u32) -> Self {
         self.qualified(QualifiedRecord::array(element, rights))
     }
 
-    pub fn record(self, base: u8, rights: u16) -> Self {
+    pub fn record(self, base: u8, rights: u32) -> Self {
         self.qualified(QualifiedRecord::record(base, rights))
     }
 
@@ -227,7 +245,7 @@ impl Procedure {
     }
 
     /// Declares a rights name.
-    pub fn bound(mut self, base: u8, least: u16) -> Self {
+    pub fn bound(mut self, base: u8, least: u32) -> Self {
         self.bound = Some(BoundRecord { base, least });
         self
     }

@@ -1,15 +1,24 @@
 //! One accepted sheet with every kind of record and all seventeen codes, for
-//! the tests that change each of its bytes in turn.
+//! the tests that change each of its bytes in turn, in both editions.
 
 use crate::operations::{
     add, bind, call, fetch, get_slot, give_back, jump_if_zero, leave, less, new_array, new_record,
     put, set, set_slot, size, store, subtract, take,
 };
+use crate::random::Random;
 use crate::records::{ARRAY_ALL, FETCH, NONE, OPEN};
+use crate::second_edition::into_second_edition;
 use crate::sheet::{Procedure, Sheet, SheetBuilder};
 
-const READ: u16 = 1 << 1;
-const AMEND: u16 = 1 << 2;
+const READ: u32 = 1 << 1;
+const AMEND: u32 = 1 << 2;
+
+/// The sheet of edition 1, and one of edition 2.
+pub fn showcases() -> [Sheet; 2] {
+    let mut second = showcase();
+    into_second_edition(&mut Random::new(1), &mut second);
+    [showcase(), second]
+}
 
 /// The types of a registry of calls: 2 is call, 3 is horse.
 pub fn showcase() -> Sheet {

@@ -47,7 +47,7 @@ impl Typing {
     }
 
     /// What two equal types have in common.
-    fn key(&self, record: &QualifiedRecord) -> (u8, u16, Option<usize>) {
+    fn key(&self, record: &QualifiedRecord) -> (u8, u32, Option<usize>) {
         (record.base, record.rights, self.element_class(record))
     }
 
@@ -107,7 +107,7 @@ impl Typing {
         self.get(number).base == 0
     }
 
-    pub fn is_array_with(&self, number: u8, rights: u16) -> bool {
+    pub fn is_array_with(&self, number: u8, rights: u32) -> bool {
         let record = self.get(number);
         record.base == 1 && record.rights & rights == rights
     }

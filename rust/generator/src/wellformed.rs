@@ -3,8 +3,10 @@
 use crate::accepted::accepted;
 use crate::random::Random;
 use crate::records::{
-    BoundRecord, InstructionRecord, QualifiedRecord, VariableRecord, ARRAY_ALL, GENERIC, NONE, OPEN,
+    named_rights, BoundRecord, InstructionRecord, QualifiedRecord, VariableRecord, ARRAY_ALL,
+    GENERIC, NONE, OPEN,
 };
+use crate::second_edition::in_either_edition;
 use crate::sheet::{At, Procedure, Sheet, SheetBuilder};
 use crate::typing::Typing;
 
@@ -12,7 +14,9 @@ use crate::typing::Typing;
 /// a few fields drawn anew.
 pub fn wellformed(random: &mut Random) -> Sheet {
     if random.one_in(2) {
-        return Chance::new(random).sheet();
+        let mut sheet = Chance::new(random).sheet();
+        in_either_edition(random, &mut sheet);
+        return sheet;
     }
     let mut sheet = accepted(random);
     for _ in 0..random.between(1, 4) {
@@ -44,13 +48,13 @@ impl<'a> Chance<'a> {
         let types = self.random.below(4);
         let qualified = self.random.below(8);
         let procedures = self.random.between(1, 4);
-        let named_rights: Vec<u8> = (0..types).map(|_| self.random.below(16) as u8).collect();
+        let counts: Vec<u8> = (0..types).map(|_| self.random.below(16) as u8).collect();
         let mut typing = Typing::of(&[]);
         for number in 0..qualified {
-            typing.push(self.qualified(&named_rights, number));
+            typing.push(self.qualified(&counts, number));
         }
         let mut builder = SheetBuilder::new();
-        for &named in &named_rights {
+        for &named in &counts {
             let slots: Vec<u8> = (0..self.random.below(9))
                 .filter_map(|_| self.named(&typing, None))
                 .collect();
@@ -61,7 +65,7 @@ impl<'a> Chance<'a> {
             .fold(builder, |builder, n| builder.qualified(typing.get(n)));
         let mut sheet = builder.build();
         sheet.procedures = (0..procedures)
-            .map(|number| self.procedure(&named_rights, &typing, number == 0))
+            .map(|number| self.procedure(&counts, &typing, number == 0))
             .collect();
         for number in 0..procedures {
             let body = self.body(&sheet, number);
@@ -71,18 +75,18 @@ impl<'a> Chance<'a> {
         sheet
     }
 
-    fn qualified(&mut self, named_rights: &[u8], number: usize) -> QualifiedRecord {
-        let base = self.random.below(named_rights.len() + 2);
+    fn qualified(&mut self, counts: &[u8], number: usize) -> QualifiedRecord {
+        let base = self.random.below(counts.len() + 2);
         match base {
             1 if number > 0 => {
-                let rights = self.random.word() as u16 & ARRAY_ALL;
+                let rights = self.random.word() as u32 & ARRAY_ALL;
                 QualifiedRecord::array(self.random.below(number) as u8, rights)
             }
             0 | 1 if self.random.one_in(3) => QualifiedRecord::GENERIC,
             0 | 1 => QualifiedRecord::INTEGER,
             _ => {
-                let mask = (1u32 << (u32::from(named_rights[base - 2]) + 1)) - 1;
-                let mut rights = self.random.word() as u16 & mask as u16 & !OPEN;
+                let named = named_rights(counts[base - 2]);
+                let mut rights = self.random.word() as u32 & named;
                 if self.random.one_in(self.open_rarity) {
                     rights |= OPEN;
                 }
@@ -101,20 +105,20 @@ impl<'a> Chance<'a> {
     }
 
     /// A rights name on one of the types.
-    fn bound(&mut self, named_rights: &[u8]) -> Option<BoundRecord> {
-        let numbers: Vec<usize> = (0..named_rights.len()).collect();
+    fn bound(&mut self, counts: &[u8]) -> Option<BoundRecord> {
+        let numbers: Vec<usize> = (0..counts.len()).collect();
         let of = self.random.pick(&numbers)?;
         let base = of as u8 + 2;
-        let least = chance_least(self.random, named_rights[of]);
+        let least = chance_least(self.random, counts[of]);
         self.random.one_in(2).then_some(BoundRecord { base, least })
     }
 
-    fn procedure(&mut self, named_rights: &[u8], typing: &Typing, is_main: bool) -> Procedure {
+    fn procedure(&mut self, counts: &[u8], typing: &Typing, is_main: bool) -> Procedure {
         let mut procedure = Procedure::main();
         if !is_main {
-            let owner = self.random.below(named_rights.len() + 1) as u8;
+            let owner = self.random.below(counts.len() + 1) as u8;
             procedure.head.owner = if owner == 0 { 0 } else { owner + 1 };
-            procedure.bound = self.bound(named_rights);
+            procedure.bound = self.bound(counts);
         }
         let bound = procedure.bound;
         if !is_main && self.random.one_in(2) {
@@ -200,10 +204,9 @@ fn first_actual(random: &mut Random, sheet: &Sheet, callee: usize, variables: us
     }
 }
 
-/// A least set: few of the named rights.
-fn chance_least(random: &mut Random, named_rights: u8) -> u16 {
-    let named = ((1u32 << (u32::from(named_rights) + 1)) - 2) as u16;
-    random.word() as u16 & random.word() as u16 & named
+/// A least set: few of so many named rights.
+fn chance_least(random: &mut Random, count: u8) -> u32 {
+    random.word() as u32 & random.word() as u32 & named_rights(count)
 }
 
 /// Draws one field of the sheet anew, within the layout: ?R stays out of slots
@@ -257,9 +260,8 @@ fn redraw_variable(random: &mut Random, record: &mut VariableRecord, drawn: u8) 
 /// The base or the least set of a rights name.
 fn redraw_bound(random: &mut Random, sheet: &mut Sheet, number: usize) {
     let of = random.below(sheet.types.len());
-    let named_rights = sheet.types[of].named_rights;
     let base = of as u8 + 2;
-    let least = chance_least(random, named_rights);
+    let least = chance_least(random, sheet.types[of].named_rights);
     sheet.procedures[number].bound = Some(BoundRecord { base, least });
 }
 
@@ -268,8 +270,8 @@ fn redraw_qualified(random: &mut Random, sheet: &mut Sheet, typing: &Typing, num
     let record = sheet.qualified[number];
     let mask = match record.base {
         0 | GENERIC => 0,
-        1 => u32::from(ARRAY_ALL),
-        of => (1u32 << (u32::from(sheet.types[usize::from(of) - 2].named_rights) + 1)) - 1,
+        1 => ARRAY_ALL,
+        of => OPEN | named_rights(sheet.types[usize::from(of) - 2].named_rights),
     };
     let target = &mut sheet.qualified[number];
     if record.base == 1 && random.one_in(2) {
@@ -278,7 +280,7 @@ fn redraw_qualified(random: &mut Random, sheet: &mut Sheet, typing: &Typing, num
         let elements: Vec<u8> = elements.collect();
         target.element = random.pick(&elements).unwrap_or(record.element);
     } else {
-        target.rights = random.word() as u16 & mask as u16;
+        target.rights = random.word() as u32 & mask;
     }
 }
 

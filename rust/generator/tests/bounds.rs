@@ -2,7 +2,7 @@
 //! each of them knows, and all comes up that must.
 
 use generator::bounds::{Bound, Family, Seen, FAMILIES};
-use reference::Verdict;
+use reference::{Edition, Verdict};
 use std::collections::BTreeSet;
 
 /// Those before the ones that take many steps.
@@ -21,10 +21,11 @@ fn found(Bound { run, seen }: &Bound) -> Seen {
     }
 }
 
-fn all_of(family: &Family) -> BTreeSet<Seen> {
-    let positions = 0..(family.count)() as u64;
+fn all_of(family: &Family, edition: Edition) -> BTreeSet<Seen> {
+    let positions = 0..(family.count)(edition) as u64;
     let seen = positions.map(|seed| {
-        let bound = family.bound(seed);
+        let bound = family.bound(edition, seed);
+        assert_eq!(bound.run.sheet[2], edition.number());
         assert_eq!(found(&bound), bound.seen, "{} {seed}", family.name);
         bound.seen
     });
@@ -34,12 +35,14 @@ fn all_of(family: &Family) -> BTreeSet<Seen> {
 #[test]
 fn second_engine_gives_the_numbers_at_every_limit() {
     for family in &FAMILIES[..QUICK] {
-        let all = all_of(family);
-        let lacking: Vec<Seen> = { (family.due)().into_iter() }
-            .filter(|seen| !all.contains(seen))
-            .collect();
-        let (name, count) = (family.name, (family.count)());
-        println!("{name}: {count} runs, {} limits and results", all.len());
-        assert!(lacking.is_empty(), "{name}: never {lacking:?}");
+        for edition in Edition::ALL {
+            let all = all_of(family, edition);
+            let lacking: Vec<Seen> = { (family.due)(edition).into_iter() }
+                .filter(|seen| !all.contains(seen))
+                .collect();
+            let (name, count) = (family.name, (family.count)(edition));
+            println!("{name}: {count} runs, {} limits and results", all.len());
+            assert!(lacking.is_empty(), "{name}: never {lacking:?}");
+        }
     }
 }

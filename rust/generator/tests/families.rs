@@ -6,12 +6,14 @@ use generator::damage::damaged;
 use generator::large::{two_deep_arrays, unequal_inside, unequal_outside, widened_arrays, SHEETS};
 use generator::records::RecordKind;
 use generator::runs::families::{MISDECLARED, RUNNABLE, SETTLING, TRIALS};
-use generator::runs::short::short;
-use generator::showcase::showcase;
+use generator::runs::short::{short, short_in_second_edition};
+use generator::runs::Run;
+use generator::showcase::showcases;
 use generator::typing::Typing;
 use generator::wellformed::wellformed;
 use generator::Random;
-use reference::{check, Outcome, Stop, Verdict};
+use reference::{check, Edition, Outcome, Stop, Verdict};
+use std::collections::BTreeMap;
 
 #[test]
 fn accepted_sheets_are_accepted() {
@@ -21,11 +23,11 @@ fn accepted_sheets_are_accepted() {
     }
 }
 
-/// The largest count of each kind stands in some accepted sheet, so that a
-/// limit that is one too low shows.
+/// The largest count of each kind stands in some accepted sheet of each
+/// edition, so that a limit that is one too low shows.
 #[test]
 fn accepted_sheets_reach_every_limit() {
-    let mut largest = [0; 8];
+    let mut largest = BTreeMap::new();
     for seed in 0..5_000 {
         let sheet = accepted(&mut Random::new(seed));
         let rights = sheet.types.iter().map(|record| record.named_rights);
@@ -43,11 +45,13 @@ fn accepted_sheets_reach_every_limit() {
             variables.max().unwrap_or(0),
             lengths.max().unwrap_or(0),
         ];
+        let largest = largest.entry(sheet.edition()).or_insert([0; 8]);
         for (most, count) in largest.iter_mut().zip(counts) {
             *most = count.max(*most);
         }
     }
-    assert_eq!(largest, [32, 64, 64, 15, 8, 8, 32, 1000]);
+    assert_eq!(largest[&Edition::First], [32, 64, 64, 15, 8, 8, 32, 1000]);
+    assert_eq!(largest[&Edition::Second], [32, 64, 64, 31, 8, 8, 32, 1000]);
 }
 
 /// Arrays are bound to arrays that ask for less of their elements.
@@ -110,7 +114,7 @@ fn flaws_change_one_record() {
         let changed = places
             .iter()
             .filter(|(at, place)| {
-                let span = *place..place + at.kind().size();
+                let span = *place..place + at.kind().size(breach.sound.edition());
                 sound[span.clone()] != broken[span]
             })
             .count();
@@ -160,13 +164,14 @@ fn deep_arrays_are_compared_in_every_level() {
 
 #[test]
 fn showcase_has_every_record_and_every_code() {
-    let sheet = showcase();
-    assert_eq!(check(&sheet.encode()), Verdict::Accepted);
-    let kinds: Vec<RecordKind> = sheet.records().iter().map(|at| at.kind()).collect();
-    assert!(RecordKind::ALL.iter().all(|kind| kinds.contains(kind)));
-    let instructions = sheet.procedures.iter().flat_map(|p| &p.instructions);
-    let codes: Vec<u8> = instructions.map(|record| record.code).collect();
-    assert!((1..=17).all(|code| codes.contains(&code)));
+    for sheet in showcases() {
+        assert_eq!(check(&sheet.encode()), Verdict::Accepted);
+        let kinds: Vec<RecordKind> = sheet.records().iter().map(|at| at.kind()).collect();
+        assert!(RecordKind::ALL.iter().all(|kind| kinds.contains(kind)));
+        let instructions = sheet.procedures.iter().flat_map(|p| &p.instructions);
+        let codes: Vec<u8> = instructions.map(|record| record.code).collect();
+        assert!((1..=17).all(|code| codes.contains(&code)));
+    }
 }
 
 #[test]
@@ -190,17 +195,22 @@ fn trials_and_misdeclared_sheets_parse_and_most_are_refused() {
     }
 }
 
+type Make = fn(&mut Random) -> Run;
+
 #[test]
 fn short_sheets_are_accepted_and_soon_done() {
     for seed in 0..300 {
-        let run = short(&mut Random::new(seed));
-        assert!(run.sheet.len() <= 260, "seed {seed}");
-        let (outcome, _) = run.on(reference::run);
-        match outcome {
-            Outcome::Stopped { stop, steps, .. } => {
-                assert!(stop == Stop::Done && steps <= 18, "seed {seed}");
+        // Edition 2 has two bytes more in each of the seven QTs and in a GN.
+        for (make, most) in [(short as Make, 260), (short_in_second_edition, 276)] {
+            let run = make(&mut Random::new(seed));
+            assert!(run.sheet.len() <= most, "seed {seed}");
+            let (outcome, _) = run.on(reference::run);
+            match outcome {
+                Outcome::Stopped { stop, steps, .. } => {
+                    assert!(stop == Stop::Done && steps <= 18, "seed {seed}");
+                }
+                refused => panic!("seed {seed}: {refused:?}"),
             }
-            refused => panic!("seed {seed}: {refused:?}"),
         }
     }
 }

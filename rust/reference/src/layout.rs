@@ -6,6 +6,7 @@
 //! the record cannot be seen.
 
 use crate::decode::{decode, Fields, Scope};
+use crate::edition::Edition;
 use crate::generic::Bound;
 use crate::program::{
     Instruction, Kind, Operation, Procedure, Program, QualifiedType, RecordType, Rights, Variable,
@@ -15,7 +16,6 @@ use crate::refusal::{Reason, Refusal};
 pub const MAX_TYPES: usize = 32;
 pub const MAX_QUALIFIED: usize = 64;
 pub const MAX_PROCEDURES: usize = 64;
-pub const MAX_NAMED_RIGHTS: usize = 15;
 pub const MAX_SLOTS: usize = 8;
 pub const MAX_FORMALS: usize = 8;
 pub const MAX_VARIABLES: usize = 32;
@@ -35,14 +35,15 @@ pub fn read(sheet: &[u8]) -> Result<Program, Refusal> {
         procedures: Vec::new(),
     };
     for _ in 0..counts.types {
-        program.types.push(read_type(&mut reader, &counts)?);
+        let declared = read_type(&mut reader, &counts)?;
+        program.types.push(declared);
     }
     for _ in 0..counts.qualified {
-        let qualified = read_qualified(&mut reader, &program)?;
+        let qualified = read_qualified(&mut reader, counts.edition, &program)?;
         program.qualified.push(qualified);
     }
     for _ in 0..counts.procedures {
-        let procedure = read_procedure(&mut reader, &program)?;
+        let procedure = read_procedure(&mut reader, counts.edition, &program)?;
         program.procedures.push(procedure);
     }
     if reader.place < sheet.len() {
@@ -57,19 +58,24 @@ struct Reader<'a> {
     place: usize,
 }
 
-impl Reader<'_> {
-    /// The next record of N bytes, mark included, and the place it starts at.
-    fn record<const N: usize>(&mut self, mark: &[u8; 2]) -> Result<(usize, [u8; N]), Refusal> {
+impl<'a> Reader<'a> {
+    /// The next record of so many bytes, mark included, and the place it
+    /// starts at.
+    fn record_of(&mut self, mark: &[u8; 2], size: usize) -> Result<(usize, &'a [u8]), Refusal> {
         let place = self.place;
-        let bytes: [u8; N] = self
-            .sheet
-            .get(place..place + N)
-            .and_then(|bytes| bytes.try_into().ok())
-            .ok_or(Refusal::new(Reason::Truncated, place))?;
+        let bytes = self.sheet.get(place..place + size);
+        let bytes = bytes.ok_or(Refusal::new(Reason::Truncated, place))?;
         if !bytes.starts_with(mark) {
             return Err(Refusal::new(Reason::WrongMark, place));
         }
-        self.place += N;
+        self.place += size;
+        Ok((place, bytes))
+    }
+
+    /// The next record, of N bytes whatever the edition.
+    fn record<const N: usize>(&mut self, mark: &[u8; 2]) -> Result<(usize, [u8; N]), Refusal> {
+        let (place, bytes) = self.record_of(mark, N)?;
+        let bytes = bytes.try_into().expect("a record of N bytes");
         Ok((place, bytes))
     }
 
@@ -88,7 +94,9 @@ fn in_range(holds: bool, place: usize) -> Result<(), Refusal> {
     }
 }
 
+/// What the header says.
 struct Counts {
+    edition: Edition,
     types: usize,
     qualified: usize,
     procedures: usize,
@@ -96,10 +104,9 @@ struct Counts {
 
 fn read_header(reader: &mut Reader) -> Result<Counts, Refusal> {
     let (place, [_, _, edition, types, qualified, procedures]) = reader.record(b"HD")?;
-    if edition != 1 {
-        return Err(Refusal::new(Reason::WrongEdition, place));
-    }
+    let edition = Edition::numbered(edition).ok_or(Refusal::new(Reason::WrongEdition, place))?;
     let counts = Counts {
+        edition,
         types: usize::from(types),
         qualified: usize::from(qualified),
         procedures: usize::from(procedures),
@@ -115,7 +122,7 @@ fn read_type(reader: &mut Reader, counts: &Counts) -> Result<RecordType, Refusal
     let [_, _, named_rights, slot_count, slot_bytes @ ..] = bytes;
     let named_rights = usize::from(named_rights);
     let slot_count = usize::from(slot_count);
-    in_range(named_rights <= MAX_NAMED_RIGHTS, place)?;
+    in_range(named_rights <= counts.edition.most_named_rights(), place)?;
     in_range(slot_count <= MAX_SLOTS, place)?;
     let (used, unused) = slot_bytes.split_at(slot_count);
     let slots: Vec<usize> = used.iter().copied().map(usize::from).collect();
@@ -128,11 +135,22 @@ fn read_type(reader: &mut Reader, counts: &Counts) -> Result<RecordType, Refusal
     })
 }
 
-fn read_qualified(reader: &mut Reader, program: &Program) -> Result<QualifiedType, Refusal> {
-    let (place, [_, _, base, low, high, element]) = reader.record(b"QT")?;
-    let rights = Rights::from_bits(u16::from_le_bytes([low, high]));
-    let element = usize::from(element);
-    let kind = match usize::from(base) {
+/// A set of rights in two or four bytes, the lowest rights first.
+fn read_rights(bytes: &[u8]) -> Rights {
+    let bits = bytes.iter().rev();
+    Rights::from_bits(bits.fold(0, |above, &byte| above << 8 | u32::from(byte)))
+}
+
+fn read_qualified(
+    reader: &mut Reader,
+    edition: Edition,
+    program: &Program,
+) -> Result<QualifiedType, Refusal> {
+    let (place, bytes) = reader.record_of(b"QT", 4 + edition.rights_bytes())?;
+    let (rights, element) = bytes[3..].split_at(edition.rights_bytes());
+    let rights = read_rights(rights);
+    let element = usize::from(element[0]);
+    let kind = match usize::from(bytes[2]) {
         0 => Kind::Integer,
         1 => Kind::Array { element },
         255 => Kind::Generic,
@@ -172,9 +190,13 @@ struct ProcedureHead {
     instructions: usize,
 }
 
-fn read_procedure(reader: &mut Reader, program: &Program) -> Result<Procedure, Refusal> {
+fn read_procedure(
+    reader: &mut Reader,
+    edition: Edition,
+    program: &Program,
+) -> Result<Procedure, Refusal> {
     let head = read_procedure_head(reader, program)?;
-    let bound = read_bound(reader, program)?;
+    let bound = read_bound(reader, edition, program)?;
     let mut variables = Vec::new();
     for number in 0..head.variables {
         let is_formal = number < head.formals;
@@ -203,14 +225,18 @@ fn read_procedure(reader: &mut Reader, program: &Program) -> Result<Procedure, R
 
 /// "A procedure but main may declare one rights name by a GN record after its
 /// PR": a GN is due if its mark stands there, and never a second one.
-fn read_bound(reader: &mut Reader, program: &Program) -> Result<Option<Bound>, Refusal> {
+fn read_bound(
+    reader: &mut Reader,
+    edition: Edition,
+    program: &Program,
+) -> Result<Option<Bound>, Refusal> {
     let is_main = program.procedures.is_empty();
     if is_main || !reader.at_mark(b"GN") {
         return Ok(None);
     }
-    let (place, [_, _, base, low, high]) = reader.record(b"GN")?;
-    let least = Rights::from_bits(u16::from_le_bytes([low, high]));
-    let of = usize::from(base).checked_sub(2);
+    let (place, bytes) = reader.record_of(b"GN", 3 + edition.rights_bytes())?;
+    let least = read_rights(&bytes[3..]);
+    let of = usize::from(bytes[2]).checked_sub(2);
     let of = of.filter(|&of| of < program.types.len());
     let of = of.ok_or(Refusal::new(Reason::OutOfRange, place))?;
     // Open is not a named right.

@@ -11,6 +11,7 @@
 pub mod access;
 mod calls;
 mod decode;
+mod edition;
 pub mod fault;
 pub mod generic;
 pub mod layout;
@@ -21,6 +22,7 @@ pub mod provenance;
 mod refusal;
 mod settling;
 
+pub use edition::Edition;
 pub use machine::{run, watch, Outcome, Place, Stop};
 pub use program::{
     Instruction, Kind, Operation, Procedure, Program, QualifiedType, RecordType, Rights, Variable,

@@ -50,7 +50,7 @@ pub enum Kind {
 
 /// A set of rights: entry i says whether right i is in it.
 #[derive(Clone, Copy, Debug, PartialEq, Eq, Hash)]
-pub struct Rights([bool; 16]);
+pub struct Rights([bool; 32]);
 
 impl Rights {
     pub const OPEN: usize = 0;
@@ -58,10 +58,10 @@ impl Rights {
     pub const STORE: usize = 2;
     pub const SIZE: usize = 3;
 
-    pub const NONE: Rights = Rights([false; 16]);
+    pub const NONE: Rights = Rights([false; 32]);
 
     /// The set that a QT record writes as a number, bit i for right i.
-    pub fn from_bits(bits: u16) -> Self {
+    pub fn from_bits(bits: u32) -> Self {
         Rights(std::array::from_fn(|right| bits >> right & 1 == 1))
     }
 

@@ -10,7 +10,7 @@ pub enum Reason {
     Truncated = 2,
     /// "stray mark": not the mark due.
     WrongMark = 3,
-    /// "edition": not 1.
+    /// "edition": neither 1 nor 2.
     WrongEdition = 4,
     /// "off scale": a field outside the layout.
     OutOfRange = 5,

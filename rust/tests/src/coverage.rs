@@ -1,10 +1,10 @@
 //! Which refusals have come up where, and which codes were accepted and
-//! refused.
+//! refused, in each edition.
 
-use crate::generics;
 use crate::walk::{Due, Walk};
+use crate::{generics, rights};
 use generator::records::RecordKind;
-use reference::{layout, Verdict};
+use reference::{layout, Edition, Verdict};
 use std::collections::BTreeMap;
 
 /// Where a refusal can arise.
@@ -23,8 +23,8 @@ pub enum Site {
     Inner,
 }
 
-/// The refusals that are possible, all of which must come up.
-pub fn possible() -> Vec<(u8, Site)> {
+/// The refusals that are possible in an edition, all of which must come up.
+pub fn possible(edition: Edition) -> Vec<(u8, Site)> {
     let mut all = vec![
         (1, Site::Whole),
         (2, Site::LeftoverBytes),
@@ -49,6 +49,12 @@ pub fn possible() -> Vec<(u8, Site)> {
     }
     // A GN is due only where its mark stands.
     all.retain(|&refusal| refusal != (3, Site::Record(RecordKind::Bound)));
+    // What begins without an HD of edition 2 is read by edition 1.
+    if edition == Edition::Second {
+        all.retain(|(number, site)| {
+            !matches!((number, site), (3 | 4, Site::Record(RecordKind::Header)))
+        });
+    }
     all
 }
 
@@ -67,30 +73,39 @@ pub fn possible_codes() -> Vec<(u8, usize)> {
 pub struct Coverage {
     pub sheets: usize,
     pub accepted: usize,
-    pub accepted_codes: BTreeMap<usize, usize>,
+    pub accepted_codes: BTreeMap<(Edition, usize), usize>,
     /// What accepted sheets do with rights names.
-    pub accepted_generics: BTreeMap<&'static str, usize>,
-    pub refused: BTreeMap<(u8, Site), usize>,
-    pub refused_codes: BTreeMap<(u8, usize), usize>,
+    pub accepted_generics: BTreeMap<(Edition, &'static str), usize>,
+    pub refused: BTreeMap<(Edition, (u8, Site)), usize>,
+    pub refused_codes: BTreeMap<(Edition, (u8, usize)), usize>,
+    /// What edition 2 does with its rights.
+    pub rights: BTreeMap<rights::Seen, usize>,
 }
 
 impl Coverage {
     pub fn add(&mut self, sheet: &[u8], verdict: Verdict) {
         self.sheets += 1;
         let walk = Walk { sheet };
+        let edition = walk.edition();
+        if edition == Edition::Second {
+            for seen in rights::seen(sheet, verdict) {
+                *self.rights.entry(seen).or_default() += 1;
+            }
+        }
         match verdict {
             Verdict::Accepted => {
                 self.accepted += 1;
                 for code in walk.codes() {
-                    *self.accepted_codes.entry(code).or_default() += 1;
+                    *self.accepted_codes.entry((edition, code)).or_default() += 1;
                 }
                 for name in generics::seen(sheet) {
-                    *self.accepted_generics.entry(name).or_default() += 1;
+                    *self.accepted_generics.entry((edition, name)).or_default() += 1;
                 }
             }
             Verdict::Refused { number, place } => {
                 if let Some(site) = site(&walk, number, place) {
-                    *self.refused.entry((number, site)).or_default() += 1;
+                    let key = (edition, (number, site));
+                    *self.refused.entry(key).or_default() += 1;
                 }
                 self.add_code(&walk, number, place);
             }
@@ -103,7 +118,8 @@ impl Coverage {
         let code = walk.byte(place + 2);
         let is_instruction = walk.due(place).kind() == Some(RecordKind::Instruction);
         if is_instruction && number >= 5 && (1..=17).contains(&code) {
-            *self.refused_codes.entry((number, code)).or_default() += 1;
+            let key = (walk.edition(), (number, code));
+            *self.refused_codes.entry(key).or_default() += 1;
         }
     }
 
@@ -114,20 +130,20 @@ impl Coverage {
         merge_counts(&mut self.accepted_generics, other.accepted_generics);
         merge_counts(&mut self.refused, other.refused);
         merge_counts(&mut self.refused_codes, other.refused_codes);
+        merge_counts(&mut self.rights, other.rights);
     }
 
     /// What should have come up and has not, and what has come up and is not
     /// possible.
     pub fn faults(&self) -> Vec<String> {
-        let mut faults = Vec::new();
-        for code in (1..=17).filter(|code| !self.accepted_codes.contains_key(code)) {
-            faults.push(format!("code {code} in no accepted sheet"));
-        }
-        let lacking = generics::ALL.iter();
-        let lacking = lacking.filter(|name| !self.accepted_generics.contains_key(*name));
-        faults.extend(lacking.map(|name| format!("in no accepted sheet: {name}")));
-        differences(&mut faults, &possible(), &self.refused);
-        differences(&mut faults, &possible_codes(), &self.refused_codes);
+        let codes: Vec<usize> = (1..=17).collect();
+        let mut faults = differences(&in_editions(|_| codes.clone()), &self.accepted_codes);
+        let names = in_editions(|_| generics::ALL.to_vec());
+        faults.extend(differences(&names, &self.accepted_generics));
+        faults.extend(differences(&in_editions(possible), &self.refused));
+        let codes = in_editions(|_| possible_codes());
+        faults.extend(differences(&codes, &self.refused_codes));
+        faults.extend(differences(&rights::due(), &self.rights));
         faults
     }
 }
@@ -138,15 +154,22 @@ fn merge_counts<Key: Ord>(into: &mut BTreeMap<Key, usize>, from: BTreeMap<Key, u
     }
 }
 
+/// What must come up in either edition.
+fn in_editions<Due>(due: impl Fn(Edition) -> Vec<Due>) -> Vec<(Edition, Due)> {
+    let all = Edition::ALL.into_iter();
+    all.flat_map(|edition| due(edition).into_iter().map(move |due| (edition, due)))
+        .collect()
+}
+
 fn differences<Key: Ord + std::fmt::Debug>(
-    faults: &mut Vec<String>,
     possible: &[Key],
     counts: &BTreeMap<Key, usize>,
-) {
+) -> Vec<String> {
     let lacking = possible.iter().filter(|key| !counts.contains_key(key));
-    faults.extend(lacking.map(|key| format!("never refused: {key:?}")));
+    let lacking = lacking.map(|key| format!("never: {key:?}"));
     let strange = counts.keys().filter(|key| !possible.contains(key));
-    faults.extend(strange.map(|key| format!("not possible: {key:?}")));
+    let strange = strange.map(|key| format!("not possible: {key:?}"));
+    lacking.chain(strange).collect()
 }
 
 /// Where a refusal arose; None where it may be the need or the inner type.

@@ -1,7 +1,7 @@
 //! What an accepted sheet does with rights names, as far as its records say.
 
 use reference::generic::{Read, Reading};
-use reference::{parse, Kind, Operation, Procedure, Program, Settled};
+use reference::{parse, Kind, Operation, Procedure, Program, Rights, Settled};
 
 /// All that must come up in some accepted sheet.
 pub const ALL: [&str; 11] = [
@@ -24,8 +24,27 @@ pub fn seen(sheet: &[u8]) -> Vec<&'static str> {
         return Vec::new();
     };
     let mut all = Vec::new();
+    for procedure in &program.procedures {
+        see_formals(&program, procedure, &mut all);
+    }
+    for call in calls(&program) {
+        call.see_settled(&call.settled(), &mut all);
+        call.see_kept(&mut all);
+    }
+    all
+}
+
+/// What each call of a procedure with a rights name settles it to.
+pub fn settled_sets(program: &Program) -> Vec<Rights> {
+    let calls = calls(program).into_iter();
+    let named = calls.filter(|call| call.callee.bound.is_some());
+    named.map(|call| call.settled().reading.rights()).collect()
+}
+
+/// All calls of a program.
+fn calls(program: &Program) -> Vec<Call<'_>> {
+    let mut all = Vec::new();
     for (number, caller) in program.procedures.iter().enumerate() {
-        see_formals(&program, caller, &mut all);
         for instruction in &caller.instructions {
             if let Operation::Call {
                 result,
@@ -33,14 +52,14 @@ pub fn seen(sheet: &[u8]) -> Vec<&'static str> {
                 first_actual,
             } = instruction.operation
             {
-                let call = Call {
-                    program: &program,
+                all.push(Call {
+                    program,
                     caller,
                     callee: &program.procedures[procedure],
-                };
-                let settled = call.settled(first_actual);
-                call.see_settled(&settled, number == procedure, &mut all);
-                call.see_kept(result, &mut all);
+                    of_itself: number == procedure,
+                    first_actual,
+                    kept: result,
+                });
             }
         }
     }
@@ -71,11 +90,14 @@ struct Call<'a> {
     program: &'a Program,
     caller: &'a Procedure,
     callee: &'a Procedure,
+    of_itself: bool,
+    first_actual: Option<usize>,
+    kept: Option<usize>,
 }
 
 impl Call<'_> {
-    fn settled(&self, first_actual: Option<usize>) -> Settled {
-        let actuals = first_actual.into_iter().flat_map(|first| first..);
+    fn settled(&self) -> Settled {
+        let actuals = self.first_actual.into_iter().flat_map(|first| first..);
         let declared = actuals.take(self.callee.formals).map(|actual| Read {
             qualified: self.caller.variables[actual].inner,
             reading: self.caller.own(),
@@ -83,7 +105,7 @@ impl Call<'_> {
         self.program.settled(self.callee, declared)
     }
 
-    fn see_settled(&self, settled: &Settled, itself: bool, all: &mut Vec<&'static str>) {
+    fn see_settled(&self, settled: &Settled, all: &mut Vec<&'static str>) {
         let Some(bound) = self.callee.bound else {
             return;
         };
@@ -92,7 +114,7 @@ impl Call<'_> {
             _ => "settled by two actuals or more",
         });
         all.push(match settled.reading {
-            Reading::Own { .. } if itself => "?R passed on to itself",
+            Reading::Own { .. } if self.of_itself => "?R passed on to itself",
             Reading::Own { least, .. } if least == bound.least => "?R passed on, same least set",
             Reading::Own { .. } => "?R passed on, other least set",
             reading if reading.rights() == bound.least => "settled to the least set",
@@ -100,8 +122,8 @@ impl Call<'_> {
         });
     }
 
-    fn see_kept(&self, kept: Option<usize>, all: &mut Vec<&'static str>) {
-        let given = self.callee.result.filter(|_| kept.is_some());
+    fn see_kept(&self, all: &mut Vec<&'static str>) {
+        let given = self.callee.result.filter(|_| self.kept.is_some());
         let generic = given.filter(|&given| self.program.uses_generic(given));
         all.extend(generic.map(|given| match depth(self.program, given) {
             0 => "a result of ?R kept",

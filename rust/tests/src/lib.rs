@@ -7,6 +7,7 @@ pub mod frozen;
 pub mod generics;
 pub mod machines;
 mod memory;
+pub mod rights;
 pub mod walk;
 pub mod workers;
 pub mod zeros;

@@ -4,6 +4,7 @@
 //! is refused at that place or accepted.
 
 use generator::records::{RecordKind, NONE};
+use reference::Edition;
 
 /// What is due at a place.
 #[derive(Clone, Copy, Debug, PartialEq, Eq)]
@@ -39,6 +40,21 @@ pub struct Walk<'a> {
 }
 
 impl Walk<'_> {
+    /// The edition by which the records are read: the first, where none is
+    /// named at the start.
+    pub fn edition(&self) -> Edition {
+        let second = self.marked(0, RecordKind::Header)
+            && self.byte(2) == usize::from(Edition::Second.number());
+        match second {
+            true => Edition::Second,
+            false => Edition::First,
+        }
+    }
+
+    fn size(&self, kind: RecordKind) -> usize {
+        kind.size(self.edition())
+    }
+
     pub fn byte(&self, place: usize) -> usize {
         usize::from(self.sheet.get(place).copied().unwrap_or(0))
     }
@@ -51,8 +67,13 @@ impl Walk<'_> {
         6 + 12 * self.byte(3)
     }
 
+    /// Where a qualified type stands.
+    fn qualified(&self, number: usize) -> usize {
+        self.qualified_start() + self.size(RecordKind::Qualified) * number
+    }
+
     fn procedures_start(&self) -> usize {
-        self.qualified_start() + 6 * self.byte(4)
+        self.qualified(self.byte(4))
     }
 
     /// The places at which the PR, what comes after its GN, its first IN and
@@ -61,9 +82,9 @@ impl Walk<'_> {
         let mut start = self.procedures_start();
         let mut all = Vec::new();
         for number in 0..self.byte(5) {
-            let head = start + RecordKind::Procedure.size();
+            let head = start + self.size(RecordKind::Procedure);
             let bound = match number > 0 && self.marked(head, RecordKind::Bound) {
-                true => RecordKind::Bound.size(),
+                true => self.size(RecordKind::Bound),
                 false => 0,
             };
             let body = head + bound + 4 * self.byte(start + 4);
@@ -120,14 +141,14 @@ impl Walk<'_> {
     }
 
     fn has_open(&self, qualified: usize) -> bool {
-        let rights = self.qualified_start() + 6 * qualified + 3;
+        let rights = self.qualified(qualified) + 3;
         qualified != usize::from(NONE) && self.byte(rights) % 2 == 1
     }
 
     /// Whether a VR may be refused with 6 for its need and for its inner.
     pub fn open_in_variable(&self, procedure: usize, place: usize) -> (bool, bool) {
         let (inner, need) = (self.byte(place + 2), self.byte(place + 3));
-        let base = self.byte(self.qualified_start() + 6 * inner + 2);
+        let base = self.byte(self.qualified(inner) + 2);
         let owned = base == self.byte(procedure + 2);
         (self.has_open(need), self.has_open(inner) && !owned)
     }

@@ -4,7 +4,7 @@
 use comparison::workers::on_all_processors;
 use comparison::{agreed, agreed_run, agreed_watch};
 use generator::bounds::{level_of, Bound, Family, Seen, FAMILIES, LEVELS};
-use reference::Verdict;
+use reference::{Edition, Verdict};
 use std::collections::BTreeMap;
 
 type Counts = BTreeMap<Seen, usize>;
@@ -35,13 +35,13 @@ fn compare(Bound { run, seen }: &Bound) -> Result<(), String> {
     }
 }
 
-/// All positions of a family.
-fn compare_family(family: &Family) -> Counts {
-    let positions = (family.count)() as u64;
+/// All positions of a family in an edition.
+fn compare_family(family: &Family, edition: Edition) -> Counts {
+    let positions = (family.count)(edition) as u64;
     let parts = on_all_processors(positions, |seeds| {
         let mut counts = Counts::new();
         for seed in seeds {
-            let bound = family.bound(seed);
+            let bound = family.bound(edition, seed);
             let name = family.name;
             compare(&bound).unwrap_or_else(|fault| panic!("{name} {seed}: {fault}"));
             *counts.entry(bound.seen).or_default() += 1;
@@ -58,13 +58,15 @@ fn compare_family(family: &Family) -> Counts {
 #[test]
 fn engines_agree_at_every_limit() {
     for family in &FAMILIES {
-        let counts = compare_family(family);
-        let sheets: usize = counts.values().sum();
-        let (name, limits) = (family.name, counts.len());
-        println!("{name}: {sheets} runs, {limits} limits and results");
-        let due = (family.due)().into_iter();
-        let lacking: Vec<Seen> = due.filter(|seen| !counts.contains_key(seen)).collect();
-        assert!(lacking.is_empty(), "{name}: never {lacking:?}");
+        for edition in Edition::ALL {
+            let counts = compare_family(family, edition);
+            let sheets: usize = counts.values().sum();
+            let (name, limits) = (family.name, counts.len());
+            println!("{name}, {edition:?}: {sheets} runs, {limits} limits and results");
+            let due = (family.due)(edition).into_iter();
+            let lacking: Vec<Seen> = due.filter(|seen| !counts.contains_key(seen)).collect();
+            assert!(lacking.is_empty(), "{name}, {edition:?}: never {lacking:?}");
+        }
     }
 }
 
@@ -72,12 +74,14 @@ fn engines_agree_at_every_limit() {
 /// come up in every use that check refuses, and not by luck.
 #[test]
 fn types_differ_in_the_third_level_and_deeper() {
-    let counts = compare_family(&LEVELS);
-    for check in [7, 8] {
-        let refused = counts.iter().filter(|(seen, _)| seen.check == check);
-        let deep = refused.filter(|(seen, _)| level_of(seen) >= 3);
-        let pairs: usize = deep.map(|(_, count)| count).sum();
-        println!("{pairs} pairs refused with {check}");
-        assert!(pairs >= 450, "only {pairs} pairs refused with {check}");
+    for edition in Edition::ALL {
+        let counts = compare_family(&LEVELS, edition);
+        for check in [7, 8] {
+            let refused = counts.iter().filter(|(seen, _)| seen.check == check);
+            let deep = refused.filter(|(seen, _)| level_of(seen) >= 3);
+            let pairs: usize = deep.map(|(_, count)| count).sum();
+            println!("{edition:?}: {pairs} pairs refused with {check}");
+            assert!(pairs >= 450, "only {pairs} pairs refused with {check}");
+        }
     }
 }

@@ -1,10 +1,11 @@
-//! One accepted sheet with all seventeen codes, changed in every way that
-//! takes one step.
+//! One accepted sheet with all seventeen codes, in both editions, changed in
+//! every way that takes one step.
 
 use comparison::agreed;
 use generator::damage::write_field;
 use generator::limits::fields;
-use generator::showcase::showcase;
+use generator::showcase::showcases;
+use generator::Sheet;
 use reference::Verdict;
 
 /// Compares the engines and says whether the sheet is accepted.
@@ -15,7 +16,11 @@ fn accepted(sheet: &[u8]) -> bool {
 
 #[test]
 fn every_value_of_every_byte() {
-    let sound = showcase().encode();
+    showcases().iter().for_each(change_each_byte);
+}
+
+fn change_each_byte(sheet: &Sheet) {
+    let sound = sheet.encode();
     let mut refused = 0;
     for place in 0..sound.len() {
         let mut sheet = sound.clone();
@@ -31,7 +36,11 @@ fn every_value_of_every_byte() {
 
 #[test]
 fn every_length() {
-    let sound = showcase().encode();
+    showcases().iter().for_each(change_the_length);
+}
+
+fn change_the_length(sheet: &Sheet) {
+    let sound = sheet.encode();
     for length in 0..sound.len() {
         assert!(!accepted(&sound[..length]), "cut at {length}");
     }
@@ -44,11 +53,14 @@ fn every_length() {
 
 #[test]
 fn every_limit_of_every_field() {
-    let sheet = showcase();
+    showcases().iter().for_each(change_each_field);
+}
+
+fn change_each_field(sheet: &Sheet) {
     let sound = sheet.encode();
     let (mut inside, mut outside) = (0, 0);
     for (at, place) in sheet.places() {
-        for field in fields(&sheet, at) {
+        for field in fields(sheet, at) {
             for &value in &field.values {
                 let mut bytes = sound.clone();
                 write_field(&mut bytes, place, &field, value);
@@ -65,7 +77,10 @@ fn every_limit_of_every_field() {
 /// Two bytes at once, so that one flaw may hide another.
 #[test]
 fn pairs_of_marks_and_fields() {
-    let sheet = showcase();
+    showcases().iter().for_each(change_pairs);
+}
+
+fn change_pairs(sheet: &Sheet) {
     let sound = sheet.encode();
     let places: Vec<usize> = sheet.places().iter().map(|&(_, place)| place).collect();
     for (index, &first) in places.iter().enumerate() {

@@ -1,8 +1,14 @@
 //! The exhibits for the prover are short, and show what they are chosen for.
+//! Those are of edition 1; short sheets of edition 2 have chains too.
 
 use comparison::exhibits::{all, antt, Exhibit};
+use comparison::{agreed, agreed_watch};
+use generator::runs::short::short_in_second_edition;
+use generator::Random;
+use reference::machine::accepted;
 use reference::provenance::audit::Recorded;
-use reference::provenance::{Link, Origin};
+use reference::provenance::{Link, Location, Origin};
+use reference::Verdict;
 use std::fs;
 
 /// The chains of an exhibit that end somewhere.
@@ -67,4 +73,36 @@ fn exhibits_are_those_proved() {
             "{path} is not what `exhibits {part}` writes"
         );
     }
+}
+
+/// How many chains of a run, after each of its steps, end somewhere and are of
+/// a record with a right above 15.
+fn chains_of_high_rights(run: &Recorded) -> usize {
+    let mut count = 0;
+    for after in 0..=run.history.steps() {
+        assert_eq!(run.audit(after), Ok(()));
+        let state = run.state(after);
+        let high = Location::all(state).into_iter().filter(|location| {
+            let held = location.content(state);
+            held.is_some_and(|held| held.rights.members().any(|right| right > 15))
+        });
+        let chains = high.filter_map(|location| run.history.chain(after, location));
+        count += chains.count();
+    }
+    count
+}
+
+#[test]
+fn short_sheets_of_edition_2_have_chains() {
+    let mut chains = 0;
+    for seed in 0..200 {
+        let run = short_in_second_edition(&mut Random::new(seed));
+        assert_eq!(agreed(&run.sheet), Ok(Verdict::Accepted));
+        agreed_watch(&run).unwrap_or_else(|fault| panic!("{fault}"));
+        let program = accepted(&run.sheet, run.memory_words).expect("it is accepted");
+        let recorded = Recorded::new(&program, run.resources()).expect("main fits");
+        chains += chains_of_high_rights(&recorded);
+    }
+    println!("{chains} chains");
+    assert!(chains >= 1_000, "{chains}");
 }

@@ -81,6 +81,14 @@ fn every_number_is_frozen_often() {
     assert!(least >= Some(&EACH), "{least:?}");
 }
 
+/// What edition 2 means was not for edition 1 to say: no sheet names it.
+#[test]
+fn no_frozen_sheet_is_of_edition_2() {
+    let entries = entries();
+    let mut sheets = entries.iter().map(|entry| &entry.run.sheet);
+    assert!(!sheets.any(|sheet| sheet.starts_with(b"HD\x02")));
+}
+
 /// What a request changes stands in changed.txt; this file stays as it is.
 #[test]
 fn the_file_is_the_one_that_was_frozen() {

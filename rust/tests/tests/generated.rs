@@ -129,12 +129,13 @@ fn engines_agree_and_everything_has_come_up() {
         );
         whole.merge(part);
     }
-    for ((number, site), count) in &whole.refused {
-        println!("refused {number} at {site:?}: {count}");
+    for ((edition, (number, site)), count) in &whole.refused {
+        println!("{edition:?}: refused {number} at {site:?}: {count}");
     }
     println!("codes in accepted sheets: {:?}", whole.accepted_codes);
     println!("rights names: {:?}", whole.accepted_generics);
     println!("codes refused: {:?}", whole.refused_codes);
+    println!("rights of edition 2: {:?}", whole.rights);
     assert!(whole.sheets >= 300_000, "only {} sheets", whole.sheets);
     let faults = whole.faults();
     assert!(faults.is_empty(), "{}", faults.join("\n"));

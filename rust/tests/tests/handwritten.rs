@@ -2,7 +2,7 @@
 
 use comparison::{agreed, machines, proved};
 use generator::handwritten::{cases, runs};
-use generator::showcase::showcase;
+use generator::showcase::showcases;
 use reference::Verdict;
 
 #[test]
@@ -47,6 +47,8 @@ fn both_engines_give_the_written_outcomes() {
 }
 
 #[test]
-fn showcase_is_accepted() {
-    assert_eq!(agreed(&showcase().encode()), Ok(Verdict::Accepted));
+fn showcases_are_accepted() {
+    for sheet in showcases() {
+        assert_eq!(agreed(&sheet.encode()), Ok(Verdict::Accepted));
+    }
 }

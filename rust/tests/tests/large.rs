@@ -3,10 +3,19 @@
 use comparison::agreed;
 use generator::large::SHEETS;
 use generator::{At, Sheet};
-use reference::Verdict;
+use reference::{Edition, Verdict};
 
-fn largest() -> [Sheet; 4] {
-    SHEETS.map(|(_, sheet)| sheet(32_768))
+/// Those of edition 1, and those that become as large in edition 2.
+fn largest() -> Vec<Sheet> {
+    const MOST_BYTES: usize = 32_768;
+    const MOST_QUALIFIED: usize = 64;
+    let in_first = SHEETS.map(|(_, sheet)| sheet(MOST_BYTES));
+    let in_second = SHEETS.map(|(_, sheet)| {
+        let mut sheet = sheet(MOST_BYTES - 2 * MOST_QUALIFIED);
+        sheet.header.edition = Edition::Second.number();
+        sheet
+    });
+    in_first.into_iter().chain(in_second).collect()
 }
 
 #[test]

@@ -1,5 +1,6 @@
 //! A text made into the bytes of a sheet.
 
+use crate::edition;
 use crate::errors::Errors;
 use crate::field::Field;
 use crate::listing::{At, Entry, Listing};
@@ -13,6 +14,7 @@ use crate::record::{Record, RecordKind, NONE};
 use crate::span::{Error, Span};
 use crate::syntax::{Bound, VariableLine};
 use reference::layout::MAX_SLOTS;
+use reference::Edition;
 
 /// The bytes of a sheet, the lines they come from and the names in them.
 pub struct Assembled {
@@ -49,7 +51,7 @@ pub fn assemble(text: &str) -> Result<Assembled, Vec<Error>> {
     }
     let names = outlines.names();
     let mut writer = Writer::default();
-    let header = header(&names, table.made.len());
+    let header = header(outlines.edition(), &names, table.made.len());
     writer.add(At::Header, &header, None, Vec::new());
     let located = types.into_iter().chain(table.records()).chain(procedures);
     located.for_each(|located| writer.add_located(located));
@@ -61,11 +63,11 @@ pub fn assemble(text: &str) -> Result<Assembled, Vec<Error>> {
     })
 }
 
-fn header(names: &Names, quals: usize) -> Record {
-    const EDITION: u16 = 1;
+fn header(edition: Edition, names: &Names, quals: usize) -> Record {
+    let edition = u32::from(edition.number());
     let (types, procedures) = (names.types.len(), names.procedures.len());
-    let counts = [EDITION, types as u16, quals as u16, procedures as u16];
-    Record::new(RecordKind::Header, &counts)
+    let values = [edition, types as u32, quals as u32, procedures as u32];
+    Record::new(RecordKind::Header, &values)
 }
 
 /// A record to be written, with where it comes from. Those of a text that has
@@ -77,7 +79,8 @@ struct Located {
     parts: Vec<(Field, Span)>,
 }
 
-/// Writes records one after the other, and lists them.
+/// Writes records one after the other, and lists them. The edition is that of
+/// the header that stands first.
 #[derive(Default)]
 pub struct Writer {
     pub sheet: Vec<u8>,
@@ -87,7 +90,7 @@ pub struct Writer {
 impl Writer {
     pub fn add(&mut self, at: At, record: &Record, span: Option<Span>, parts: Vec<(Field, Span)>) {
         let place = self.sheet.len();
-        record.write(&mut self.sheet);
+        record.write(edition::of_sheet(&self.sheet), &mut self.sheet);
         let size = self.sheet.len() - place;
         self.listing.entries.push(Entry {
             at,
@@ -96,6 +99,16 @@ impl Writer {
             span,
             parts,
         });
+    }
+
+    /// After a line that is wrong, of which nothing is kept: before all others
+    /// it may have been a header of the second edition, whose fields are wider.
+    pub fn suppose_header(&mut self) {
+        if self.sheet.is_empty() {
+            let values = [u32::from(Edition::Second.number()), 0, 0, 0];
+            let header = Record::new(RecordKind::Header, &values);
+            self.add(At::Header, &header, None, Vec::new());
+        }
     }
 
     fn add_located(&mut self, located: Located) {
@@ -122,15 +135,15 @@ impl Table<'_> {
 }
 
 /// A number that is wrong, and told, is none; no record with it is written.
-fn value(number: Option<usize>) -> u16 {
-    number.map_or(NONE, |number| number as u16)
+fn value(number: Option<usize>) -> u32 {
+    number.map_or(NONE, |number| number as u32)
 }
 
 impl Outlines<'_> {
     fn type_records(&self, table: &mut Table, errors: &mut Errors) -> Vec<Located> {
         let mut all = Vec::new();
         for (number, (line, span)) in self.types.iter().enumerate() {
-            let mut values = vec![line.rights.len() as u16, line.slots.len() as u16];
+            let mut values = vec![line.rights.len() as u32, line.slots.len() as u32];
             let slots = line.slots.iter().map(|(_, qualified)| qualified);
             values.extend(slots.clone().map(|slot| value(table.number(slot, errors))));
             values.resize(2 + MAX_SLOTS, NONE);
@@ -211,11 +224,11 @@ impl Outline<'_> {
         let owner_part = self.owner.map(|name| (Field::Owner, name.span));
         let result_part = result.map(|qualified| (Field::Result, qualified.span()));
         let values = [
-            owner.map_or(0, |owner| (owner + 2) as u16),
-            self.formals.map_or(0, |count| count as u16),
-            self.variables.len() as u16,
+            owner.map_or(0, |owner| (owner + 2) as u32),
+            self.formals.map_or(0, |count| count as u32),
+            self.variables.len() as u32,
             value(result.and_then(|qualified| table.number(qualified, errors))),
-            self.instructions.len() as u16,
+            self.instructions.len() as u32,
         ];
         Located {
             at: At::Procedure(number),

@@ -3,6 +3,7 @@
 //! Well-formed sheets become named text, with generated names; any other
 //! bytes become raw text, as far as marks and lengths allow.
 
+use crate::edition::EDITION;
 use crate::lexer::RIGHTS_NAME;
 use crate::mnemonic::{Mnemonic, Piece};
 use crate::names::{generated_procedure, Names, ProcedureNames, TypeNames};
@@ -10,6 +11,7 @@ use crate::notation::Notation;
 use crate::raw_text::raw_text;
 use crate::sheet::{Instruction, Kind, Procedure, RightsName, Sheet, Variable};
 use crate::types::Type;
+use reference::Edition;
 use std::collections::HashSet;
 use std::fmt::Write;
 
@@ -46,6 +48,7 @@ fn named(sheet: &Sheet) -> String {
             .collect(),
         out: String::new(),
     };
+    writer.edition();
     writer.types();
     writer.quals();
     for number in 0..sheet.procedures.len() {
@@ -88,6 +91,15 @@ struct Named<'a> {
 }
 
 impl Named<'_> {
+    /// The first edition is that of a text which says none.
+    fn edition(&mut self) {
+        let edition = self.sheet.edition;
+        if edition != Edition::First {
+            let number = edition.number();
+            add(&mut self.out, format_args!("{EDITION} {number}\n"));
+        }
+    }
+
     fn types(&mut self) {
         for (number, declared) in self.sheet.types.iter().enumerate() {
             let names = &self.notation.names.types[number];

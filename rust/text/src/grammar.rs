@@ -1,5 +1,6 @@
 //! A line's tokens made into a statement.
 
+use crate::edition::EDITION;
 use crate::lexer::{tokens, Token, RIGHTS_NAME};
 use crate::mnemonic::{Mnemonic, Piece};
 use crate::quote::quoted;
@@ -9,6 +10,7 @@ use crate::syntax::{
     Base, Body, Bound, Constant, Instruction, Line, Name, ProcedureLine, QualLine, Qualified,
     Rights, Statement, Tray, TypeLine, VariableLine, Wrong,
 };
+use reference::Edition;
 
 /// The word before the rights name of a procedure.
 const FOR: &str = "for";
@@ -165,7 +167,7 @@ impl<'a> Parser<'a> {
     }
 
     /// A number up to the greatest, decimal or after 0x hexadecimal.
-    pub fn number(&mut self, greatest: u16) -> Result<(u16, Span), Error> {
+    pub fn number(&mut self, greatest: u32) -> Result<(u32, Span), Error> {
         let expected = format!("a number from 0 to {greatest}");
         let value = match self.peek() {
             Token::Word(word) => value(word).filter(|&value| value <= greatest),
@@ -200,11 +202,27 @@ impl<'a> Parser<'a> {
             "procedure" => self.procedure_line().map(Statement::Procedure),
             "formal" => self.formal_line().map(Statement::Variables),
             "variable" => self.variable_line().map(Statement::Variables),
+            EDITION => self.edition_line().map(Statement::Edition),
             RAW => Err(Error::new(self.span(), RAW_ELSEWHERE)),
             word => match Mnemonic::by_word(word) {
                 Some(mnemonic) => self.instruction(mnemonic).map(Statement::Instruction),
                 None => self.unexpected(expected),
             },
+        }
+    }
+
+    fn edition_line(&mut self) -> Result<Edition, Error> {
+        self.advance();
+        let number = match self.peek() {
+            Token::Word(word) => value(word).and_then(|number| u8::try_from(number).ok()),
+            _ => None,
+        };
+        match number.and_then(Edition::numbered) {
+            Some(edition) => {
+                self.advance();
+                Ok(edition)
+            }
+            None => self.unexpected("the edition, 1 or 2"),
         }
     }
 
@@ -380,7 +398,7 @@ impl<'a> Parser<'a> {
             Piece::B => instruction.b = Some(self.name(VARIABLE)?),
             Piece::C => instruction.c = Some(self.name(VARIABLE)?),
             Piece::Number => {
-                let (value, span) = self.number(u16::MAX)?;
+                let (value, span) = self.number(u32::from(u16::MAX))?;
                 instruction.k = Constant::Number { value, span };
             }
             Piece::Label => instruction.k = Constant::Label(self.name("a label")?),
@@ -419,9 +437,9 @@ fn starts_with_digit(word: &str) -> bool {
     word.starts_with(|first: char| first.is_ascii_digit())
 }
 
-fn value(word: &str) -> Option<u16> {
+fn value(word: &str) -> Option<u32> {
     match word.strip_prefix("0x") {
-        Some(digits) => u16::from_str_radix(digits, 16).ok(),
+        Some(digits) => u32::from_str_radix(digits, 16).ok(),
         None => word.parse().ok(),
     }
 }

@@ -8,6 +8,7 @@
 
 mod assemble;
 mod disassemble;
+mod edition;
 mod errors;
 pub mod field;
 mod grammar;
@@ -32,6 +33,7 @@ mod types;
 
 pub use assemble::{assemble, Assembled};
 pub use disassemble::disassemble;
+pub use edition::of_sheet as edition_of;
 pub use errors::MAX_ERRORS;
 pub use listing::{At, Entry, Listing};
 pub use mnemonic::{Mnemonic, Piece, MNEMONICS};

@@ -192,7 +192,10 @@ impl<'a> Outline<'a> {
 /// One error where the count is first above the most.
 pub fn limit(count: usize, most: usize, what: &str, span: Span, errors: &mut Errors) {
     if count == most + 1 {
-        let message = format!("expected at most {most} {what}, found one more");
-        errors.add(Error::new(span, message));
+        errors.add(Error::new(span, too_many(most, what)));
     }
+}
+
+pub fn too_many(most: usize, what: &str) -> String {
+    format!("expected at most {most} {what}, found one more")
 }

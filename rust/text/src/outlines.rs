@@ -1,14 +1,16 @@
 //! The statements of a text, put where they belong.
 
+use crate::edition::{OfText, EDITION};
 use crate::errors::Errors;
 use crate::grammar::line;
 use crate::mnemonic::Mnemonic;
 use crate::names::{Names, TypeNames};
-use crate::outline::{limit, Outline};
+use crate::outline::{limit, too_many, Outline};
 use crate::quote::quoted;
 use crate::span::{Error, Span};
 use crate::syntax::{Body, Line, Name, ProcedureLine, QualLine, Statement, TypeLine, Wrong};
-use reference::layout::{MAX_NAMED_RIGHTS, MAX_SLOTS};
+use reference::layout::MAX_SLOTS;
+use reference::Edition;
 use std::collections::{HashMap, HashSet};
 
 /// Counts that their fields can hold. Which of them are in range is the
@@ -17,8 +19,12 @@ use std::collections::{HashMap, HashSet};
 const MAX_TYPES: usize = 253;
 const MAX_PROCEDURES: usize = 255;
 
+/// The words that lines other than instructions and `edition` begin with.
+const DECLARATIONS: [&str; 5] = ["type", "qual", "procedure", "formal", "variable"];
+
 #[derive(Default)]
 pub struct Outlines<'a> {
+    edition: OfText,
     pub types: Vec<(TypeLine<'a>, Span)>,
     pub quals: Vec<(QualLine<'a>, Span)>,
     pub procedures: Vec<Outline<'a>>,
@@ -77,8 +83,13 @@ impl<'a> Outlines<'a> {
         self.procedures.last_mut()
     }
 
+    pub fn edition(&self) -> Edition {
+        self.edition.edition()
+    }
+
     fn statement(&mut self, statement: Statement<'a>, span: Span, errors: &mut Errors) {
         match statement {
+            Statement::Edition(edition) => return self.edition.say(edition, span, errors),
             Statement::Type(line) => self.add_type(line, span, errors),
             Statement::Qual(line) => {
                 self.mean(line.name, Meaning::Qual(self.quals.len()), errors);
@@ -100,16 +111,18 @@ impl<'a> Outlines<'a> {
                 }
             }
         }
+        self.edition.begin();
     }
 
     fn add_type(&mut self, mut line: TypeLine<'a>, span: Span, errors: &mut Errors) {
-        check_rights(&line.rights, errors);
+        check_rights(&line.rights, self.edition(), errors);
         let slots: Vec<Name> = line.slots.iter().map(|&(name, _)| name).collect();
-        check_names(&slots, MAX_SLOTS, "slots", errors);
-        let late_rights = line.rights.iter().skip(MAX_NAMED_RIGHTS);
+        check_names(&slots, MAX_SLOTS, &too_many(MAX_SLOTS, "slots"), errors);
+        let most_rights = self.edition().most_named_rights();
+        let late_rights = line.rights.iter().skip(most_rights);
         let late = late_rights.chain(slots.iter().skip(MAX_SLOTS));
         self.perhaps.extend(late.map(|name| name.word));
-        line.rights.truncate(MAX_NAMED_RIGHTS);
+        line.rights.truncate(most_rights);
         line.slots.truncate(MAX_SLOTS);
         if self.mean(line.name, Meaning::Type(self.types.len()), errors) {
             self.types.push((line, span));
@@ -169,13 +182,18 @@ impl<'a> Outlines<'a> {
         errors.add(wrong.error);
         let word = wrong.words.first().copied().unwrap_or_default();
         let procedure = self.procedures.last_mut();
-        if Mnemonic::by_word(word).is_some() {
+        let is_instruction = Mnemonic::by_word(word).is_some();
+        match is_instruction || DECLARATIONS.contains(&word) {
+            true => self.edition.begin(),
+            false => self.edition.miss(),
+        }
+        if is_instruction {
             procedure.into_iter().for_each(Outline::add_unread);
             return;
         }
         self.perhaps.extend(wrong.words);
         match (word, procedure) {
-            ("type" | "qual", _) => (),
+            ("type" | "qual" | EDITION, _) => (),
             ("procedure", _) => self.procedures.push(Outline::unread(line)),
             // It may have been a procedure's.
             (_, None) => self.orphaned = true,
@@ -220,8 +238,16 @@ pub fn words(names: &[Name]) -> Vec<String> {
 }
 
 /// The rights of a `type` line.
-fn check_rights(rights: &[Name], errors: &mut Errors) {
-    check_names(rights, MAX_NAMED_RIGHTS, "named rights", errors);
+fn check_rights(rights: &[Name], edition: Edition, errors: &mut Errors) {
+    let most = edition.most_named_rights();
+    let mut message = too_many(most, "named rights");
+    if edition == Edition::First {
+        let allowed = Edition::Second.most_named_rights();
+        message += &format!(
+            ": the text is of edition 1, and `edition 2` as its first line allows {allowed}"
+        );
+    }
+    check_names(rights, most, &message, errors);
     let open = rights.iter().find(|right| right.word == "open");
     if let Some(open) = open {
         let message = "expected a right of the type's own, found `open`, a right of every type";
@@ -231,13 +257,15 @@ fn check_rights(rights: &[Name], errors: &mut Errors) {
 
 /// Names that differ from one another, and no more than a record has room
 /// for: those after the first that is too many are not looked at.
-fn check_names(names: &[Name], most: usize, what: &str, errors: &mut Errors) {
+fn check_names(names: &[Name], most: usize, too_many: &str, errors: &mut Errors) {
     for (number, &name) in names.iter().enumerate().take(most + 1) {
         let same = |other: &&Name| other.word == name.word;
         if let Some(other) = names[..number].iter().find(same) {
             errors.add(not_new(name, other.span.line));
         }
-        limit(number + 1, most, what, name.span, errors);
+        if number == most {
+            errors.add(Error::new(name.span, too_many));
+        }
     }
 }
 

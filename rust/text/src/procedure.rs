@@ -50,11 +50,11 @@ impl Scope<'_> {
             (Field::B, instruction.b),
             (Field::C, instruction.c),
         ];
-        let mut values = vec![u16::from(instruction.mnemonic.code)];
+        let mut values = vec![u32::from(instruction.mnemonic.code)];
         for (field, operand) in operands {
             let mut value = NONE;
             if let Some(name) = operand {
-                value = self.variable(name, errors)? as u16;
+                value = self.variable(name, errors)? as u32;
                 parts.push((field, name.span));
             }
             values.push(value);
@@ -62,7 +62,7 @@ impl Scope<'_> {
         let (k, k_span) = self.constant(&instruction.k, errors)?;
         parts.extend(k_span.map(|span| (Field::K, span)));
         // A label is at most the number of instructions, which are counted.
-        values.push(k as u16);
+        values.push(k as u32);
         if let Constant::Procedure(name) = instruction.k {
             values[2] = self.actuals(k, name, &instruction.actuals, errors)?;
             let actuals = instruction.actuals.iter().enumerate();
@@ -84,7 +84,7 @@ impl Scope<'_> {
     fn constant(&self, constant: &Constant, errors: &mut Errors) -> Option<(usize, Option<Span>)> {
         let (number, span) = match *constant {
             Constant::Unused => return Some((0, None)),
-            Constant::Number { value, span } => (usize::from(value), span),
+            Constant::Number { value, span } => (value as usize, span),
             Constant::Label(name) => (self.label(name, errors)?, name.span),
             Constant::Slot(name) => (self.slot(name, errors)?, name.span),
             Constant::Procedure(name) => (self.procedure(name, errors)?, name.span),
@@ -135,7 +135,7 @@ impl Scope<'_> {
         name: Name,
         actuals: &[Name],
         errors: &mut Errors,
-    ) -> Option<u16> {
+    ) -> Option<u32> {
         let formals = self.outlines.procedures[callee].formals;
         let found = actuals.len();
         if let Some(formals) = formals.filter(|&formals| formals != found) {
@@ -152,7 +152,7 @@ impl Scope<'_> {
                 return errors.none(self.not_next(number, actual));
             }
         }
-        Some(first as u16)
+        Some(first as u32)
     }
 
     /// An actual that is not the variable of the number, which follows the

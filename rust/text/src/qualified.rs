@@ -25,14 +25,14 @@ pub struct Made {
 /// The fields of a qualified type as written, its element numbered.
 #[derive(Clone)]
 struct Fields {
-    base: u16,
-    rights: u16,
+    base: u32,
+    rights: u32,
     element: Option<usize>,
     parts: Vec<(Field, Span)>,
 }
 
 impl Fields {
-    fn without_rights(base: u16, span: Span) -> Self {
+    fn without_rights(base: u32, span: Span) -> Self {
         Fields {
             base,
             rights: 0,
@@ -45,7 +45,7 @@ impl Fields {
 impl Made {
     pub fn record(&self) -> Record {
         let Fields { base, rights, .. } = self.fields;
-        let element = self.fields.element.map_or(NONE, |number| number as u16);
+        let element = self.fields.element.map_or(NONE, |number| number as u32);
         Record::new(RecordKind::Qualified, &[base, rights, element])
     }
 
@@ -55,7 +55,7 @@ impl Made {
 }
 
 /// Equal qualified types have the same: base, rights, the element's class.
-type Key = (u16, u16, Option<usize>);
+type Key = (u32, u32, Option<usize>);
 
 pub struct Table<'a> {
     outlines: &'a Outlines<'a>,
@@ -168,7 +168,7 @@ impl<'a> Table<'a> {
                 let right =
                     |name: Name, errors: &mut Errors| self.declared_right(line, name, errors);
                 Some(Fields {
-                    base: (number + 2) as u16,
+                    base: (number + 2) as u32,
                     rights: bits(rights, right, errors)?,
                     element: None,
                     parts: vec![(Field::Base, of.span), (Field::Rights, rights.span)],
@@ -192,7 +192,7 @@ impl<'a> Table<'a> {
 
     /// The base and the least set of a rights name: open is none of its
     /// rights.
-    pub fn bound(&self, bound: &Bound, errors: &mut Errors) -> Option<(u16, u16)> {
+    pub fn bound(&self, bound: &Bound, errors: &mut Errors) -> Option<(u32, u32)> {
         let number = declared(self.outlines, bound.of, errors)?;
         let (line, _) = &self.outlines.types[number];
         let right = |name: Name, errors: &mut Errors| match name.word {
@@ -204,7 +204,7 @@ impl<'a> Table<'a> {
             _ => self.declared_right(line, name, errors),
         };
         let least = bits(&bound.least, right, errors)?;
-        Some(((number + 2) as u16, least))
+        Some(((number + 2) as u32, least))
     }
 
     fn key(&self, fields: &Fields) -> Key {
@@ -270,7 +270,7 @@ fn bits(
     rights: &Rights,
     right: impl Fn(Name, &mut Errors) -> Option<usize>,
     errors: &mut Errors,
-) -> Option<u16> {
+) -> Option<u32> {
     let mut bits = 0;
     for &name in &rights.names {
         let bit = 1 << right(name, errors)?;

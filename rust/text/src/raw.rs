@@ -2,12 +2,13 @@
 //! Nothing is counted or resolved, so that it can say any bytes.
 
 use crate::assemble::{Assembled, Writer};
+use crate::edition;
 use crate::errors::Errors;
 use crate::grammar::Parser;
 use crate::lexer::Token;
 use crate::listing::{At, Entry};
 use crate::names::Names;
-use crate::record::{width, Record, RecordKind};
+use crate::record::{Record, RecordKind};
 use crate::span::Error;
 
 /// The word that the first line of a raw text has.
@@ -40,6 +41,7 @@ pub fn assemble(text: &str) -> Result<Assembled, Vec<Error>> {
     for mut parser in lines {
         if let Err(error) = statement(&mut parser, &mut writer) {
             errors.add(error);
+            writer.suppose_header();
         }
         if errors.is_full() {
             break;
@@ -85,9 +87,9 @@ fn record(kind: RecordKind, parser: &mut Parser, writer: &mut Writer) -> Result<
     let start = parser.pass();
     let mut values = Vec::new();
     let mut parts = Vec::new();
+    let edition = edition::of_sheet(&writer.sheet);
     for field in kind.fields() {
-        let greatest = if width(field) == 2 { u16::MAX } else { 255 };
-        let (value, span) = parser.number(greatest)?;
+        let (value, span) = parser.number(field.greatest(edition))?;
         values.push(value);
         parts.push((field, span));
     }

@@ -1,12 +1,13 @@
 //! The seven kinds of record: their marks, their sizes and their fields.
 
 use crate::field::Field;
+use reference::Edition;
 
 /// The value that says that a field of one byte names nothing.
-pub const NONE: u16 = reference::layout::NONE as u16;
+pub const NONE: u32 = reference::layout::NONE as u32;
 
 /// The base of a qualified type that stands for the rights name.
-pub const NAME_BASE: u16 = 255;
+pub const NAME_BASE: u32 = 255;
 
 #[derive(Clone, Copy, Debug, PartialEq, Eq)]
 pub enum RecordKind {
@@ -79,16 +80,9 @@ impl RecordKind {
     }
 
     /// The bytes of a record, mark included.
-    pub fn size(self) -> usize {
-        2 + self.fields().into_iter().map(width).sum::<usize>()
-    }
-}
-
-/// The bytes of a field.
-pub fn width(field: Field) -> usize {
-    match field {
-        Field::Rights | Field::Least | Field::Instructions | Field::K => 2,
-        _ => 1,
+    pub fn size(self, edition: Edition) -> usize {
+        let widths = self.fields().into_iter().map(|field| field.width(edition));
+        2 + widths.sum::<usize>()
     }
 }
 
@@ -97,40 +91,45 @@ pub fn width(field: Field) -> usize {
 pub struct Record {
     pub kind: RecordKind,
     /// In the order of [`RecordKind::fields`].
-    pub values: Vec<u16>,
+    pub values: Vec<u32>,
 }
 
 impl Record {
-    pub fn new(kind: RecordKind, values: &[u16]) -> Self {
+    pub fn new(kind: RecordKind, values: &[u32]) -> Self {
         let values = values.to_vec();
         Record { kind, values }
     }
 
     /// The record with a known mark that stands whole at the beginning.
-    pub fn read(bytes: &[u8]) -> Option<Record> {
+    pub fn read(bytes: &[u8], edition: Edition) -> Option<Record> {
         let kind = RecordKind::by_mark(bytes.get(..2)?)?;
-        let mut rest = bytes.get(2..kind.size())?;
+        let mut rest = bytes.get(2..kind.size(edition))?;
         let mut values = Vec::new();
         for field in kind.fields() {
-            let (bytes, after) = rest.split_at(width(field));
-            let high = bytes.get(1).copied().unwrap_or(0);
-            values.push(u16::from_le_bytes([bytes[0], high]));
+            let (bytes, after) = rest.split_at(field.width(edition));
+            let high_first = bytes.iter().rev();
+            values.push(high_first.fold(0, |above, &byte| above << 8 | u32::from(byte)));
             rest = after;
         }
         Some(Record { kind, values })
     }
 
-    pub fn write(&self, out: &mut Vec<u8>) {
+    pub fn write(&self, edition: Edition, out: &mut Vec<u8>) {
         out.extend(self.kind.mark().as_bytes());
         for (field, value) in self.kind.fields().into_iter().zip(&self.values) {
-            out.extend(&value.to_le_bytes()[..width(field)]);
+            out.extend(&value.to_le_bytes()[..field.width(edition)]);
         }
     }
 
     /// The value of a field; None where the record has no such field.
-    pub fn value(&self, wanted: Field) -> Option<u16> {
+    pub fn value(&self, wanted: Field) -> Option<u32> {
         let fields = self.kind.fields();
         let number = fields.iter().position(|&field| field == wanted)?;
         self.values.get(number).copied()
+    }
+
+    /// The value of a field as a count or an index, 0 where there is none.
+    pub fn number(&self, field: Field) -> usize {
+        self.value(field).unwrap_or(0) as usize
     }
 }

@@ -3,11 +3,12 @@
 use crate::field::Field;
 use crate::layout::{well_formed, Found, Walk};
 use crate::record::{Record, RecordKind, NAME_BASE, NONE};
+use reference::Edition;
 
 /// What the records say. Types, qualified types, procedures and variables are
 /// named by their index; type 2, the first declared one, has index 0.
-#[derive(Default)]
 pub struct Sheet {
+    pub edition: Edition,
     pub types: Vec<Declared>,
     pub qualified: Vec<Qualified>,
     pub procedures: Vec<Procedure>,
@@ -86,7 +87,12 @@ impl Sheet {
 
     /// What records say that are all within the layout, ?R perhaps misplaced.
     pub fn of(walk: &Walk) -> Option<Sheet> {
-        let mut read = Sheet::default();
+        let mut read = Sheet {
+            edition: walk.edition,
+            types: Vec::new(),
+            qualified: Vec::new(),
+            procedures: Vec::new(),
+        };
         for found in &walk.found {
             read.add(found)?;
         }
@@ -95,7 +101,7 @@ impl Sheet {
 
     fn add(&mut self, found: &Found) -> Option<()> {
         let (place, record) = (found.place, &found.record);
-        let value = |field| record.value(field).map_or(0, usize::from);
+        let value = |field| record.number(field);
         let procedure = self.procedures.last_mut();
         match record.kind {
             RecordKind::Header => (),
@@ -118,7 +124,7 @@ impl Sheet {
             RecordKind::Name => {
                 procedure?.name = Some(RightsName {
                     of: value(Field::Base).checked_sub(2)?,
-                    least: value(Field::Least) as u32,
+                    least: record.value(Field::Least)?,
                 });
             }
             RecordKind::Variable => procedure?.variables.push(Variable {
@@ -150,25 +156,26 @@ impl Sheet {
 
 /// The number in a field of one byte, 255 naming nothing.
 fn named(value: usize) -> Option<usize> {
-    (value != usize::from(NONE)).then_some(value)
+    (value != NONE as usize).then_some(value)
 }
 
 fn qualified(record: &Record) -> Qualified {
-    let value = |field| record.value(field).map_or(0, usize::from);
-    let kind = match value(Field::Base) {
+    let kind = match record.value(Field::Base).unwrap_or(0) {
         0 => Kind::Integer,
         1 => Kind::Tray {
-            element: value(Field::Element),
+            element: record.number(Field::Element),
         },
-        base if base == usize::from(NAME_BASE) => Kind::Name,
-        base => Kind::Declared { of: base - 2 },
+        NAME_BASE => Kind::Name,
+        base => Kind::Declared {
+            of: base as usize - 2,
+        },
     };
-    let rights = value(Field::Rights) as u32;
+    let rights = record.value(Field::Rights).unwrap_or(0);
     Qualified { kind, rights }
 }
 
 fn instruction(place: usize, record: &Record) -> Instruction {
-    let value = |field| record.value(field).map_or(0, usize::from);
+    let value = |field| record.number(field);
     Instruction {
         place,
         code: value(Field::Code) as u8,

@@ -2,6 +2,7 @@
 
 use crate::mnemonic::Mnemonic;
 use crate::span::{Error, Span};
+use reference::Edition;
 
 #[derive(Clone, Copy, Debug, PartialEq, Eq)]
 pub struct Name<'a> {
@@ -59,6 +60,7 @@ pub struct Rights<'a> {
 
 /// A line, without its labels.
 pub enum Statement<'a> {
+    Edition(Edition),
     Type(TypeLine<'a>),
     Qual(QualLine<'a>),
     Procedure(ProcedureLine<'a>),
@@ -114,7 +116,7 @@ pub struct Instruction<'a> {
 /// What stands for the field k.
 pub enum Constant<'a> {
     Unused,
-    Number { value: u16, span: Span },
+    Number { value: u32, span: Span },
     Label(Name<'a>),
     Slot(Name<'a>),
     Procedure(Name<'a>),

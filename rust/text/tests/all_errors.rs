@@ -62,6 +62,13 @@ const ONE_MISTAKE: &[(&str, usize, usize)] = &[
     ("qual q = tray[integer]\nprocedure main\n variable i, j: q\n variable k: tray[q]{}", 1, 23),
     ("qual q = horse{}\nqual r = q\nprocedure main\n variable i, j: q\n variable k: tray[r]{}", 1, 10),
     ("type call\ntype call{read} (time: integer)\nqual q = call{read}\nqual r = call{}", 2, 6),
+    // Of what edition the text is.
+    ("editon 2\ntype t{a,b,c,d,e,f,g,h,i,j,k,l,m,n,o,p}", 1, 1),
+    ("edition 3\ntype t{a,b,c,d,e,f,g,h,i,j,k,l,m,n,o,p}\nqual q = t{p}", 1, 9),
+    ("hello\nedition 2\ntype t{a,b,c,d,e,f,g,h,i,j,k,l,m,n,o,p}", 1, 1),
+    ("type t\nedition 2\ntype u{a,b,c,d,e,f,g,h,i,j,k,l,m,n,o,p}", 2, 1),
+    ("type t{a,b,c,d,e,f,g,h,i,j,k,l,m,n,o,p}\nqual q = t{p}", 1, 38),
+    ("raw\nHD 2 0 0\nQT 2 65536 255", 2, 9),
     // Procedures whose lines are wrong.
     ("procedure\n variable i: integer\n put i\nprocedure p\n return", 1, 10),
     ("procdure main\n variable i: integer\n put i\n return", 1, 1),
@@ -95,6 +102,16 @@ fn a_line_that_is_wrong_does_not_hide_the_next() {
     // A wrong instruction declares nothing.
     let text = "procedure main\n set n = 1\n put n";
     assert_eq!(places(text), [(2, 8), (3, 6)]);
+}
+
+/// A line that says its kind says no edition.
+#[test]
+fn a_line_that_is_wrong_is_of_no_other_edition() {
+    let rights = "a,b,c,d,e,f,g,h,i,j,k,l,m,n,o,p";
+    let text = format!("type t{{\nedition 1\ntype u{{{rights}}}");
+    assert_eq!(places(&text), [(1, 8), (2, 1), (3, 38)]);
+    let text = "raw\nHD 1 0 0 0\nbytes x\nQT 2 65536 255";
+    assert_eq!(places(text), [(3, 7), (4, 6)]);
 }
 
 #[test]

@@ -1,6 +1,7 @@
 //! Long byte strings to text and back to the same bytes.
 
 use generator::Random;
+use reference::Edition;
 use text::{assemble, disassemble, Record, RecordKind};
 
 fn round_trip(bytes: &[u8], what: &str) -> String {
@@ -13,17 +14,34 @@ fn round_trip(bytes: &[u8], what: &str) -> String {
 }
 
 /// A record whose fields are all the value, or as near as they hold it.
-fn filled(kind: RecordKind, value: u16) -> Vec<u8> {
+fn filled(kind: RecordKind, edition: Edition, value: u32) -> Vec<u8> {
     let values = vec![value; kind.fields().len()];
     let mut bytes = Vec::new();
-    Record::new(kind, &values).write(&mut bytes);
+    Record::new(kind, &values).write(edition, &mut bytes);
     bytes
+}
+
+/// What makes the bytes after it those of an edition.
+fn start(edition: Edition) -> Vec<u8> {
+    match edition {
+        Edition::First => Vec::new(),
+        Edition::Second => filled(RecordKind::Header, edition, 2),
+    }
+}
+
+/// All kinds, and of the second edition those that differ from the first.
+fn kinds(edition: Edition) -> impl Iterator<Item = RecordKind> {
+    let size_of_first = |kind: RecordKind| kind.size(Edition::First);
+    let differs = move |kind: &RecordKind| kind.size(edition) != size_of_first(*kind);
+    let is_due = move |kind: &RecordKind| edition == Edition::First || differs(kind);
+    RecordKind::ALL.into_iter().filter(is_due)
 }
 
 /// A record of random fields, small and at the ends of their ranges.
 fn any_record(random: &mut Random) -> Vec<u8> {
     let kind = random.pick(&RecordKind::ALL).unwrap_or(RecordKind::Header);
-    let mut bytes = filled(kind, 0);
+    let edition = random.pick(&Edition::ALL).unwrap_or(Edition::First);
+    let mut bytes = filled(kind, edition, 0);
     for byte in &mut bytes[2..] {
         let small = random.below(20) as u8;
         let any = random.byte();
@@ -34,7 +52,7 @@ fn any_record(random: &mut Random) -> Vec<u8> {
 
 /// Runs of records, of zeros, of marks without a record, and of anything.
 fn structured(random: &mut Random, length: usize) -> Vec<u8> {
-    let mut bytes = Vec::new();
+    let mut bytes = random.pick(&Edition::ALL).map_or(Vec::new(), start);
     while bytes.len() < length {
         let count = random.between(1, 3_000);
         match random.below(6) {
@@ -70,11 +88,16 @@ fn long_structured_bytes_come_back() {
 
 #[test]
 fn long_runs_of_one_record_come_back() {
-    for kind in RecordKind::ALL {
-        for value in [0, 1, 254, 255, 65_535] {
+    let of = |edition| kinds(edition).map(move |kind| (kind, edition));
+    for (kind, edition) in Edition::ALL.into_iter().flat_map(of) {
+        for value in [0, 1, 254, 255, 65_535, u32::MAX] {
             for count in [1, 1_000, 5_000, 70_000] {
-                let bytes = filled(kind, value).repeat(count);
-                round_trip(&bytes, &format!("{count} of {kind:?} {value}"));
+                let run = filled(kind, edition, value).repeat(count);
+                let bytes = [start(edition), run].concat();
+                round_trip(
+                    &bytes,
+                    &format!("{count} of {kind:?} {value} in {edition:?}"),
+                );
             }
         }
     }
@@ -112,14 +135,18 @@ fn the_largest_counts_come_back() {
 /// whatever they are.
 #[test]
 fn long_texts_are_compact() {
-    let after_byte = |kind| [vec![1], filled(kind, u16::MAX)].concat();
-    let mut all: Vec<Vec<u8>> = RecordKind::ALL.map(after_byte).into();
-    all.extend(RecordKind::ALL.map(|kind| filled(kind, u16::MAX)));
-    all.push(vec![0]);
-    for piece in all {
-        let bytes = piece.repeat(2_000_000 / piece.len());
-        let said = round_trip(&bytes, "a long run");
-        assert!(said.len() <= 4 * bytes.len() + 8, "{}", &said[..60]);
+    for edition in Edition::ALL {
+        let full = |kind| filled(kind, edition, u32::MAX);
+        let after_byte = |kind| [vec![1], full(kind)].concat();
+        let mut all: Vec<Vec<u8>> = kinds(edition).map(after_byte).collect();
+        all.extend(kinds(edition).map(full));
+        all.push(vec![0]);
+        for piece in all {
+            let run = piece.repeat(2_000_000 / piece.len());
+            let bytes = [start(edition), run].concat();
+            let said = round_trip(&bytes, "a long run");
+            assert!(said.len() <= 4 * bytes.len() + 8, "{}", &said[..60]);
+        }
     }
     // The shortest that is no sheet's, and the longest that is.
     let text = |length| disassemble(&vec![0; length]);

@@ -108,9 +108,9 @@ fn instructions() {
 fn lists_in_one_line() {
     let names = numbered(MANY, |n| format!("r{n},"));
     one_error(
-        &format!("type t{{{names}r}}"),
-        &too_many(15, "named rights"),
-        1,
+        &format!("edition 2\ntype t{{{names}r}}"),
+        &too_many(31, "named rights"),
+        2,
     );
     let slots = numbered(MANY, |n| format!("s{n}: integer,"));
     one_error(

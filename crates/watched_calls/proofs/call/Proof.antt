@@ -7,7 +7,8 @@ use Rattle.index.specs.Scope.{boundOf, innerAs}
 use Rattle.index.proofs.Reading.{placed-word}
 use Rattle.settling.specs.Settles.{calleeAs, Settling}
 use Rattle.frames.proofs.Called.{formals-within, bound-within, word-is}
-use Rattle.watched_calls.proofs.Calling.{bound-of, call-unkept, call-unsettled, call-short, call-enters}
+use Rattle.settling.proofs.Actuals.{bound-here}
+use Rattle.watched_calls.proofs.Calling.{call-unkept, call-unsettled, call-short, call-enters}
 use Rattle.watched_calls.proofs.call.Statement.{statement}
 use Rattle.watched_calls.proofs.call.Tie as tie
 
@@ -37,9 +38,6 @@ enter-requires c κs =
     let few = formals-within s index (pre .0) (args .k) (pre .1 .1 .0 .procedure) in
     (pre .0 .ready, (pre .1 .0, record { next = pre .1 .1 .0 .next; formals = rw (C .formals, C .variables) few }))
 
-enum-told : tie.Need-enum-told
-enum-told c = search needs
-
 returns-2 : tie.Need-returns-2
 unfolding resultAt
 returns-2 c =
@@ -56,7 +54,7 @@ returns-2 c =
     let index = now (args .index) in
     let C = word-is s index (pre .0) (args .k) (pre .1 .1 .0 .procedure) (procedure-in .ensures) in
     let to = own-scope .ensures (args .k) (placed-word C) (bound-within s index (pre .0) (args .k) (pre .1 .1 .0 .procedure)) in
-    call-unsettled s (now (args .memory)) (args .r) (args .a) (args .b) (args .k) (pre .1 .1 .1) to (field .ensures) (if1 .left) (subst (Settling (innerAs s (args .p)) (calleeAs s (boundOf s (args .k)) (own-scope .result)) (args .b)) (told .given .1) (settled-by .ensures (boundOf s (args .k)) (bound-of C to (is-bounded-in .ensures))))
+    call-unsettled s (now (args .memory)) (args .r) (args .a) (args .b) (args .k) (pre .1 .1 .1) to (field .ensures) (if1 .left) (subst (Settling (innerAs s (args .p)) (calleeAs s (boundOf s (args .k)) (own-scope .result)) (args .b)) (told .given .1) (settled-by .ensures (boundOf s (args .k)) (bound-here to (is-bounded-in .ensures s (args .k) (placed-word C)))))
 
 returns-3 : tie.Need-returns-3
 unfolding resultAt
@@ -74,7 +72,7 @@ returns-3 c =
     let index = now (args .index) in
     let C = word-is s index (pre .0) (args .k) (pre .1 .1 .0 .procedure) (procedure-in .ensures) in
     let to = own-scope .ensures (args .k) (placed-word C) (bound-within s index (pre .0) (args .k) (pre .1 .1 .0 .procedure)) in
-    call-short s (now (args .memory)) (args .r) (args .a) (args .b) (args .k) (pre .1 .1 .1) to (field .ensures) (if1 .left) (subst (Settling (innerAs s (args .p)) (calleeAs s (boundOf s (args .k)) (own-scope .result)) (args .b)) (told .given .1) (settled-by .ensures (boundOf s (args .k)) (bound-of C to (is-bounded-in .ensures))))
+    call-short s (now (args .memory)) (args .r) (args .a) (args .b) (args .k) (pre .1 .1 .1) to (field .ensures) (if1 .left) (subst (Settling (innerAs s (args .p)) (calleeAs s (boundOf s (args .k)) (own-scope .result)) (args .b)) (told .given .1) (settled-by .ensures (boundOf s (args .k)) (bound-here to (is-bounded-in .ensures s (args .k) (placed-word C)))))
 
 returns-4 : tie.Need-returns-4
 unfolding resultAt
@@ -93,7 +91,7 @@ returns-4 c =
     let index = now (args .index) in
     let C = word-is s index (pre .0) (args .k) (pre .1 .1 .0 .procedure) (procedure-in .ensures) in
     let to = own-scope .ensures (args .k) (placed-word C) (bound-within s index (pre .0) (args .k) (pre .1 .1 .0 .procedure)) in
-    call-enters s (now (args .memory)) (args .r) (args .a) (args .b) (args .k) (pre .1 .1 .1) to (field .ensures) (if1 .left) _ (subst (Settling (innerAs s (args .p)) (calleeAs s (boundOf s (args .k)) (own-scope .result)) (args .b)) (told .given .1) (settled-by .ensures (boundOf s (args .k)) (bound-of C to (is-bounded-in .ensures)))) (enter .last .1 .1 .1 .1 .0) (enter .result) _ C (pre .1 .1 .0) (enter .ensures)
+    call-enters s (now (args .memory)) (args .r) (args .a) (args .b) (args .k) (pre .1 .1 .1) to (field .ensures) (if1 .left) _ (subst (Settling (innerAs s (args .p)) (calleeAs s (boundOf s (args .k)) (own-scope .result)) (args .b)) (told .given .1) (settled-by .ensures (boundOf s (args .k)) (bound-here to (is-bounded-in .ensures s (args .k) (placed-word C))))) (enter .last .1 .1 .1 .1 .0) (enter .result) _ C (pre .1 .1 .0) (enter .ensures)
 
 pub call-spec : {M : Type 1} → statement M
-call-spec = tie.close (tie.spec (λ c κs. search needs) (λ c κs. search needs) (λ c κs. search needs) returns (λ c κs. search needs) (λ c κs. search needs) enum-told (λ c. search needs) (λ c. search needs) enter-requires returns-2 returns-3 (λ c. search needs) returns-4)
+call-spec = tie.close (tie.spec (λ c κs. search needs) (λ c κs. search needs) (λ c κs. search needs) returns (λ c κs. search needs) (λ c κs. search needs) (λ c. search needs) (λ c. search needs) (λ c. search needs) enter-requires returns-2 returns-3 (λ c. search needs) returns-4)

@@ -1,4 +1,4 @@
--- The sum is the word packed from tag 6, the flag, the counts and the place.
+-- The sum is the word packed from tag 6, the GN's size, the counts and the place.
 use native.Mathlib.Omega.{arith}
 use Rattle.words.specs.Word.{pack}
 use borrow.Author.Needs.{needs}
@@ -12,4 +12,4 @@ returns c = omega arith
 pub procedure-word-spec : {M : Type 1} → statement M
 procedure-word-spec =
     tie.close
-    (tie.spec (λ c. search needs) (λ c. search needs) (λ c. search needs) (λ c. search needs) (λ c. search needs) (λ c. search needs) (λ c. search needs) (λ c. search needs) (λ c. search needs) (λ c. search needs) (λ c. search needs) returns)
+    (tie.spec (λ c. search needs) (λ c. search needs) (λ c. search needs) (λ c. search needs) (λ c. search needs) (λ c. search needs) (λ c. search needs) (λ c. search needs) (λ c. search needs) (λ c. search needs) returns)

@@ -3,6 +3,7 @@
 use super::Explanation;
 use crate::engine::Refusal;
 use crate::source::Source;
+use reference::Edition;
 use text::field::Field;
 use text::layout::{walk, Found, Misplaced, Walk};
 use text::{Names, Notation, RecordKind, Sheet};
@@ -19,14 +20,21 @@ pub fn explain(source: &Source, refusal: Refusal) -> Option<Explanation> {
     }
     let found = walk.found.iter().find(|found| found.place == place)?;
     if number == 4 {
-        let edition = found.record.value(Field::Edition).filter(|&e| e != 1)?;
-        let line = format!("the edition is {edition}, it must be 1");
-        return Some(Explanation::new(vec![Field::Edition], vec![line]));
+        return wrong_edition(&walk, found);
     }
     match walk.excess(found) {
         Some(first) => Some(Explanation::new(vec![first.field], vec![first.words])),
         None => misplaced(&source.names, &walk, found),
     }
+}
+
+/// A header of an edition that there is not.
+fn wrong_edition(walk: &Walk, found: &Found) -> Option<Explanation> {
+    let edition = found.record.value(Field::Edition)?;
+    let known = Edition::ALL.map(|edition| edition.number().to_string());
+    let known = known.join(" or ");
+    let line = format!("the edition is {edition}, it must be {known}");
+    (!walk.has_edition()).then(|| Explanation::new(vec![Field::Edition], vec![line]))
 }
 
 /// ?R in a slot, or in a procedure that declares none.
@@ -74,7 +82,7 @@ fn undue(sheet: &[u8], walk: &Walk, whole: bool) -> Option<String> {
     let Some(kind) = walk.due else {
         return Some(format!("{bytes} left over after the last record"));
     };
-    let (mark, size) = (kind.mark(), kind.size());
+    let (mark, size) = (kind.mark(), kind.size(walk.edition));
     match whole {
         false => Some(format!(
             "{mark}, a record of {size} bytes, is due here, and {bytes} left"

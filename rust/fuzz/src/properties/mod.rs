@@ -36,7 +36,7 @@ pub const OF_TEXTS: [Property<Text>; 4] = [
     },
 ];
 
-pub const OF_SHEETS: [Property<Sheet>; 6] = [
+pub const OF_SHEETS: [Property<Sheet>; 7] = [
     Property {
         name: "any bytes come back from their disassembly",
         holds: bytes::comes_back,
@@ -60,6 +60,10 @@ pub const OF_SHEETS: [Property<Sheet>; 6] = [
     Property {
         name: "of an accepted sheet watch says what run says",
         holds: bytes::watch_is_run,
+    },
+    Property {
+        name: "in the second edition a sheet of the first is what it was",
+        holds: bytes::editions_are_alike,
     },
 ];
 

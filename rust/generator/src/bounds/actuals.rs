@@ -1,16 +1,16 @@
 //! Calls with one to eight actuals of which one, each in turn, is not like
 //! the others.
 
-use super::{bound, lent, seen, Bound, Family, Seen, Turns, INT};
+use super::{bound, seen, Bound, Family, Seen, Turns, INT};
 use crate::operations::{call, give_back, leave, new_array, new_record, put, set, set_slot};
 use crate::records::{InstructionRecord, ARRAY_ALL, NONE, OPEN};
 use crate::sheet::{Procedure, Sheet, SheetBuilder};
 
 pub const ACTUALS: Family = Family {
     name: "actuals",
-    count: || 2 * USES.len() * POSITIONS,
+    count: |_| 2 * USES.len() * POSITIONS,
     bound: one_actual_of_all,
-    due: || {
+    due: |_| {
         let results = [
             (0, 11),
             (0, 13),
@@ -103,7 +103,7 @@ fn one_actual_of_all(turns: &mut Turns) -> Bound {
         odd,
         first,
     };
-    bound(lent(sheet(call)), seen(at(count, odd), check, watch))
+    bound(turns.lent(sheet(call)), seen(at(count, odd), check, watch))
 }
 
 fn sheet(this: Call) -> Sheet {

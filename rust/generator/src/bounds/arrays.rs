@@ -1,7 +1,7 @@
 //! Sizes, indexes and units: "17 exactly when live frames plus objects would
 //! exceed the bench's words", "index ≥ size".
 
-use super::{bound, boundaries, integers, lent, made, seen, Bound, Family, Seen, Turns, INT};
+use super::{bound, boundaries, integers, made, seen, Bound, Family, Seen, Turns, INT};
 use crate::operations::{
     call, fetch, jump_if_zero, leave, new_array, put, set, size, store, subtract, take,
 };
@@ -15,21 +15,21 @@ const MOST: usize = 65_536;
 
 /// Main with integers and, after them, an array; procedure 1 has so many
 /// variables.
-fn run(integer_count: usize, body: &[InstructionRecord], callee: usize) -> Run {
+fn run(turns: &Turns, integer_count: usize, body: &[InstructionRecord], callee: usize) -> Run {
     let main = Procedure::main().variables(&vec![INT; integer_count]);
     let callee = Procedure::new(0, NONE).variables(&vec![INT; callee]);
     let sheet = integers()
         .array(INT, ARRAY_ALL)
         .procedure(main.variable(INTS).body(body))
         .procedure(callee.body(&[leave()]));
-    lent(sheet.build())
+    turns.lent(sheet.build())
 }
 
 pub const SIZES: Family = Family {
     name: "sizes",
-    count: || 3 * 2 * sizes().len(),
+    count: |_| 3 * 2 * sizes().len(),
     bound: array_of_a_size,
-    due: || {
+    due: |_| {
         let fits = |size: &u32| SIZE_FRAME + (*size as usize) < MOST;
         let fitting = sizes().into_iter().filter(fits);
         let done = fitting.map(|size| seen(size as usize, 0, 11));
@@ -57,7 +57,7 @@ fn array_of_a_size(turns: &mut Turns) -> Bound {
         false => made(count, 0, 1),
     };
     body.extend([new_array(2, 0), size(1, 2), put(1), leave()]);
-    let mut run = run(2, &body, 0);
+    let mut run = run(turns, 2, &body, 0);
     if taken {
         run.input.push(count);
     }
@@ -69,9 +69,9 @@ fn array_of_a_size(turns: &mut Turns) -> Bound {
 
 pub const INDEXES: Family = Family {
     name: "indexes",
-    count: || 2 * 4 * COUNTS.len() * BASES.len(),
+    count: |_| 2 * 4 * COUNTS.len() * BASES.len(),
     bound: cell_at_an_index,
-    due: || {
+    due: |_| {
         let bases = BASES.iter().map(|&base| base as usize);
         let mut all: Vec<Seen> = bases.map(|base| seen(base, 0, 14)).collect();
         all.extend([1 << 8, 1 << 9, 1 << 15].map(|base| seen(base, 0, 13)));
@@ -118,7 +118,7 @@ fn cell_at_an_index(turns: &mut Turns) -> Bound {
         put(3),
         leave(),
     ]);
-    let mut run = run(4, &body, 0);
+    let mut run = run(turns, 4, &body, 0);
     run.input = vec![count, stored, fetched, 0xa5a5_5a5a];
     run.memory_words = 8 + count as usize;
     let stop = match index {
@@ -131,9 +131,9 @@ fn cell_at_an_index(turns: &mut Turns) -> Bound {
 
 pub const ROOM: Family = Family {
     name: "room",
-    count: || 2 * WORDS.len() * LAST.len(),
+    count: |_| 2 * WORDS.len() * LAST.len(),
     bound: the_last_units,
-    due: || {
+    due: |_| {
         let all = WORDS.iter();
         all.flat_map(|&words| [11, 17].map(|stop| seen(words, 0, stop)))
             .collect()
@@ -174,7 +174,7 @@ fn the_last_units(turns: &mut Turns) -> Bound {
         Last::Frame(_) => 0,
     };
     let body = [take(0), new_array(1, 0), set(0, count), operation, leave()];
-    let mut run = run(1, &body, variables.into());
+    let mut run = run(turns, 1, &body, variables.into());
     let first = words - 4 - 1 - usize::from(units) + lacking;
     run.input.push(first as u32);
     run.memory_words = words;
@@ -183,9 +183,9 @@ fn the_last_units(turns: &mut Turns) -> Bound {
 
 pub const OBJECTS: Family = Family {
     name: "objects",
-    count: || EARLIER.len(),
+    count: |_| EARLIER.len(),
     bound: the_last_object,
-    due: || EARLIER.iter().map(|&count| seen(count, 0, 11)).collect(),
+    due: |_| EARLIER.iter().map(|&count| seen(count, 0, 11)).collect(),
 };
 
 /// How many objects are there before the last one.
@@ -207,7 +207,7 @@ fn the_last_object(turns: &mut Turns) -> Bound {
         put(2),
         leave(),
     ];
-    let mut run = run(3, &body, 0);
+    let mut run = run(turns, 3, &body, 0);
     run.input.push(count as u32);
     run.fuel = 1_000_000;
     run.memory_words = 6 + count + 2;

@@ -1,6 +1,6 @@
 //! Qualified types 0 to 63 and variables 0 to 31 by their numbers.
 
-use super::{bound, integers, lent, seen, Bound, Family, Seen, Turns, INT};
+use super::{bound, integers, seen, Bound, Family, Seen, Turns, INT};
 use crate::operations::{
     add, bind, call, fetch, give_back, jump_if_zero, leave, less, new_array, new_record, put, set,
     size, store, subtract, take,
@@ -10,9 +10,9 @@ use crate::sheet::{Procedure, Sheet, SheetBuilder};
 
 pub const QUALIFIED: Family = Family {
     name: "qualified types",
-    count: || LAST * 7 * 4,
+    count: |_| LAST * 7 * 4,
     bound: type_beside_another,
-    due: || {
+    due: |_| {
         let results = [(0, 11), (9, 19)];
         let all = (1..=LAST).flat_map(|of| results.map(|(check, watch)| seen(of, check, watch)));
         all.collect::<Vec<Seen>>()
@@ -35,7 +35,7 @@ fn type_beside_another(turns: &mut Turns) -> Bound {
     let sheet = moved(from as u8, to as u8, turns.of(4));
     let enough = from & to == to;
     let (check, watch) = if enough { (0, 11) } else { (9, 19) };
-    bound(lent(sheet), seen(to, check, watch))
+    bound(turns.lent(sheet), seen(to, check, watch))
 }
 
 /// By a bind, an actual, a returned or a kept value.
@@ -61,7 +61,7 @@ fn moved(from: u8, to: u8, way: usize) -> Sheet {
             (main.body(&[call(2, 1, 2)]), callee.body(&[give_back(0)]))
         }
     };
-    let typed = (1..=LAST as u16).fold(
+    let typed = (1..=LAST as u32).fold(
         SheetBuilder::new().record_type(6, &[]).integer(),
         |sheet, rights| sheet.record(2, rights << 1),
     );
@@ -78,9 +78,9 @@ fn moved(from: u8, to: u8, way: usize) -> Sheet {
 
 pub const VARIABLES: Family = Family {
     name: "variables",
-    count: || COUNT * 6 * OPERATIONS,
+    count: |_| COUNT * 6 * OPERATIONS,
     bound: operands_by_number,
-    due: || {
+    due: |_| {
         (0..COUNT)
             .map(|number| seen(number, 0, 11))
             .collect::<Vec<Seen>>()
@@ -121,7 +121,7 @@ fn operands_by_number(turns: &mut Turns) -> Bound {
         .array(INT, ARRAY_ALL)
         .procedure(main)
         .procedure(callee);
-    let mut run = lent(sheet.build());
+    let mut run = turns.lent(sheet.build());
     run.input.push(77);
     bound(run, seen(usize::from(a), 0, 11))
 }

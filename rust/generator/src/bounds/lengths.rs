@@ -1,13 +1,13 @@
 //! The lengths of input and output, and fuel: "fuel and steps 64" bits.
 
-use super::{bound, lent, of_integers, seen, Bound, Family, Seen, Turns};
+use super::{bound, of_integers, seen, Bound, Family, Seen, Turns};
 use crate::operations::{jump_if_zero, leave, put, set, take};
 
 pub const LENGTHS: Family = Family {
     name: "lengths of input and output",
-    count: || 2 * COUNTS.len(),
+    count: |_| 2 * COUNTS.len(),
     bound: words_taken_and_put,
-    due: || {
+    due: |_| {
         let all = COUNTS.iter();
         all.flat_map(|&count| [15, 16].map(|stop| seen(count, 0, stop)))
             .collect()
@@ -23,7 +23,7 @@ fn words_taken_and_put(turns: &mut Turns) -> Bound {
     let count = turns.pick(&COUNTS);
     let full = turns.of(2);
     let body = [set(1, 0), take(0), put(0), jump_if_zero(1, 1), leave()];
-    let mut run = lent(of_integers(2, &body));
+    let mut run = turns.lent(of_integers(2, &body));
     let word = |number: u32| number.wrapping_mul(0x9e37_79b9);
     run.input = (0..(count + full) as u32).map(word).collect();
     run.output = vec![9; count + 1 - full];
@@ -33,9 +33,9 @@ fn words_taken_and_put(turns: &mut Turns) -> Bound {
 
 pub const FUEL: Family = Family {
     name: "fuel",
-    count: || 3 * 64 + ENDLESS.len(),
+    count: |_| 3 * 64 + ENDLESS.len(),
     bound: fuel_of_a_size,
-    due: || {
+    due: |_| {
         let powers = (0..64).map(|bit| seen(bit, 0, if bit < 2 { 12 } else { 11 }));
         let cut = ENDLESS.iter().map(|&fuel| seen(fuel as usize, 0, 12));
         powers.chain(cut).collect::<Vec<Seen>>()
@@ -61,7 +61,7 @@ fn fuel_of_a_size(turns: &mut Turns) -> Bound {
         }
     };
     let done = fuel >= 3 && position < 3 * 64;
-    let mut run = lent(of_integers(1, &body));
+    let mut run = turns.lent(of_integers(1, &body));
     run.fuel = fuel;
     bound(run, seen(at, 0, if done { 11 } else { 12 }))
 }

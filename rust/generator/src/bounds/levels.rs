@@ -1,7 +1,7 @@
 //! "Same base, same rights, equal elements all the way down": two array types
 //! that are equal for some levels and differ in the next one.
 
-use super::{bound, lent, seen, Bound, Family, Seen, Turns, INT};
+use super::{bound, seen, Bound, Family, Seen, Turns, INT};
 use crate::operations::{
     bind, call, fetch, get_slot, give_back, leave, new_array, new_record, set, set_slot, store,
 };
@@ -10,9 +10,9 @@ use crate::sheet::{Procedure, Sheet, SheetBuilder};
 
 pub const LEVELS: Family = Family {
     name: "levels of elements",
-    count: || 2 * DIFFERENCES.len() * USES.len() * DEEPEST,
+    count: |_| 2 * DIFFERENCES.len() * USES.len() * DEEPEST,
     bound: pair_in_use,
-    due,
+    due: |_| due(),
 };
 
 /// The deepest level in which two types of one sheet can first differ.
@@ -22,8 +22,8 @@ const DEEPEST_APART: usize = 30;
 
 pub(super) const FIRST: u8 = 2;
 pub(super) const SECOND: u8 = 3;
-pub(super) const READ: u16 = 1 << 1;
-pub(super) const AMEND: u16 = 1 << 2;
+pub(super) const READ: u32 = 1 << 1;
+pub(super) const AMEND: u32 = 1 << 2;
 
 #[derive(Clone, Copy, PartialEq)]
 enum Difference {
@@ -97,7 +97,7 @@ fn pair_in_use(turns: &mut Turns) -> Bound {
         (_, Use::Need) => seen(at, 7, 18),
         _ => seen(at, 8, 18),
     };
-    bound(lent(sheet(user, types)), due)
+    bound(turns.lent(sheet(user, types)), due)
 }
 
 fn at(difference: Difference, level: usize) -> usize {

@@ -1,4 +1,5 @@
-//! Sheets and runs at the limits of document 01: just below, at and above.
+//! Sheets and runs at the limits of document 01, in both editions: just below,
+//! at and above.
 //!
 //! Random sheets do not come to a number of 17 bits, a ninth level of
 //! elements or procedure 40 by themselves, and an engine that cuts a number
@@ -21,10 +22,13 @@ mod values;
 mod widened;
 
 use crate::operations::{add, set};
+use crate::random::Random;
 use crate::records::InstructionRecord;
 use crate::runs::Run;
+use crate::second_edition::into_second_edition;
 use crate::sheet::{Procedure, Sheet, SheetBuilder};
 pub use levels::{level_of, LEVELS};
+use reference::Edition;
 
 /// A run at a limit.
 pub struct Bound {
@@ -52,17 +56,21 @@ fn seen(at: usize, check: u8, watch: u8) -> Seen {
 /// Runs by seed.
 pub struct Family {
     pub name: &'static str,
-    /// The positions; a further seed begins anew.
-    pub count: fn() -> usize,
+    /// The positions in an edition; a further seed begins anew.
+    pub count: fn(Edition) -> usize,
     bound: fn(&mut Turns) -> Bound,
-    /// All that must come up.
-    pub due: fn() -> Vec<Seen>,
+    /// All that must come up in an edition.
+    pub due: fn(Edition) -> Vec<Seen>,
 }
 
 impl Family {
-    pub fn bound(&self, seed: u64) -> Bound {
-        let position = seed % (self.count)() as u64;
-        (self.bound)(&mut Turns { left: position })
+    pub fn bound(&self, edition: Edition, seed: u64) -> Bound {
+        let position = seed % (self.count)(edition) as u64;
+        (self.bound)(&mut Turns {
+            edition,
+            position,
+            left: position,
+        })
     }
 }
 
@@ -94,6 +102,8 @@ pub const FAMILIES: [Family; 22] = [
 
 /// A position, taken apart into one choice after the other.
 struct Turns {
+    edition: Edition,
+    position: u64,
     left: u64,
 }
 
@@ -108,21 +118,25 @@ impl Turns {
     fn pick<T: Copy>(&mut self, items: &[T]) -> T {
         items[self.of(items.len())]
     }
+
+    /// A run, in the edition, that is lent enough for a sheet that does little.
+    fn lent(&self, mut sheet: Sheet) -> Run {
+        // Those that are about the rights themselves have the edition already.
+        if sheet.edition() != self.edition {
+            into_second_edition(&mut Random::new(self.position), &mut sheet);
+        }
+        Run {
+            sheet: sheet.encode(),
+            input: Vec::new(),
+            fuel: 10_000,
+            memory_words: 200,
+            output: vec![9; 40],
+        }
+    }
 }
 
 /// The integer, of all sheets here.
 const INT: u8 = 0;
-
-/// A run that is lent enough for a sheet that does little.
-fn lent(sheet: Sheet) -> Run {
-    Run {
-        sheet: sheet.encode(),
-        input: Vec::new(),
-        fuel: 10_000,
-        memory_words: 200,
-        output: vec![9; 40],
-    }
-}
 
 fn bound(run: Run, seen: Seen) -> Bound {
     Bound { run, seen }

@@ -1,16 +1,16 @@
 //! Procedures by number, 1 to 63: called, owning, with formals, a result and
 //! units of their own among others that have none of it.
 
-use super::{bound, lent, seen, Bound, Family, Seen, Turns, INT};
+use super::{bound, seen, Bound, Family, Seen, Turns, INT};
 use crate::operations::{call, get_slot, give_back, leave, new_record, put, set, set_slot};
 use crate::records::{InstructionRecord, ARRAY_ALL, NONE, OPEN};
 use crate::sheet::{Procedure, Sheet, SheetBuilder};
 
 pub const PROCEDURES: Family = Family {
     name: "procedures",
-    count: || LAST * USES.len(),
+    count: |_| LAST * USES.len(),
     bound: procedure_of_a_number,
-    due: || {
+    due: |_| {
         let results = [(0, 11), (8, 18), (7, 19), (0, 13), (0, 17), (5, 5)];
         let all = (1..=LAST).flat_map(|of| results.map(|(check, watch)| seen(of, check, watch)));
         all.collect::<Vec<Seen>>()
@@ -65,7 +65,7 @@ const REC_OPEN: u8 = 4;
 fn procedure_of_a_number(turns: &mut Turns) -> Bound {
     let number = turns.of(LAST) + 1;
     let user = turns.pick(&USES);
-    let mut run = lent(sheet(number, user));
+    let mut run = turns.lent(sheet(number, user));
     // Main's frame has 6 units, that of the procedure 11.
     match user {
         Use::Room => run.memory_words = 17,

@@ -1,18 +1,20 @@
-//! Rights by number: "named rights n 0..15", "bit i = right i".
+//! Rights by number: "named rights n 0..15", "bit i = right i"; "Edition 2 has
+//! n 0..31".
 
-use super::{bound, lent, seen, Bound, Family, Seen, Turns, INT};
+use super::{bound, seen, Bound, Family, Seen, Turns, INT};
 use crate::operations::{bind, call, give_back, leave, new_array, new_record, set};
-use crate::records::{InstructionRecord, ARRAY_ALL, NONE, OPEN};
+use crate::records::{named_rights, InstructionRecord, ARRAY_ALL, NONE};
 use crate::sheet::{Procedure, Sheet, SheetBuilder};
+use reference::Edition;
 
 pub const RIGHTS: Family = Family {
     name: "rights",
-    count: || 15 * USES.len(),
+    count: |edition| edition.most_named_rights() * USES.len(),
     bound: one_right_of_all,
-    due: || {
+    due: |edition| {
         let results = [(0, 11), (9, 19), (8, 18), (7, 11)];
-        let all =
-            (1..=15).flat_map(|right| results.map(|(check, watch)| seen(right, check, watch)));
+        let rights = 1..=edition.most_named_rights();
+        let all = rights.flat_map(|right| results.map(|(check, watch)| seen(right, check, watch)));
         all.collect::<Vec<Seen>>()
     },
 };
@@ -48,7 +50,7 @@ const ARRAY: u8 = 4;
 const ARRAY_WITHOUT: u8 = 5;
 
 fn one_right_of_all(turns: &mut Turns) -> Bound {
-    let right = turns.of(15) + 1;
+    let right = turns.of(turns.edition.most_named_rights()) + 1;
     let user = turns.pick(&USES);
     let (check, watch) = match user {
         Use::Lacking => (9, 19),
@@ -57,19 +59,21 @@ fn one_right_of_all(turns: &mut Turns) -> Bound {
         // What is bound to need is then bound to less.
         Use::Need => (7, 11),
     };
-    bound(lent(sheet(right, user)), seen(right, check, watch))
+    let sheet = sheet(turns.edition, right, user);
+    bound(turns.lent(sheet), seen(right, check, watch))
 }
 
-fn sheet(right: usize, user: Use) -> Sheet {
-    let all = !OPEN;
+fn sheet(edition: Edition, right: usize, user: Use) -> Sheet {
+    let most = edition.most_named_rights() as u8;
+    let all = named_rights(most);
     let need = match user {
         Use::Need => ALL,
         _ => WITHOUT,
     };
     let maker = Procedure::new(2, ALL).variable(ALL);
     let needs = Procedure::new(0, NONE).formal(WITHOUT, need);
-    SheetBuilder::new()
-        .record_type(15, &[])
+    SheetBuilder::in_edition(edition)
+        .record_type(most, &[])
         .integer()
         .record(2, all)
         .record(2, all & !(1 << right))
@@ -103,11 +107,12 @@ fn main(user: Use) -> Procedure {
 
 pub const NAMED: Family = Family {
     name: "named rights",
-    count: || 16 * 16,
+    count: |edition| (edition.most_named_rights() + 1).pow(2),
     bound: a_right_of_so_many,
-    due: || {
-        let named = (0..16).map(|named| seen(named, 0, 11));
-        let beyond = (0..15).map(|named| seen(named, 5, 5));
+    due: |edition| {
+        let most = edition.most_named_rights();
+        let named = (0..=most).map(|named| seen(named, 0, 11));
+        let beyond = (0..most).map(|named| seen(named, 5, 5));
         named.chain(beyond).collect::<Vec<Seen>>()
     },
 };
@@ -115,10 +120,11 @@ pub const NAMED: Family = Family {
 /// A type with so many named rights and one right in a variable of a procedure
 /// of its module: accepted if the type has it.
 fn a_right_of_so_many(turns: &mut Turns) -> Bound {
-    let named = turns.of(16);
-    let right = turns.of(16);
+    let rights = turns.edition.most_named_rights() + 1;
+    let named = turns.of(rights);
+    let right = turns.of(rights);
     let owned = Procedure::new(2, NONE).variable(1);
-    let sheet = SheetBuilder::new()
+    let sheet = SheetBuilder::in_edition(turns.edition)
         .record_type(named as u8, &[])
         .integer()
         .record(2, 1 << right)
@@ -126,5 +132,5 @@ fn a_right_of_so_many(turns: &mut Turns) -> Bound {
         .procedure(owned.body(&[new_record(0), leave()]))
         .build();
     let (check, watch) = if right <= named { (0, 11) } else { (5, 5) };
-    bound(lent(sheet), seen(named, check, watch))
+    bound(turns.lent(sheet), seen(named, check, watch))
 }

@@ -3,16 +3,16 @@
 //! in one level alone, at any depth, or that have other depths.
 
 use super::levels::{sheet, Types, Use, AMEND, FIRST, READ, SECOND, USES};
-use super::{bound, lent, seen, Bound, Family, Seen, Turns, INT};
+use super::{bound, seen, Bound, Family, Seen, Turns, INT};
 use crate::operations::{bind, call, leave, new_array, set};
 use crate::records::{QualifiedRecord, ARRAY_ALL, FETCH, NONE};
 use crate::sheet::{Procedure, Sheet, SheetBuilder};
 
 pub const STRUCTURES: Family = Family {
     name: "structures",
-    count: || 2 * USES.len() * pairs().len(),
+    count: |_| 2 * USES.len() * pairs().len(),
     bound: pair_in_use,
-    due: || {
+    due: |_| {
         let mut all = due_of(&DEPTHS, &[7]);
         all.extend(due_apart(&[7, 8]));
         all
@@ -21,9 +21,9 @@ pub const STRUCTURES: Family = Family {
 
 pub const NAMED_STRUCTURES: Family = Family {
     name: "structures of ?R",
-    count: || 2 * named_pairs().len(),
+    count: |_| 2 * named_pairs().len(),
     bound: named_pair_bound,
-    due: || {
+    due: |_| {
         let mut all = due_of(&NAMED_DEPTHS, &[]);
         all.extend(due_apart(&[8]));
         // ?R beside the set that the frame has, which check does not know.
@@ -75,7 +75,7 @@ const EQUAL: usize = 99;
 /// The rights of so many arrays, the outermost first, and what they hold.
 #[derive(Clone, PartialEq)]
 pub(super) struct Structure {
-    pub arrays: Vec<u16>,
+    pub arrays: Vec<u32>,
     pub innermost: QualifiedRecord,
 }
 
@@ -202,7 +202,7 @@ fn pair_in_use(turns: &mut Turns) -> Bound {
         source,
         destination,
     };
-    bound(lent(sheet(user, types)), due(pair, user, back))
+    bound(turns.lent(sheet(user, types)), due(pair, user, back))
 }
 
 /// Rights at the top may be given up, and are lacking on the way back; all
@@ -228,7 +228,7 @@ fn due(pair: &Pair, user: Use, back: bool) -> Seen {
 #[derive(Clone)]
 struct NamedPair {
     pair: Pair,
-    settled: u16,
+    settled: u32,
 }
 
 const NAMED_DEPTHS: [usize; 4] = [1, 2, 3, 28];
@@ -259,7 +259,7 @@ fn named_pair_bound(turns: &mut Turns) -> Bound {
     let Pair { left, right } = &named.pair;
     let (source, destination) = if back { (right, left) } else { (left, right) };
     let sheet = named_sheet(source, destination, named.settled);
-    bound(lent(sheet), named_due(named, back))
+    bound(turns.lent(sheet), named_due(named, back))
 }
 
 /// As without ?R; but what check refuses for ?R beside a set, watch takes
@@ -276,7 +276,7 @@ fn named_due(named: &NamedPair, back: bool) -> Seen {
 
 /// Main calls procedure 1 with an array of records under the set settled; it
 /// binds a new array of one structure to a variable of the other.
-pub(super) fn named_sheet(source: &Structure, destination: &Structure, settled: u16) -> Sheet {
+pub(super) fn named_sheet(source: &Structure, destination: &Structure, settled: u32) -> Sheet {
     let name = 1;
     let settling = 2;
     let given = 4;

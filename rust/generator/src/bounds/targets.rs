@@ -1,16 +1,16 @@
 //! Instructions by number: "go to instruction k (k<n)", and where a call goes
 //! on.
 
-use super::{bound, integers, lent, seen, Bound, Family, Turns, INT};
+use super::{bound, integers, seen, Bound, Family, Turns, INT};
 use crate::operations::{call, jump_if_zero, leave, put, set};
 use crate::records::{InstructionRecord, NONE};
 use crate::sheet::Procedure;
 
 pub const TARGETS: Family = Family {
     name: "targets",
-    count: || 4 * TARGET.len(),
+    count: |_| 4 * TARGET.len(),
     bound: instruction_of_a_number,
-    due: || {
+    due: |_| {
         let all = TARGET.iter();
         all.flat_map(|&k| [seen(k.into(), 0, 11), seen(k.into(), 5, 5)])
             .collect()
@@ -36,7 +36,7 @@ fn instruction_of_a_number(turns: &mut Turns) -> Bound {
     let main = Procedure::main().variable(INT).body(&body);
     let callee = Procedure::new(0, NONE).body(&[leave()]);
     bound(
-        lent(integers().procedure(main).procedure(callee).build()),
+        turns.lent(integers().procedure(main).procedure(callee).build()),
         due,
     )
 }

@@ -7,16 +7,16 @@ use super::structures::Structure;
 use super::widened::{
     arrays, at, check_number, patterns, record, watch_number, Pair, EQUAL, OUTSIDE, WIDE,
 };
-use super::{bound, lent, seen, Bound, Family, Seen, Turns, INT};
+use super::{bound, seen, Bound, Family, Seen, Turns, INT};
 use crate::operations::{bind, fetch, leave, new_array, set, store};
 use crate::records::{QualifiedRecord, ARRAY_ALL};
 use crate::sheet::{Procedure, Sheet, SheetBuilder};
 
 pub const WIDENED_TWICE: Family = Family {
     name: "widened twice",
-    count: || 2 * thirds().len(),
+    count: |_| 2 * thirds().len(),
     bound: third,
-    due: || DEPTHS.into_iter().flat_map(due_of).collect(),
+    due: |_| DEPTHS.into_iter().flat_map(due_of).collect(),
 };
 
 const DEPTHS: [usize; 3] = [2, 3, 4];
@@ -97,7 +97,7 @@ fn third(turns: &mut Turns) -> Bound {
     let check = check_number(declared.movement());
     let watch = watch_number(held.movement());
     let due = seen(at(depth - outside, declared.decides()), check, watch);
-    bound(lent(sheet(&third, fetched)), due)
+    bound(turns.lent(sheet(&third, fetched)), due)
 }
 
 fn sheet(third: &Structure, fetched: bool) -> Sheet {

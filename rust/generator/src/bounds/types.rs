@@ -1,21 +1,22 @@
 //! Declared types by number, 2 to 33: two that differ in one bit of it at
 //! most, and each with its own slots and rights.
 
-use super::{bound, lent, seen, Bound, Family, Seen, Turns, INT};
+use super::{bound, seen, Bound, Family, Seen, Turns, INT};
 use crate::operations::{
     bind, call, get_slot, give_back, leave, new_array, new_record, put, set, set_slot,
 };
 use crate::records::{InstructionRecord, ARRAY_ALL, NONE, OPEN};
 use crate::sheet::{Procedure, Sheet, SheetBuilder};
+use reference::Edition;
 
 /// The types that a sheet can declare.
 const COUNT: usize = 32;
 
 pub const TYPES: Family = Family {
     name: "types",
-    count: || COUNT * 6 * USES.len(),
+    count: |_| COUNT * 6 * USES.len(),
     bound: type_beside_another,
-    due: || {
+    due: |_| {
         let results = [(0, 11), (8, 18), (7, 18), (7, 19), (6, 19)];
         let all =
             (2..COUNT + 2).flat_map(|of| results.map(|(check, watch)| seen(of, check, watch)));
@@ -80,7 +81,7 @@ fn type_beside_another(turns: &mut Turns) -> Bound {
         _ => (8, 18),
     };
     let sheet = with_types(user, first, second);
-    bound(lent(sheet), seen(index + 2, check, watch))
+    bound(turns.lent(sheet), seen(index + 2, check, watch))
 }
 
 fn with_types(user: Use, first: u8, second: u8) -> Sheet {
@@ -146,9 +147,9 @@ fn subject(user: Use, first: u8, second: u8) -> Procedure {
 
 pub const SLOTS: Family = Family {
     name: "slots",
-    count: || COUNT * 5,
+    count: |_| COUNT * 5,
     bound: type_with_its_slots,
-    due: || {
+    due: |_| {
         let results = [(0, 11), (0, 17), (5, 5)];
         let all =
             (2..COUNT + 2).flat_map(|of| results.map(|(check, watch)| seen(of, check, watch)));
@@ -162,15 +163,15 @@ fn slots_of(index: usize) -> usize {
     (5 * index + 3 * (index / 16)) % 9
 }
 
-fn named_of(index: usize) -> usize {
-    (7 * index + index / 16) % 16
+fn named_of(edition: Edition, index: usize) -> usize {
+    (7 * index + index / 16) % (edition.most_named_rights() + 1)
 }
 
 /// The units of a record, its last slot and the one after it, its last right
 /// and the one after it.
 fn type_with_its_slots(turns: &mut Turns) -> Bound {
     let index = turns.of(COUNT);
-    let (slots, named) = (slots_of(index), named_of(index));
+    let (slots, named) = (slots_of(index), named_of(turns.edition, index));
     let last = slots.checked_sub(1);
     // Frames of 2 and of 4, a record, and what is lacking.
     let (right, slot, lacking, fits) = match turns.of(5) {
@@ -180,8 +181,8 @@ fn type_with_its_slots(turns: &mut Turns) -> Bound {
         3 => (named + 1, last, 0, false),
         _ => (named, Some(256), 0, false),
     };
-    let sheet = with_slots(index, right, slot);
-    let mut run = lent(sheet);
+    let sheet = with_slots(turns.edition, index, right, slot);
+    let mut run = turns.lent(sheet);
     run.memory_words = 2 + 4 + slots + 1 - lacking;
     let due = match (fits, lacking) {
         (false, _) => seen(index + 2, 5, 5),
@@ -192,15 +193,17 @@ fn type_with_its_slots(turns: &mut Turns) -> Bound {
 }
 
 /// Procedure 1 is of the type's module: a new record, and a slot of it put
-/// and got. There is no right 16, so that the integer gets one instead.
-fn with_slots(index: usize, right: usize, slot: Option<usize>) -> Sheet {
-    let start = (0..COUNT).fold(SheetBuilder::new(), |all, number| {
-        all.record_type(named_of(number) as u8, &vec![INT; slots_of(number)])
+/// and got. There is no right after the last one of an edition, so that the
+/// integer gets one instead.
+fn with_slots(edition: Edition, index: usize, right: usize, slot: Option<usize>) -> Sheet {
+    let start = (0..COUNT).fold(SheetBuilder::in_edition(edition), |all, number| {
+        let named = named_of(edition, number) as u8;
+        all.record_type(named, &vec![INT; slots_of(number)])
     });
     let of = index as u8 + 2;
-    let (rights, loose) = match right {
-        16 => (OPEN, 1),
-        right => (OPEN | 1 << right, 0),
+    let (rights, loose) = match right > edition.most_named_rights() {
+        true => (OPEN, 1),
+        false => (OPEN | 1 << right, 0),
     };
     let mut body = vec![new_record(0), set(1, 7)];
     if let Some(slot) = slot {

@@ -1,7 +1,7 @@
 //! "Reads, integers and report words have 32 bits": every such number by
 //! every way that a number can go.
 
-use super::{bound, boundaries, lent, made, seen, Bound, Family, Seen, Turns, INT};
+use super::{bound, boundaries, made, seen, Bound, Family, Seen, Turns, INT};
 use crate::operations::{
     add, bind, call, fetch, get_slot, give_back, jump_if_zero, leave, less, new_array, new_record,
     put, set, set_slot, store, subtract, take,
@@ -11,9 +11,9 @@ use crate::sheet::{Procedure, Sheet, SheetBuilder};
 
 pub const VALUES: Family = Family {
     name: "numbers",
-    count: || boundaries().len() * 2 * (WAYS.len() + SECONDS.len()),
+    count: |_| boundaries().len() * 2 * (WAYS.len() + SECONDS.len()),
     bound: number_on_its_way,
-    due,
+    due: |_| due(),
 };
 
 #[derive(Clone, Copy)]
@@ -54,7 +54,7 @@ fn number_on_its_way(turns: &mut Turns) -> Bound {
         second => Way::Computed(SECONDS[second - WAYS.len()]),
     };
     let taken = turns.of(2) == 0;
-    let mut run = lent(sheet(value, way, taken));
+    let mut run = turns.lent(sheet(value, way, taken));
     if taken {
         run.input.push(value);
     }

@@ -4,15 +4,15 @@
 
 use super::levels::{sheet, Types, Use, AMEND, FIRST, READ, SECOND, USES};
 use super::structures::{named_sheet, Structure};
-use super::{bound, lent, seen, Bound, Family, Seen, Turns};
+use super::{bound, seen, Bound, Family, Seen, Turns};
 use crate::records::{QualifiedRecord, ARRAY_ALL, FETCH, SIZE, STORE};
 use crate::typing::Movement;
 
 pub const WIDENED: Family = Family {
     name: "widened",
-    count: || 2 * USES.len() * pairs().len(),
+    count: |_| 2 * USES.len() * pairs().len(),
     bound: pair_in_use,
-    due: || {
+    due: |_| {
         let outside = (1..=PATTERNS).flat_map(due_outside);
         let depths = DEPTHS.into_iter().flat_map(due_of);
         outside.chain(depths).collect()
@@ -21,9 +21,9 @@ pub const WIDENED: Family = Family {
 
 pub const WIDENED_NAMES: Family = Family {
     name: "widened of ?R",
-    count: || 2 * SETTLED.len() * named_pairs().len(),
+    count: |_| 2 * SETTLED.len() * named_pairs().len(),
     bound: named_pair,
-    due: || NAMED_DEPTHS.into_iter().flat_map(named_due_of).collect(),
+    due: |_| NAMED_DEPTHS.into_iter().flat_map(named_due_of).collect(),
 };
 
 /// Every pattern of store, up to 4 levels; the deepest pairs of a sheet.
@@ -87,7 +87,7 @@ impl Pair {
     }
 
     /// The rights of both in a level; the innermost is the last.
-    fn rights(&self, level: usize) -> [u16; 2] {
+    fn rights(&self, level: usize) -> [u32; 2] {
         [&self.source, &self.destination].map(|all| match all.arrays.get(level) {
             Some(&rights) => rights,
             None => all.innermost.rights,
@@ -173,12 +173,12 @@ pub(super) fn watch_number(movement: Movement) -> u8 {
     }
 }
 
-pub(super) fn record(rights: u16) -> QualifiedRecord {
+pub(super) fn record(rights: u32) -> QualifiedRecord {
     QualifiedRecord::record(FIRST, rights)
 }
 
 /// The rights of arrays, with store in the levels whose bits are set.
-pub(super) fn arrays(depth: usize, stores: u32) -> Vec<u16> {
+pub(super) fn arrays(depth: usize, stores: u32) -> Vec<u32> {
     let rights = |level: usize| match stores >> level & 1 {
         0 => FETCH | SIZE,
         _ => ARRAY_ALL,
@@ -273,12 +273,12 @@ fn pair_in_use(turns: &mut Turns) -> Bound {
     };
     let at = at(pair.source.depth(), pair.decides());
     let due = seen(at, check, watch_number(movement));
-    bound(lent(sheet(user, types)), due)
+    bound(turns.lent(sheet(user, types)), due)
 }
 
 /// The least set of ?R, and the sets that the calls settle.
-const LEAST: u16 = READ;
-const SETTLED: [u16; 2] = [READ, READ | AMEND];
+const LEAST: u32 = READ;
+const SETTLED: [u32; 2] = [READ, READ | AMEND];
 
 /// ?R innermost in one or in both.
 fn named_pairs() -> Vec<Pair> {
@@ -326,5 +326,5 @@ fn named_pair(turns: &mut Turns) -> Bound {
     let watch = watch_number(watched.movement());
     let at = at(pair.source.depth(), pair.decides());
     let sheet = named_sheet(&pair.source, &pair.destination, settled);
-    bound(lent(sheet), seen(at, check, watch))
+    bound(turns.lent(sheet), seen(at, check, watch))
 }

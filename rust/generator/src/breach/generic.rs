@@ -178,9 +178,10 @@ fn bound_field(mut kit: Kit, random: &mut Random, flaw: GenericFlaw) -> Breach {
     let types = kit.sheet.types.len() as u8;
     let strange = [0, 1, types + 2, types + 3, 128, 255][random.below(6)];
     let named_rights = kit.sheet.types[usize::from(kit.subject) - 2].named_rights;
-    let right = match named_rights {
-        15 => OPEN,
-        named => 1 << random.between(usize::from(named) + 1, 15),
+    let most = kit.sheet.edition().most_named_rights();
+    let right = match usize::from(named_rights) {
+        named if named == most => OPEN,
+        named => 1 << random.between(named + 1, most),
     };
     kit.breach(5, At::Bound(number), |sheet| {
         if let Some(bound) = &mut sheet.procedures[number].bound {
@@ -195,7 +196,7 @@ fn bound_field(mut kit: Kit, random: &mut Random, flaw: GenericFlaw) -> Breach {
 
 fn qualified_field(kit: Kit, random: &mut Random, flaw: GenericFlaw) -> Breach {
     let generic = usize::from(kit.generic[0]);
-    let rights = 1 << random.below(16);
+    let rights = 1 << random.between(0, kit.sheet.edition().most_named_rights());
     let element = random.below(255) as u8;
     kit.breach(5, At::Qualified(generic), |sheet| match flaw {
         GenericFlaw::Rights => sheet.qualified[generic].rights = rights,

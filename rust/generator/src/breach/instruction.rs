@@ -54,7 +54,7 @@ fn sound(kit: &Kit, random: &mut Random, code: u8, owner: u8) -> Sound {
 }
 
 /// A type of the base with the rights.
-fn record(kit: &Kit, random: &mut Random, base: u8, rights: u16) -> u8 {
+fn record(kit: &Kit, random: &mut Random, base: u8, rights: u32) -> u8 {
     kit.pick(random, |kit, number| {
         let record = kit.typing.get(number);
         record.base == base && record.rights & rights == rights

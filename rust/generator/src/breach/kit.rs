@@ -7,8 +7,10 @@ use crate::random::Random;
 use crate::records::{
     InstructionRecord, QualifiedRecord, TypeRecord, ARRAY_ALL, FETCH, NONE, OPEN,
 };
+use crate::second_edition::EDGES;
 use crate::sheet::{At, Procedure, Sheet};
 use crate::typing::Typing;
+use reference::Edition;
 
 /// What remains free for the kit's own records.
 const ROOM: Room = Room {
@@ -30,19 +32,17 @@ pub struct Kit {
     /// ?R, an array of it and an array of arrays, each with all rights.
     pub generic: [u8; 3],
     /// The two rights of the subject that the kit's types have.
-    pub low: u16,
-    pub high: u16,
+    pub low: u32,
+    pub high: u32,
 }
 
 impl Kit {
     pub fn new(random: &mut Random) -> Self {
         let mut sheet = accepted_within(random, ROOM);
         let subject = sheet.types.len() as u8 + 2;
-        let most = random.between(2, 15) as u8;
-        sheet.types.push(TypeRecord::new(most, &[]));
-        sheet.types.push(TypeRecord::new(most, &[]));
-        let low = random.between(1, usize::from(most) - 1);
-        let high = random.between(low + 1, usize::from(most));
+        let [most, low, high] = some_rights(random, sheet.edition());
+        sheet.types.push(TypeRecord::new(most as u8, &[]));
+        sheet.types.push(TypeRecord::new(most as u8, &[]));
         let first = sheet.qualified.len() as u8;
         sheet
             .qualified
@@ -167,10 +167,25 @@ impl Kit {
     }
 }
 
+/// How many rights a type names, and two of them; in edition 2 mostly rights at
+/// the edges.
+fn some_rights(random: &mut Random, edition: Edition) -> [usize; 3] {
+    let largest = edition.most_named_rights();
+    if edition == Edition::Second && !random.one_in(3) {
+        let first = random.below(EDGES.len());
+        let second = (first + random.between(1, EDGES.len() - 1)) % EDGES.len();
+        let [low, high] = [first, second].map(|edge| EDGES[edge]);
+        return [random.between(low.max(high), largest), low, high];
+    }
+    let most = random.between(2, largest);
+    let low = random.between(1, most - 1);
+    [most, low, random.between(low + 1, most)]
+}
+
 /// Types of every kind for a subject, the type after it and two named rights.
-fn qualified_types(first: u8, subject: u8, low: u16, high: u16) -> Vec<QualifiedRecord> {
+fn qualified_types(first: u8, subject: u8, low: u32, high: u32) -> Vec<QualifiedRecord> {
     let record = QualifiedRecord::record;
-    let array = |place: u8, rights: u16| QualifiedRecord::array(first + place, rights);
+    let array = |place: u8, rights: u32| QualifiedRecord::array(first + place, rights);
     let mut all = vec![
         QualifiedRecord::INTEGER,           // 0
         record(subject, 0),                 // 1

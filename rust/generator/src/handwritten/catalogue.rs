@@ -11,8 +11,8 @@ use crate::sheet::{Procedure, Sheet, SheetBuilder};
 
 pub const CALL: u8 = 2;
 pub const HORSE: u8 = 3;
-pub const READ: u16 = 1 << 1;
-pub const AMEND: u16 = 1 << 2;
+pub const READ: u32 = 1 << 1;
+pub const AMEND: u32 = 1 << 2;
 
 pub const INT: u8 = 0;
 pub const CALL_NONE: u8 = 1;

@@ -66,7 +66,7 @@ pub(super) const HORSE_READ: QualifiedRecord = of(3, 2);
 const INTS: QualifiedRecord = array(ARRAY_ALL);
 const INTS_FETCH: QualifiedRecord = array(FETCH);
 
-const fn of(base: u8, rights: u16) -> QualifiedRecord {
+const fn of(base: u8, rights: u32) -> QualifiedRecord {
     QualifiedRecord {
         base,
         rights,
@@ -74,7 +74,7 @@ const fn of(base: u8, rights: u16) -> QualifiedRecord {
     }
 }
 
-const fn array(rights: u16) -> QualifiedRecord {
+const fn array(rights: u32) -> QualifiedRecord {
     QualifiedRecord {
         base: 1,
         rights,

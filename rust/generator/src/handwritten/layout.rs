@@ -114,10 +114,12 @@ fn mark_cases() -> Vec<Case> {
 
 #[rustfmt::skip]
 fn header_cases() -> Vec<Case> {
-    let edition = "edition = 1";
+    let edition = "Refusal 4 then means neither 1 nor 2";
     vec![
         case("edition 0", edition, with(&[(2, 0)]), refused(4, 0)),
-        case("edition 2", edition, with(&[(2, 2)]), refused(4, 0)),
+        // A QT of edition 2 has more bytes, so that the integer gets rights.
+        case("edition 2", edition, with(&[(2, 2)]), refused(5, 18)),
+        case("edition 3", edition, with(&[(2, 3)]), refused(4, 0)),
         case("33 types", "types t 0..32", with(&[(3, 33)]), refused(5, 0)),
         case("65 qualified types", "qualified types q 0..64", with(&[(4, 65)]), refused(5, 0)),
         case("no procedure", "procedures p 1..64", with(&[(5, 0)]), refused(5, 0)),

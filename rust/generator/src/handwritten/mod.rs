@@ -3,6 +3,7 @@
 
 mod catalogue;
 mod depths;
+mod editions;
 mod forms;
 mod generics;
 mod kinds;
@@ -42,6 +43,7 @@ pub fn cases() -> Vec<Case> {
     all.extend(generics::cases());
     all.extend(structures::cases());
     all.extend(widened::cases());
+    all.extend(editions::cases());
     all
 }
 

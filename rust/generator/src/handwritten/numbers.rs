@@ -19,7 +19,7 @@ pub fn cases() -> Vec<Case> {
     all
 }
 
-const READ: u16 = 1 << 1;
+const READ: u32 = 1 << 1;
 
 /// 32 types, so that they end at 390, with right 1 and a slot of an integer.
 /// Then the integer, and the two types given with read, without any right, and
@@ -183,8 +183,8 @@ fn module(variables: &[u8], instruction: InstructionRecord) -> Vec<u8> {
         .record_type(15, &[0, 0, 0, 0, 0, 0, 0, 1])
         .integer()
         .record(2, last)
-        .record(2, !(OPEN | last))
-        .record(2, u16::MAX)
+        .record(2, 0xfffe & !last)
+        .record(2, 0xffff)
         .record(2, 0)
         .procedure(Procedure::main().body(&[leave()]))
         .procedure(

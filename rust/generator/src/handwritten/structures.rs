@@ -12,7 +12,7 @@ const VERDICT: &str = "Same verdict for every pair, also of unequal depth";
 
 /// The rights of arrays in each other, the outermost first, and the innermost
 /// type.
-pub(super) type Structure = (&'static [u16], QualifiedRecord);
+pub(super) type Structure = (&'static [u32], QualifiedRecord);
 
 const NAME: QualifiedRecord = QualifiedRecord::GENERIC;
 

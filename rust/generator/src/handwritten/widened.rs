@@ -19,7 +19,7 @@ const NEED: &str = "need and inner are equal, in the sense given for elements";
 const NAMES: &str = "?R ≥ any subset of the least set on that base, and nothing else reaches ?R";
 const SETTLES: &str = "A call settles ?R from the declared type of each actual whose need uses it";
 
-const FS: u16 = F | STORE;
+const FS: u32 = F | STORE;
 const NAME: QualifiedRecord = QualifiedRecord::GENERIC;
 const CALL_NONE: QualifiedRecord = QualifiedRecord {
     base: 2,
@@ -41,9 +41,9 @@ pub fn cases() -> Vec<Case> {
 /// Arrays of records; the bind stands at 76.
 #[rustfmt::skip]
 fn one_level_cases() -> Vec<Case> {
-    let both = |rights: &'static [u16]| (rights, CALL_BOTH);
-    let read = |rights: &'static [u16]| (rights, CALL_READ);
-    let none = |rights: &'static [u16]| (rights, CALL_NONE);
+    let both = |rights: &'static [u32]| (rights, CALL_BOTH);
+    let read = |rights: &'static [u32]| (rights, CALL_READ);
+    let none = |rights: &'static [u32]| (rights, CALL_NONE);
     vec![
         case("widened, the source without store", WIDER, bound([both(&[F]), read(&[F])]), ACCEPTED),
         case("widened, the source with store", WIDER, bound([both(&[FS]), read(&[F])]), ACCEPTED),
@@ -67,8 +67,8 @@ fn one_level_cases() -> Vec<Case> {
 /// K5 to K7 over arrays of arrays; the bind stands at 88.
 #[rustfmt::skip]
 fn two_level_cases() -> Vec<Case> {
-    let both = |rights: &'static [u16]| (rights, CALL_BOTH);
-    let read = |rights: &'static [u16]| (rights, CALL_READ);
+    let both = |rights: &'static [u32]| (rights, CALL_BOTH);
+    let read = |rights: &'static [u32]| (rights, CALL_READ);
     vec![
         case("K5 over arrays, store given up outside", WIDER, bound([read(&[FS, FS]), read(&[F, FS])]), ACCEPTED),
         case("K5 over arrays, store given up in both", WIDER, bound([read(&[FS, FS]), read(&[F, F])]), ACCEPTED),
@@ -94,8 +94,8 @@ fn two_level_cases() -> Vec<Case> {
 /// Store in one of three levels; the bind stands at 100.
 #[rustfmt::skip]
 fn three_level_cases() -> Vec<Case> {
-    let both = |rights: &'static [u16]| (rights, CALL_BOTH);
-    let read = |rights: &'static [u16]| (rights, CALL_READ);
+    let both = |rights: &'static [u32]| (rights, CALL_BOTH);
+    let read = |rights: &'static [u32]| (rights, CALL_READ);
     vec![
         case("widened in the third level", WIDER, bound([both(&[FS, FS, FS]), read(&[F, F, F])]), ACCEPTED),
         case("store in the first of three levels", WIDER, bound([both(&[FS, F, F]), read(&[FS, F, F])]), refused(8, 100)),
@@ -109,8 +109,8 @@ fn three_level_cases() -> Vec<Case> {
 /// The formal stands at 84, over arrays of arrays at 96.
 #[rustfmt::skip]
 fn need_cases() -> Vec<Case> {
-    let both = |rights: &'static [u16]| (rights, CALL_BOTH);
-    let read = |rights: &'static [u16]| (rights, CALL_READ);
+    let both = |rights: &'static [u32]| (rights, CALL_BOTH);
+    let read = |rights: &'static [u32]| (rights, CALL_READ);
     vec![
         case("need of more rights, without store", NEED, needed([both(&[F]), read(&[F])]), refused(7, 84)),
         case("need of fewer rights, without store", NEED, needed([read(&[F]), both(&[F])]), refused(7, 84)),
@@ -124,8 +124,8 @@ fn need_cases() -> Vec<Case> {
 /// of arrays at 109.
 #[rustfmt::skip]
 fn named_cases() -> Vec<Case> {
-    let name = |rights: &'static [u16]| -> Structure { (rights, NAME) };
-    let read = |rights: &'static [u16]| (rights, CALL_READ);
+    let name = |rights: &'static [u32]| -> Structure { (rights, NAME) };
+    let read = |rights: &'static [u32]| (rights, CALL_READ);
     vec![
         case("?R widened to its least set", NAMES, named([name(&[F]), read(&[F])]), ACCEPTED),
         case("?R widened to less than its least set", NAMES, named([name(&[FS]), (&[F], CALL_NONE)]), ACCEPTED),

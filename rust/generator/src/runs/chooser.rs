@@ -88,12 +88,12 @@ impl<'a> Chooser<'a> {
         free.unwrap_or(self.control(CONTROL as u8 - 1))
     }
 
-    pub fn array(&mut self, rights: u16) -> Option<u8> {
+    pub fn array(&mut self, rights: u32) -> Option<u8> {
         self.variable(|typing, inner| typing.is_array_with(inner, rights))
     }
 
     /// A variable of the owner's type with the rights.
-    pub fn owned(&mut self, rights: u16) -> Option<u8> {
+    pub fn owned(&mut self, rights: u32) -> Option<u8> {
         let owner = self.procedure().head.owner;
         self.variable(|typing, inner| {
             let record = typing.get(inner);

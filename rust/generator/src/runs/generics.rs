@@ -2,7 +2,7 @@
 
 use super::program::Author;
 use crate::reading::{Leaf, Scope};
-use crate::records::{BoundRecord, QualifiedRecord, ARRAY_ALL, FETCH, GENERIC};
+use crate::records::{named_rights, BoundRecord, QualifiedRecord, ARRAY_ALL, FETCH, GENERIC};
 use crate::sheet::Procedure;
 
 const MAX_QUALIFIED: usize = 64;
@@ -24,9 +24,8 @@ impl Author<'_> {
     /// A rights name, for half of the workers if there are any.
     pub(super) fn bound(&mut self) -> Option<BoundRecord> {
         let base = self.generic_base?;
-        let named_rights = self.sheet.types[usize::from(base) - 2].named_rights;
-        let named = ((1u32 << (u32::from(named_rights) + 1)) - 2) as u16;
-        let least = self.random.word() as u16 & self.random.word() as u16 & named;
+        let named = named_rights(self.sheet.types[usize::from(base) - 2].named_rights);
+        let least = self.random.word() as u32 & self.random.word() as u32 & named;
         (!self.random.one_in(3)).then_some(BoundRecord { base, least })
     }
 

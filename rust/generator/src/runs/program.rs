@@ -11,8 +11,10 @@ use super::writer::{Plan, Writer};
 use crate::random::Random;
 use crate::reading::Scope;
 use crate::records::{
-    BoundRecord, QualifiedRecord, TypeRecord, VariableRecord, ARRAY_ALL, FETCH, NONE, OPEN, SIZE,
+    named_rights, BoundRecord, QualifiedRecord, TypeRecord, VariableRecord, ARRAY_ALL, FETCH, NONE,
+    OPEN, SIZE,
 };
+use crate::second_edition::in_either_edition;
 use crate::sheet::{Procedure, Sheet, SheetBuilder};
 use crate::typing::Typing;
 
@@ -37,8 +39,7 @@ pub fn runnable(random: &mut Random) -> Sheet {
     }
     let plans = author.plan_all();
     author.write_bodies(&plans);
-    author.sheet.seal();
-    author.sheet
+    author.finished()
 }
 
 pub(super) struct Author<'a> {
@@ -73,6 +74,13 @@ impl<'a> Author<'a> {
         author
     }
 
+    /// The sheet, in either edition.
+    pub fn finished(mut self) -> Sheet {
+        self.sheet.seal();
+        in_either_edition(self.random, &mut self.sheet);
+        self.sheet
+    }
+
     /// Adds a qualified type and gives its number.
     pub fn add(&mut self, record: QualifiedRecord) -> u8 {
         self.sheet.qualified.push(record);
@@ -88,9 +96,9 @@ impl<'a> Author<'a> {
         } else {
             self.random.between(1, 3)
         };
-        let named = ((1u32 << (rights + 1)) - 2) as u16;
+        let named = named_rights(rights as u8);
         self.sheet.types.push(TypeRecord::new(rights as u8, &[]));
-        let some = self.random.word() as u16 & named;
+        let some = self.random.word() as u32 & named;
         for rights in [named, named | OPEN, some, some | OPEN, 0, 1 << 1] {
             self.add(QualifiedRecord::record(base, rights));
         }
@@ -104,7 +112,7 @@ impl<'a> Author<'a> {
             _ => element,
         };
         let rights = match self.random.below(3) {
-            0 => self.random.word() as u16 & ARRAY_ALL,
+            0 => self.random.word() as u32 & ARRAY_ALL,
             _ => ARRAY_ALL,
         };
         self.add(QualifiedRecord::array(element, rights));

@@ -31,8 +31,7 @@ pub fn settling(random: &mut Random) -> Sheet {
     let trial = author.chance_call(caller, relay + 1);
     let lead = by_relay.then(|| author.sound_call(relay));
     author.write_all(relay, caller, trial, lead);
-    author.sheet.seal();
-    author.sheet
+    author.finished()
 }
 
 impl Author<'_> {
@@ -83,7 +82,7 @@ impl Author<'_> {
         let records = self.typing.all().map(|number| self.typing.get(number));
         let records = records.filter(|record| record.base == base);
         let records = records.filter(|record| record.rights & OPEN == 0 || head.owner == base);
-        let rights: Vec<u16> = records.map(|record| record.rights).collect();
+        let rights: Vec<u32> = records.map(|record| record.rights).collect();
         let rights = self.random.pick(&rights)?;
         Some(Leaf::Record { base, rights })
     }

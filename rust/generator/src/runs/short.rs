@@ -3,7 +3,7 @@
 //!
 //! A sheet begins as a main that calls a maker, beside a worker; then it grows
 //! by instructions drawn at random, each of which stays if the sheet is still
-//! accepted, still ends, and still short.
+//! accepted, still ends, and still short. Edition 2 has a family of its own.
 
 use super::Run;
 use crate::operations::{
@@ -11,6 +11,7 @@ use crate::operations::{
 };
 use crate::random::Random;
 use crate::records::{InstructionRecord, ARRAY_ALL, FETCH, NONE, OPEN};
+use crate::second_edition::into_second_edition;
 use crate::sheet::{Procedure, Sheet, SheetBuilder};
 use reference::machine::{accepted, watched};
 use reference::Stop;
@@ -21,8 +22,8 @@ const MOST_STEPS: u64 = 18;
 const DRAWN: usize = 100;
 
 const CALL: u8 = 2;
-const READ: u16 = 1 << 1;
-const AMEND: u16 = 1 << 2;
+const READ: u32 = 1 << 1;
+const AMEND: u32 = 1 << 2;
 
 const INT: u8 = 0;
 const BOTH: u8 = 1;
@@ -32,8 +33,19 @@ const ARRAY: u8 = 4;
 const READER: u8 = 5;
 const GENERIC: u8 = 6;
 
-/// A short sheet and what it is run with.
+/// A short sheet of edition 1 and what it is run with.
 pub fn short(random: &mut Random) -> Run {
+    lent(&grown(random))
+}
+
+/// A short sheet of edition 2 and what it is run with.
+pub fn short_in_second_edition(random: &mut Random) -> Run {
+    let mut sheet = grown(random);
+    into_second_edition(random, &mut sheet);
+    lent(&sheet)
+}
+
+fn grown(random: &mut Random) -> Sheet {
     let mut sheet = beginning(random);
     for _ in 0..DRAWN {
         let longer = longer(random, &sheet);
@@ -41,7 +53,7 @@ pub fn short(random: &mut Random) -> Run {
             sheet = longer;
         }
     }
-    lent(&sheet)
+    sheet
 }
 
 fn lent(sheet: &Sheet) -> Run {

@@ -3,7 +3,7 @@
 
 use reference::machine::watched::{Failure, Phase};
 use reference::machine::{Ended, Outcome, Stop};
-use std::collections::BTreeMap;
+use std::collections::{BTreeMap, BTreeSet};
 use std::fmt::Debug;
 
 /// A stop at a code: by a test, or by none (11 and 12); no code stands for 17
@@ -56,6 +56,11 @@ const REFUSED: [(Failure, &[u8]); 7] = [
     ),
     (MOVED_RIGHT, &[6, 10, 11, 14, 15, 16, 17]),
 ];
+
+/// The tests that compare sets of rights.
+pub fn stops_by_sets() -> BTreeSet<Failure> {
+    BTreeSet::from([UNSETTLED, SHORT, MOVED_KIND, MOVED_RIGHT])
+}
 
 fn sites(tests: &[(Failure, &[u8])]) -> Vec<Site> {
     tests
@@ -193,9 +198,14 @@ impl Coverage {
     /// What should have come up and has not, and what has come up and is not
     /// possible.
     pub fn faults(&self, sites: &[Site], orders: &[Order]) -> Vec<String> {
-        let mut faults = differences(sites, &self.sites);
+        let mut faults = self.site_faults(sites);
         faults.extend(differences(orders, &self.orders));
         faults
+    }
+
+    /// The same of the stops alone.
+    pub fn site_faults(&self, sites: &[Site]) -> Vec<String> {
+        differences(sites, &self.sites)
     }
 }
 

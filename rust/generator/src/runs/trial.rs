@@ -37,8 +37,7 @@ pub fn trial(random: &mut Random, code: u8) -> Sheet {
     for (body_of, body) in author.bodies(number, arguments, operands) {
         author.sheet.procedures[body_of].instructions = body;
     }
-    author.sheet.seal();
-    author.sheet
+    author.finished()
 }
 
 /// The instruction on trial and its operands, which are consecutive variables;

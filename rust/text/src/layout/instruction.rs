@@ -7,10 +7,10 @@ use crate::mnemonic::{Mnemonic, Piece};
 /// What an instruction may name in its procedure.
 #[derive(Clone)]
 pub struct Scope {
-    pub variables: u16,
-    pub instructions: u16,
+    pub variables: u32,
+    pub instructions: u32,
     /// The slots of the owner's type, if there is an owner.
-    pub owner_slots: Option<u16>,
+    pub owner_slots: Option<u32>,
     pub is_last: bool,
 }
 
@@ -47,7 +47,7 @@ pub fn instruction_limits(limits: &mut Limits, scope: &Scope) {
 }
 
 /// Whether the field a of a call or a return names a variable.
-fn may_name(mnemonic: &Mnemonic, field: Field, value: u16) -> bool {
+fn may_name(mnemonic: &Mnemonic, field: Field, value: u32) -> bool {
     let maybe = matches!(mnemonic.pieces, [Piece::Call] | [Piece::MaybeA]);
     maybe && field == Field::A && value != UNUSED
 }
@@ -72,13 +72,13 @@ fn constant_limit(limits: &mut Limits, mnemonic: &Mnemonic, scope: &Scope) {
 
 /// Asks of a call what waits for the procedure called, by the formals of all
 /// procedures.
-pub fn call_limits(limits: &mut Limits, scope: &Scope, formals: &[u16]) {
+pub fn call_limits(limits: &mut Limits, scope: &Scope, formals: &[u32]) {
     if limits.value(Field::Code) != 16 {
         return;
     }
-    limits.below(Field::K, "k, a procedure", formals.len() as u16);
+    limits.below(Field::K, "k, a procedure", formals.len() as u32);
     let (first, callee) = (limits.value(Field::B), limits.value(Field::K));
-    let Some(&formals) = formals.get(usize::from(callee)) else {
+    let Some(&formals) = formals.get(callee as usize) else {
         return;
     };
     let variables = scope.variables;

@@ -5,40 +5,41 @@ use super::instruction::{instruction_limits, Scope};
 use crate::field::Field;
 use crate::record::{Record, NAME_BASE};
 use reference::layout::{
-    MAX_FORMALS, MAX_INSTRUCTIONS, MAX_NAMED_RIGHTS, MAX_PROCEDURES, MAX_QUALIFIED, MAX_SLOTS,
-    MAX_TYPES, MAX_VARIABLES, NONE,
+    MAX_FORMALS, MAX_INSTRUCTIONS, MAX_PROCEDURES, MAX_QUALIFIED, MAX_SLOTS, MAX_TYPES,
+    MAX_VARIABLES, NONE,
 };
+use reference::Edition;
 
 /// What the records before a record say about its limits.
 #[derive(Clone)]
 pub enum Context {
     Header,
     Type {
-        qualified: u16,
+        qualified: u32,
     },
     Qualified {
-        number: u16,
+        number: u32,
         /// The named rights of each type.
-        named_rights: Vec<u16>,
+        named_rights: Vec<u32>,
     },
     Procedure {
         is_main: bool,
-        types: u16,
-        qualified: u16,
+        types: u32,
+        qualified: u32,
     },
     Name {
         /// The named rights of each type.
-        named_rights: Vec<u16>,
+        named_rights: Vec<u32>,
     },
     Variable {
         is_formal: bool,
-        qualified: u16,
+        qualified: u32,
     },
     Instruction(Scope),
 }
 
 /// The value of a field that names nothing.
-pub const UNUSED: u16 = NONE as u16;
+pub const UNUSED: u32 = NONE as u32;
 
 /// A field out of range, in words.
 pub struct Excess {
@@ -49,18 +50,20 @@ pub struct Excess {
 /// Asks one limit of a record after the other and keeps what exceeds them.
 pub struct Limits<'a> {
     record: &'a Record,
+    edition: Edition,
     pub exceeded: Vec<Excess>,
 }
 
 impl<'a> Limits<'a> {
-    pub fn of(record: &'a Record) -> Self {
+    pub fn of(record: &'a Record, edition: Edition) -> Self {
         Limits {
             record,
+            edition,
             exceeded: Vec::new(),
         }
     }
 
-    pub fn value(&self, field: Field) -> u16 {
+    pub fn value(&self, field: Field) -> u32 {
         self.record.value(field).unwrap_or_default()
     }
 
@@ -73,13 +76,13 @@ impl<'a> Limits<'a> {
     /// A count from the least to the most.
     pub fn count(&mut self, field: Field, what: &str, least: usize, most: usize) {
         let value = self.value(field);
-        let holds = (least..=most).contains(&usize::from(value));
+        let holds = (least..=most).contains(&(value as usize));
         let words = format!("{what}: {value}, it must be from {least} to {most}");
         self.require(field, holds, words);
     }
 
     /// The number of something of which there are so many.
-    pub fn below(&mut self, field: Field, what: &str, most: u16) {
+    pub fn below(&mut self, field: Field, what: &str, most: u32) {
         let value = self.value(field);
         let words = format!("{what}: {value}, it must be below {most}");
         self.require(field, value < most, words);
@@ -124,11 +127,10 @@ impl<'a> Limits<'a> {
         }
     }
 
-    fn ask_type(&mut self, qualified: u16) {
-        let rights = Field::NamedRights;
-        self.count(rights, "named rights", 0, MAX_NAMED_RIGHTS);
+    fn ask_type(&mut self, qualified: u32) {
+        self.ask_named_rights();
         self.count(Field::SlotCount, "slots", 0, MAX_SLOTS);
-        let slots = usize::from(self.value(Field::SlotCount));
+        let slots = self.value(Field::SlotCount) as usize;
         for slot in 0..MAX_SLOTS {
             let field = Field::Slot(slot);
             match slot < slots {
@@ -141,13 +143,33 @@ impl<'a> Limits<'a> {
         }
     }
 
-    fn ask_qualified(&mut self, number: u16, named_rights: &[u16]) {
+    /// Their limit is the edition's.
+    fn ask_named_rights(&mut self) {
+        let count = self.value(Field::NamedRights) as usize;
+        let limit = |edition: Edition| (edition.number(), edition.most_named_rights());
+        let ((edition, most), (second, allowed)) = (limit(self.edition), limit(Edition::Second));
+        let words =
+            format!("named rights: {count}, in edition {edition} it must be from 0 to {most}");
+        let words = match count <= allowed {
+            true => format!("{words}; edition {second} allows {allowed}"),
+            false => words,
+        };
+        self.require(Field::NamedRights, count <= most, words);
+    }
+
+    /// A set of rights as it stands, a digit for each.
+    fn set(&self, field: Field) -> String {
+        let digits = 8 * field.width(self.edition);
+        format!("0b{:0digits$b}", self.value(field))
+    }
+
+    fn ask_qualified(&mut self, number: u32, named_rights: &[u32]) {
         let base = self.value(Field::Base);
         let rights = self.value(Field::Rights);
         if base != NAME_BASE {
-            self.below(Field::Base, "base, a type", named_rights.len() as u16 + 2);
+            self.below(Field::Base, "base, a type", named_rights.len() as u32 + 2);
         }
-        let (allowed, whose) = match usize::from(base) {
+        let (allowed, whose) = match base as usize {
             0 => (0, String::from("an integer has no rights")),
             255 => (0, String::from("?R has its rights from a call")),
             1 => (
@@ -160,7 +182,7 @@ impl<'a> Limits<'a> {
                 (rights_to(named), whose)
             }
         };
-        let words = format!("rights: {rights:#018b}, and {whose}");
+        let words = format!("rights: {}, and {whose}", self.set(Field::Rights));
         self.require(Field::Rights, rights & !allowed == 0, words);
         match base {
             1 => {
@@ -172,7 +194,7 @@ impl<'a> Limits<'a> {
     }
 
     /// A declared type, and of its rights those that it names.
-    fn ask_name(&mut self, named_rights: &[u16]) {
+    fn ask_name(&mut self, named_rights: &[u32]) {
         let (base, least) = (self.value(Field::Base), self.value(Field::Least));
         let last = named_rights.len() + 1;
         let words = format!("base of ?R: {base}, it must be a declared type");
@@ -180,20 +202,19 @@ impl<'a> Limits<'a> {
             1 => format!("{words}, and there is none"),
             _ => format!("{words}, from 2 to {last}"),
         };
-        let number = usize::from(base).checked_sub(2);
-        let named = number.and_then(|number| named_rights.get(number));
+        let number = base.checked_sub(2);
+        let named = number.and_then(|number| named_rights.get(number as usize));
         self.require(Field::Base, named.is_some(), words);
         let named = named.copied().unwrap_or(0);
-        let words =
-            format!("least set of ?R: {least:#018b}, and open, right 0, is none of its rights");
+        let set = self.set(Field::Least);
+        let words = format!("least set of ?R: {set}, and open, right 0, is none of its rights");
         self.require(Field::Least, least & 1 == 0, words);
-        let words = format!(
-            "least set of ?R: {least:#018b}, and type {base} names the rights 1 to {named}"
-        );
+        let words =
+            format!("least set of ?R: {set}, and type {base} names the rights 1 to {named}");
         self.require(Field::Least, least & !rights_to(named) == 0, words);
     }
 
-    fn ask_procedure(&mut self, is_main: bool, types: u16, qualified: u16) {
+    fn ask_procedure(&mut self, is_main: bool, types: u32, qualified: u32) {
         let (owner, formals) = (self.value(Field::Owner), self.value(Field::Formals));
         let result = self.value(Field::Result);
         let last = types + 1;
@@ -201,7 +222,7 @@ impl<'a> Limits<'a> {
         let is_type = (2..=last).contains(&owner);
         self.require(Field::Owner, owner == 0 || is_type, words);
         self.count(Field::Formals, "formals", 0, MAX_FORMALS);
-        let least = usize::from(formals);
+        let least = formals as usize;
         let what = "variables, formals included";
         self.count(Field::Variables, what, least, MAX_VARIABLES);
         let words =
@@ -220,7 +241,7 @@ impl<'a> Limits<'a> {
     }
 }
 
-/// Bits 0 to named, of which there are at most 16.
-fn rights_to(named: u16) -> u16 {
-    u16::MAX >> (15 - named.min(15))
+/// Bits 0 to named, of which there are at most 32.
+fn rights_to(named: u32) -> u32 {
+    u32::MAX >> (31 - named.min(31))
 }

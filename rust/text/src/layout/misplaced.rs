@@ -35,7 +35,7 @@ impl Misplaced {
             return None;
         }
         fields(found).into_iter().find_map(|field| {
-            let number = usize::from(found.record.value(field)?);
+            let number = found.record.value(field)? as usize;
             let uses = self.uses.get(number).copied().unwrap_or(false);
             uses.then_some((field, number))
         })
@@ -45,10 +45,10 @@ impl Misplaced {
 /// Whether a QT is ?R, or a tray whose element, one of those before it, uses
 /// ?R.
 fn is_used(found: &Found, before: &[bool]) -> bool {
-    let value = |field| found.record.value(field).map_or(0, usize::from);
-    match value(Field::Base) {
-        base if base == usize::from(NAME_BASE) => true,
-        1 => before.get(value(Field::Element)).copied().unwrap_or(false),
+    let element = found.record.number(Field::Element);
+    match found.record.value(Field::Base) {
+        Some(NAME_BASE) => true,
+        Some(1) => before.get(element).copied().unwrap_or(false),
         _ => false,
     }
 }
@@ -57,8 +57,8 @@ fn is_used(found: &Found, before: &[bool]) -> bool {
 fn fields(found: &Found) -> Vec<Field> {
     match found.record.kind {
         RecordKind::Type => {
-            let slots = found.record.value(Field::SlotCount);
-            (0..slots.map_or(0, usize::from)).map(Field::Slot).collect()
+            let slots = found.record.number(Field::SlotCount);
+            (0..slots).map(Field::Slot).collect()
         }
         RecordKind::Procedure => vec![Field::Result],
         RecordKind::Variable => vec![Field::Inner, Field::Need],

@@ -8,10 +8,11 @@ mod misplaced;
 pub use limits::{Context, Excess, Limits};
 pub use misplaced::Misplaced;
 
+use crate::edition;
 use crate::field::Field;
 use crate::record::{Record, RecordKind};
 use instruction::{call_limits, Scope};
-use reference::MAX_SHEET;
+use reference::{Edition, MAX_SHEET};
 
 /// A record that stands where one of its kind is due.
 pub struct Found {
@@ -24,6 +25,8 @@ pub struct Found {
 
 /// The records of a sheet, as far as each is the one due and whole.
 pub struct Walk {
+    /// The edition that its records are read by.
+    pub edition: Edition,
     pub found: Vec<Found>,
     /// Where the walk ended, and the kind of record due there.
     pub end: usize,
@@ -31,12 +34,13 @@ pub struct Walk {
     /// The procedure that is read.
     procedure: Option<usize>,
     /// How many formals each procedure has.
-    formals: Vec<u16>,
+    formals: Vec<u32>,
 }
 
 /// Reads the records that the header and the procedures announce.
 pub fn walk(sheet: &[u8]) -> Walk {
     let mut walk = Walk {
+        edition: edition::of_sheet(sheet),
         found: Vec::new(),
         end: 0,
         due: None,
@@ -55,10 +59,9 @@ pub fn well_formed(sheet: &[u8]) -> Option<Walk> {
     }
     let walk = walk(sheet);
     let whole = walk.due.is_none() && walk.end == sheet.len();
-    let edition = walk.found.first()?.record.value(Field::Edition)?;
     let names = Misplaced::of(&walk);
     let within = |found: &Found| walk.excess(found).is_none() && names.in_record(found).is_none();
-    (whole && edition == 1 && walk.found.iter().all(within)).then_some(walk)
+    (whole && walk.has_edition() && walk.found.iter().all(within)).then_some(walk)
 }
 
 impl Walk {
@@ -82,7 +85,7 @@ impl Walk {
             self.next(sheet, RecordKind::Qualified, context)?;
         }
         for number in 0..procedures {
-            self.procedure = Some(usize::from(number));
+            self.procedure = Some(number as usize);
             let head = self.head(sheet, number, qualified, slots.len())?;
             self.formals.push(head.value(Field::Formals)?);
             self.rights_name(sheet, number, &named_rights)?;
@@ -92,10 +95,10 @@ impl Walk {
         Some(())
     }
 
-    fn head(&mut self, sheet: &[u8], number: u16, qualified: u16, types: usize) -> Option<Record> {
+    fn head(&mut self, sheet: &[u8], number: u32, qualified: u32, types: usize) -> Option<Record> {
         let context = Context::Procedure {
             is_main: number == 0,
-            types: types as u16,
+            types: types as u32,
             qualified,
         };
         self.next(sheet, RecordKind::Procedure, context)
@@ -103,7 +106,7 @@ impl Walk {
 
     /// The rights name, which is due exactly if its mark stands after the
     /// head of a procedure other than main.
-    fn rights_name(&mut self, sheet: &[u8], number: u16, named_rights: &[u16]) -> Option<()> {
+    fn rights_name(&mut self, sheet: &[u8], number: u32, named_rights: &[u32]) -> Option<()> {
         let mark = RecordKind::Name.mark().as_bytes();
         if number > 0 && sheet.get(self.end..)?.starts_with(mark) {
             let named_rights = named_rights.to_vec();
@@ -114,7 +117,7 @@ impl Walk {
     }
 
     /// The variables and the instructions of a procedure.
-    fn body(&mut self, sheet: &[u8], head: &Record, qualified: u16, slots: &[u16]) -> Option<()> {
+    fn body(&mut self, sheet: &[u8], head: &Record, qualified: u32, slots: &[u32]) -> Option<()> {
         let [owner, formals, variables, _, instructions] = head.values[..] else {
             return None;
         };
@@ -126,8 +129,8 @@ impl Walk {
             };
             self.next(sheet, RecordKind::Variable, context)?;
         }
-        let owner = usize::from(owner).checked_sub(2);
-        let owner_slots = owner.and_then(|owner| slots.get(owner));
+        let owner = owner.checked_sub(2);
+        let owner_slots = owner.and_then(|owner| slots.get(owner as usize));
         for number in 0..instructions {
             let context = Context::Instruction(Scope {
                 variables,
@@ -140,10 +143,18 @@ impl Walk {
         Some(())
     }
 
+    /// Whether the header names the edition that the records are read by; any
+    /// other number is that of none.
+    pub fn has_edition(&self) -> bool {
+        let header = self.found.first();
+        let named = header.and_then(|header| header.record.value(Field::Edition));
+        named == Some(u32::from(self.edition.number()))
+    }
+
     /// The first field of a record that is outside the layout, those of calls
     /// that wait for the procedure called last.
     pub fn excess(&self, found: &Found) -> Option<Excess> {
-        let mut limits = Limits::of(&found.record);
+        let mut limits = Limits::of(&found.record, self.edition);
         limits.ask(&found.context);
         if let Context::Instruction(scope) = &found.context {
             call_limits(&mut limits, scope, &self.formals);
@@ -155,11 +166,11 @@ impl Walk {
     fn next(&mut self, sheet: &[u8], kind: RecordKind, context: Context) -> Option<Record> {
         self.due = Some(kind);
         let place = self.end;
-        let record = Record::read(sheet.get(place..)?)?;
+        let record = Record::read(sheet.get(place..)?, self.edition)?;
         if record.kind != kind {
             return None;
         }
-        self.end += kind.size();
+        self.end += kind.size(self.edition);
         self.found.push(Found {
             place,
             record: record.clone(),

@@ -8,7 +8,7 @@ use Rattle.access.proofs.passes.qual_access.Tie as tie
 returns : tie.Need-returns
 unfolding verdict qual-rules
 returns c =
-    rw (c .refused .ensures, c .before .qual-at .ensures .0, c .before .before .element-rule .ensures, c .before .before .before .before .pre .types _)
+    rw (c .refused .ensures, c .before .qual-at .ensures, c .before .before .element-rule .ensures, c .before .before .before .before .pre .types _)
 
 pub qual-access-spec : {M : Type 1} → statement M
 qual-access-spec =

@@ -4,7 +4,7 @@ use lib.Seq.{getD-set-other}
 use borrow.Author.Tests.{lt-ltb}
 use mathlib.Core.Path.{_≡_, refl, ap, _∙_}
 use mathlib.Core.Logic.{⊎-elim}
-use lib.ListN.{length, getD, set, length-set}
+use lib.ListN.{length, getD, length-set}
 use Rattle.sheet.specs.Layout.{proceduresOf, procedureAt, qualsOf}
 use Rattle.sheet.proofs.Laws.{both-below, one-passed}
 use Rattle.index.specs.Indexed.{ProcedureWord}
@@ -17,28 +17,27 @@ use Rattle.index.proofs.make.fill_procedures.Statement.{statement}
 use Rattle.index.proofs.make.fill_procedures.Tie as tie
 
 abbrev Inv-loop : tie.InvT-loop
-Inv-loop s index₀ p at₀ i₀ index at i =
-    (i ≤ p) × (i ≤ 64) × (length index ≡ 129) × (at ≡ procedureAt s i) × (at ≤ 5000 + i * 700000)
+Inv-loop s size index₀ p at₀ i₀ index at i =
+    (i ≤ p) × (i ≤ 64) × (length index ≡ 129) × (at ≡ procedureAt s i) × (at ≤ 6000 + i * 700000)
     × ((k : ℕ) → k < i → ProcedureWord s k (getD index (64 + k) 0)) × ((k : ℕ) → k < 64 → getD index k 0 ≡ getD index₀ k 0)
 
 abbrev μ-loop : tie.MeasureT-loop
-μ-loop s index₀ p at₀ i₀ index at i = 64 - i
+μ-loop s size index₀ p at₀ i₀ index at i = 64 - i
 
 loop-holds : tie.Need-loop-holds Inv-loop μ-loop
 unfolding procedureAt qualsOf
 loop-holds c =
-    (omega arith, omega arith, c .before .before .before .before .pre, rw (c .qual-at .ensures .0, c .before .byte2 .ensures), omega arith, λ k l. absurd (omega arith), λ k l. refl)
+    (omega arith, omega arith, c .before .before .before .before .pre .1, rw (c .qual-from .ensures .0, c .before .byte2 .ensures), omega arith, λ k l. absurd (omega arith), λ k l. refl)
 
 procedure-entry-requires : tie.Need-procedure-entry-requires Inv-loop μ-loop
 procedure-entry-requires c κs =
     let l = c .before .loop in
     let b = both-below (l .i) (c .before .before .before .before .byte .result) 64 (c .loop-test .taken) in
-    (b .1, omega (arith, l .inv .4))
+    (c .before .before .before .before .before .before .pre .0, (b .1, omega (arith, l .inv .4)))
 
 next-from-requires : tie.Need-next-from-requires Inv-loop μ-loop
 next-from-requires c κs =
-    let l = c .before .before .loop in
-    omega (arith, l .inv .1, l .inv .4)
+    (c .before .before .before .before .before .before .before .pre .0, omega (arith, c .before .before .loop .inv .1, c .before .before .loop .inv .4))
 
 loop-less : tie.Need-loop-less Inv-loop μ-loop
 loop-less c =

@@ -15,16 +15,16 @@ use Rattle.index.proofs.make.fill_types.Statement.{statement}
 use Rattle.index.proofs.make.fill_types.Tie as tie
 
 abbrev Inv-loop : tie.InvT-loop
-Inv-loop s index₀ q j₀ index j =
+Inv-loop s size index₀ q j₀ index j =
     (j ≤ q) × (j ≤ 64) × (length index ≡ 129) × ((k : ℕ) → k < j → TypeWord s k (getD index k 0))
     × ((k : ℕ) → k < j → UseTold index k (getD index k 0)) × ((k : ℕ) → j ≤ k → getD index k 0 ≡ getD index₀ k 0)
 
 abbrev μ-loop : tie.MeasureT-loop
-μ-loop s index₀ q j₀ index j = 64 - j
+μ-loop s size index₀ q j₀ index j = 64 - j
 
 loop-holds : tie.Need-loop-holds Inv-loop μ-loop
 loop-holds c =
-    (omega arith, omega arith, c .before .before .pre, λ k l. absurd (omega arith), λ k l. absurd (omega arith), λ k l. refl)
+    (omega arith, omega arith, c .before .before .pre .1, λ k l. absurd (omega arith), λ k l. absurd (omega arith), λ k l. refl)
 
 element-write-index : tie.Need-element-write-index Inv-loop μ-loop
 element-write-index c =
@@ -58,7 +58,7 @@ returns c =
     let l = c .before .loop in
     let past = one-passed (l .j) (c .before .before .byte .result) 64 (c .loop-test .left) in
     record {
-      long = l .inv .2 ∙ sym (c .before .before .before .before .pre);
+      long = l .inv .2 ∙ sym (c .before .before .before .before .pre .1);
       types = λ j h m. l .inv .3 j (⊎-elim (λ p. omega (arith, c .before .before .byte .ensures)) (λ p. omega arith) past);
       uses-told = λ j h m. l .inv .4 j (⊎-elim (λ p. omega (arith, c .before .before .byte .ensures)) (λ p. omega arith) past);
       others = λ k h. l .inv .5 k (omega (arith, c .before .before .byte .ensures));

@@ -19,4 +19,4 @@ returns c =
     }
 
 pub indexed-spec : {M : Type 1} → statement M
-indexed-spec = tie.close (tie.spec (λ c κs. search needs) (λ c κs. search needs) returns)
+indexed-spec = tie.close (tie.spec (λ c κs. search needs) (λ c κs. search needs) (λ c κs. search needs) returns)

@@ -1,12 +1,11 @@
 -- The two bytes are those that `byte` ensures.
 use borrow.Author.Needs.{needs}
-use Rattle.sheet.specs.Bytes.{wordAt}
+use Rattle.sheet.proofs.Laws.{word-bytes}
 use Rattle.sheet.proofs.bytes.word.Statement.{statement}
 use Rattle.sheet.proofs.bytes.word.Tie as tie
 
 returns : tie.Need-returns
-unfolding wordAt
-returns c = rw (c .byte2 .ensures, c .before .byte .ensures)
+returns c = rw (c .byte2 .ensures, c .before .byte .ensures, word-bytes)
 
 pub word-spec : {M : Type 1} → statement M
 word-spec =

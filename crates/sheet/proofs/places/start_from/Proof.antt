@@ -1,5 +1,4 @@
--- A GN's 5 bytes stand between where there is one.
-use mathlib.Core.Path.{sym, _∙_}
+-- What `bound_size` gives stands between.
 use native.Mathlib.Omega.{arith}
 use borrow.Author.Needs.{needs}
 use Rattle.sheet.specs.Layout.{startFrom}
@@ -8,11 +7,7 @@ use Rattle.sheet.proofs.places.start_from.Tie as tie
 
 returns : tie.Need-returns
 unfolding startFrom
-returns c = (rw (sym (c .before .is-bounded .ensures) ∙ c .if1 .taken) (omega arith), omega arith)
-
-returns-2 : tie.Need-returns-2
-unfolding startFrom
-returns-2 c = (rw (sym (c .before .is-bounded .ensures) ∙ c .if1 .left) (omega arith), omega arith)
+returns c = (rw (c .bound-size .ensures .0), omega (arith, c .bound-size .ensures .1))
 
 pub start-from-spec : {M : Type 1} → statement M
-start-from-spec = tie.close (tie.spec (λ c κs. search needs) (λ c. search needs) returns (λ c. search needs) returns-2)
+start-from-spec = tie.close (tie.spec (λ c. search needs) (λ c κs. search needs) (λ c. search needs) (λ c. search needs) returns)

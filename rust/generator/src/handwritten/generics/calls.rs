@@ -146,7 +146,7 @@ fn result_cases() -> Vec<Case> {
 /// Main has two returns; procedure 1 at 234 has a rights name on the base and
 /// variables from 247 on, and calls procedure 2 with them, at 247 + 4 v,
 /// keeping a result in the last if it is said so.
-fn from_own(base: u8, least: u16, variables: &[u8], keeps: bool, callee: Procedure) -> Vec<u8> {
+fn from_own(base: u8, least: u32, variables: &[u8], keeps: bool, callee: Procedure) -> Vec<u8> {
     let kept = match keeps {
         true => variables.len() as u8 - 1,
         false => NONE,

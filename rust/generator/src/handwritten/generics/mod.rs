@@ -46,7 +46,7 @@ pub fn generic_types() -> SheetBuilder {
 }
 
 /// A procedure for ?R ≥ call with the least set.
-pub fn bounded(owner: u8, result: u8, least: u16) -> Procedure {
+pub fn bounded(owner: u8, result: u8, least: u32) -> Procedure {
     Procedure::new(owner, result).bound(CALL, least)
 }
 
@@ -74,7 +74,7 @@ fn calling(variables: &[u8], instruction: InstructionRecord, others: &[Procedure
 /// Main with a return alone, then procedure 1 for ?R ≥ call with the least
 /// set: ?R and an array of it as formals, then the variables, an instruction,
 /// at 247 + 4 v, and a return.
-fn inside(least: u16, variables: &[u8], instruction: InstructionRecord) -> Vec<u8> {
+fn inside(least: u32, variables: &[u8], instruction: InstructionRecord) -> Vec<u8> {
     within(bounded(0, NONE, least), variables, instruction)
 }
 
@@ -89,7 +89,7 @@ fn within(procedure: Procedure, variables: &[u8], instruction: InstructionRecord
 }
 
 /// A procedure that does nothing with its formals.
-fn idle(least: u16, formals: &[u8]) -> Procedure {
+fn idle(least: u32, formals: &[u8]) -> Procedure {
     let procedure = bounded(0, NONE, least);
     let all = formals.iter();
     all.fold(procedure, |all, &formal| all.formal(formal, formal))

@@ -19,7 +19,7 @@ pub fn cases() -> Vec<Case> {
 }
 
 /// Procedure 1 has a GN, at 234, and ?R as its only formal.
-fn named(base: u8, least: u16) -> Vec<u8> {
+fn named(base: u8, least: u32) -> Vec<u8> {
     let procedure = Procedure::new(0, NONE).bound(base, least);
     beside_main(procedure.formal(GENERIC, GENERIC).body(&[leave()])).encode()
 }

@@ -65,9 +65,9 @@ pub enum Written {
 }
 
 /// The number of a QT and, where ?R stands in it, the set it is read with.
-pub type Declared = (u8, Option<u16>);
+pub type Declared = (u8, Option<u32>);
 
-const BOTH: u16 = READ | AMEND;
+const BOTH: u32 = READ | AMEND;
 
 fn v(depth: usize, index: usize) -> Location {
     Location::Variable { depth, index }
@@ -109,7 +109,7 @@ fn bound_as(step: u64, from: Location, through: &[Declared]) -> Written {
 }
 
 /// ?R with a set.
-fn name(set: u16) -> Declared {
+fn name(set: u32) -> Declared {
     (GENERIC, Some(set))
 }
 
@@ -357,7 +357,7 @@ fn giver() -> Procedure {
 #[rustfmt::skip]
 fn name_cases() -> Vec<ChainCase> {
     let run = with_names(&[CALL_BOTH, CALL_READ], &[call(0, NONE, 1), call(1, 0, 2), call(1, 1, 2), leave()], &[maker(), giver()]);
-    let under = |first: u64, from: Location, set: u16| [
+    let under = |first: u64, from: Location, set: u32| [
         bound_as(first + 2, v(1, 1), &[name(set), (CALL_READ, None)]),
         bound_as(first + 1, v(1, 0), &[name(set)]),
         bound_as(first, from, &[name(set), name(set)]),

@@ -46,7 +46,7 @@ const fn at(variables: usize, instruction: usize) -> usize {
 }
 
 /// A procedure that does nothing with its formals.
-fn idle(least: u16, formals: &[u8]) -> Procedure {
+fn idle(least: u32, formals: &[u8]) -> Procedure {
     let all = formals.iter();
     all.fold(bounded(0, NONE, least), |all, &formal| {
         all.formal(formal, formal)
@@ -88,7 +88,7 @@ fn accepted_cases() -> Vec<RunCase> {
 /// an array made under ?R keeps of each.
 fn limit_cases() -> Vec<RunCase> {
     const LAST: u8 = 33;
-    const RIGHT: u16 = 1 << 15;
+    const RIGHT: u32 = 1 << 15;
     let mut sheet = SheetBuilder::new();
     for _ in 0..32 {
         sheet = sheet.record_type(15, &[]);

@@ -6,6 +6,7 @@
 mod calls;
 pub mod chains;
 mod depths;
+mod editions;
 mod generics;
 mod known;
 mod lengths;
@@ -79,6 +80,7 @@ pub fn cases() -> Vec<RunCase> {
     all.extend(generics::cases());
     all.extend(structures::cases());
     all.extend(widened::cases());
+    all.extend(editions::cases());
     all
 }
 

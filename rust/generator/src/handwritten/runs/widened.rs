@@ -22,8 +22,8 @@ const NEED: &str = "need and inner are equal, in the sense given for elements";
 /// reading.
 const CALL: u8 = 2;
 const HOLDER: u8 = 3;
-const READ: u16 = 1 << 1;
-const AMEND: u16 = 1 << 2;
+const READ: u32 = 1 << 1;
+const AMEND: u32 = 1 << 2;
 
 /// Sixteen qualified types, which end at 126.
 const INT: u8 = 0;

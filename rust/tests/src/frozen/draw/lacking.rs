@@ -12,7 +12,8 @@ pub fn lacking(first: u64, others: &[Drawn]) -> Vec<Drawn> {
     let ends = kept.filter_map(|(_, run)| ended(run));
     ends.for_each(|ended| seen.add(&ended));
     let (sites, orders) = (wellformed_sites(), wellformed_orders());
-    let mut runs = (first << 32..).flat_map(|seed| TRIALS.runs(seed, need));
+    let runs = (first << 32..).flat_map(|seed| TRIALS.runs(seed, need));
+    let mut runs = runs.filter(freezable);
     let mut all = Vec::new();
     while !seen.faults(&sites, &orders).is_empty() {
         let run = runs.next().expect("there are trials without end");

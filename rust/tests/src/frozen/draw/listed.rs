@@ -10,7 +10,7 @@ use generator::loops::LOOPS;
 use generator::showcase::showcase;
 use generator::Random;
 use reference::machine::MAX_MEMORY;
-use reference::MAX_SHEET;
+use reference::{Edition, MAX_SHEET};
 
 pub fn hand_written() -> Vec<Drawn> {
     let sheets = handwritten::cases().into_iter();
@@ -34,11 +34,11 @@ pub fn in_large_memory() -> impl Iterator<Item = Drawn> {
 pub fn at_limits() -> impl Iterator<Item = Drawn> {
     const EACH: usize = 140;
     FAMILIES.iter().flat_map(|family| {
-        let count = (family.count)();
+        let count = (family.count)(Edition::First);
         let taken = count.min(EACH);
         let positions = (0..taken).map(move |number| number * count / taken);
         positions.map(|position| {
-            let run = family.bound(position as u64).run;
+            let run = family.bound(Edition::First, position as u64).run;
             (format!("limit:{}", family.name), run)
         })
     })
