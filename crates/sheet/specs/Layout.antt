@@ -28,7 +28,7 @@ vr-mark = mark 86 82
 abbrev pub in-mark : Mark
 in-mark = mark 73 78
 
--- ---- what the edition decides, and nothing else does
+-- ---- all that the edition decides
 -- S-5: "four rights bytes in QT and GN"; two in edition 1
 unfoldable pub rights-size : (edition : ℕ) → ℕ
 rights-size e = cond (eqb e 2) 4 2

@@ -1,27 +1,13 @@
 //! Texts and sheets of both editions.
 
+mod common;
+
+use common::{is_raw, round_trip, sheet};
 use generator::accepted::accepted;
 use generator::wellformed::wellformed;
 use generator::Random;
 use reference::{Edition, Verdict};
 use text::{assemble, disassemble, At, RecordKind, Sheet};
-
-fn sheet(text: &str) -> Vec<u8> {
-    let assembled = assemble(text).unwrap_or_else(|errors| panic!("{}\n{text}", errors[0]));
-    assembled.sheet
-}
-
-/// The sheet comes back from its text; gives the text.
-fn round_trip(sheet: &[u8]) -> String {
-    let said = disassemble(sheet);
-    let again = assemble(&said).unwrap_or_else(|errors| panic!("{}\n{said}", errors[0]));
-    assert!(again.sheet == sheet, "other bytes from\n{said}");
-    said
-}
-
-fn is_raw(text: &str) -> bool {
-    text.starts_with("raw\n")
-}
 
 /// Rights a1 to the number.
 fn rights(count: usize) -> String {

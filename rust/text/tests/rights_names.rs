@@ -1,8 +1,11 @@
 //! Rights names in texts, in sheets and back.
 
+mod common;
+
+use common::{is_raw, round_trip, sheet};
 use reference::layout::NONE;
 use text::field::Field;
-use text::{assemble, disassemble, At, RightsName, Sheet};
+use text::{assemble, At, RightsName, Sheet};
 
 const SORT: &str = "
 type horse{}
@@ -22,23 +25,6 @@ procedure same for ?R >= call{} gives ?R
     formal item: ?R
     return item
 ";
-
-fn sheet(text: &str) -> Vec<u8> {
-    let assembled = assemble(text).unwrap_or_else(|errors| panic!("{}", errors[0]));
-    assembled.sheet
-}
-
-/// The sheet comes back from its text; gives the text.
-fn round_trip(sheet: &[u8]) -> String {
-    let said = disassemble(sheet);
-    let again = assemble(&said).unwrap_or_else(|errors| panic!("{}\n{said}", errors[0]));
-    assert!(again.sheet == sheet, "other bytes from\n{said}");
-    said
-}
-
-fn is_raw(text: &str) -> bool {
-    text.starts_with("raw\n")
-}
 
 #[test]
 fn a_bound_is_a_record_right_after_the_head() {

@@ -1,3 +1,4 @@
+-- The two words that the definition reads as one number, or the first of them alone.
 use mathlib.Core.Path.{_∙_}
 use Rattle.sheet.proofs.Laws.{word-bytes, rights-wide, rights-narrow}
 use borrow.Author.Needs.{needs}

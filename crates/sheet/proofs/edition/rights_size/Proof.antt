@@ -1,3 +1,4 @@
+-- Each way through the two tests is a way through the definition.
 use mathlib.Core.Path.{sym, _∙_}
 use borrow.Author.Tests.{eq-eqb, ne-eqb}
 use Rattle.sheet.specs.Layout.{rights-size, editionOf, editionIn}

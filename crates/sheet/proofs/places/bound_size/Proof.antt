@@ -1,3 +1,4 @@
+-- What rights take, with the mark and the base, where there is a GN.
 use mathlib.Core.Path.{sym, _∙_}
 use Rattle.sheet.specs.Layout.{boundSize}
 use Rattle.sheet.proofs.Laws.{size-range}

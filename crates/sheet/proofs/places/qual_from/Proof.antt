@@ -1,3 +1,4 @@
+-- The sum is the definition, with what rights take put in; two bytes keep it below 6000.
 use Rattle.sheet.specs.Layout.{qualAt, typesOf}
 use Rattle.sheet.proofs.Laws.{else-two}
 use native.Mathlib.Omega.{arith}

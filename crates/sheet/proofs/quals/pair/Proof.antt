@@ -1,3 +1,4 @@
+-- Two bytes of the sheet, low first; each is below 256.
 use Prim.Native.Nat.{_+_}
 use mathlib.Core.Path.{_≡_}
 use Rattle.sheet.specs.Bytes.{byteAt}

@@ -1,3 +1,4 @@
+-- Where the record stands whole its bytes are read with no test, else one by one.
 use mathlib.Core.Path.{sym, _∙_}
 use Rattle.sheet.proofs.Laws.{whole-true}
 use native.Mathlib.Omega.{arith}

@@ -1,3 +1,4 @@
+-- The bytes read are those of the definition: rights in two of them, or in four.
 use Rattle.sheet.specs.Bytes.{byteAt}
 use Rattle.sheet.proofs.Laws.{size-range, else-two, rights-wide, rights-narrow}
 use native.Mathlib.Omega.{arith}

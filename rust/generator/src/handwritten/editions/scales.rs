@@ -37,9 +37,9 @@ fn named_cases() -> Vec<Case> {
     ]
 }
 
-/// A type of edition 2 with so many rights, and a QT, at 26, with those given.
-fn rights_of(named: u8, rights: u32) -> Vec<u8> {
-    let least = 0;
+/// A type of edition 2 with so many rights, a QT, at 26, with those given, and
+/// a GN, at 74, with the least set.
+fn declared(named: u8, rights: u32, least: u32) -> Vec<u8> {
     Sample {
         named,
         rights,
@@ -47,6 +47,10 @@ fn rights_of(named: u8, rights: u32) -> Vec<u8> {
         ..whole(Second)
     }
     .bytes()
+}
+
+fn rights_of(named: u8, rights: u32) -> Vec<u8> {
+    declared(named, rights, 0)
 }
 
 #[rustfmt::skip]
@@ -72,17 +76,8 @@ fn rights_cases() -> Vec<Case> {
     ]
 }
 
-/// A type of edition 2 with so many rights, and a GN, at 74, with the least
-/// set.
 fn least_of(named: u8, least: u32) -> Vec<u8> {
-    let rights = 0;
-    Sample {
-        named,
-        rights,
-        least,
-        ..whole(Second)
-    }
-    .bytes()
+    declared(named, 0, least)
 }
 
 #[rustfmt::skip]
