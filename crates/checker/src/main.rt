@@ -1,4 +1,5 @@
 // Reads a sheet on standard input and writes a word, a number and a place. What is no input read to its end gets no verdict.
+#![tactic(auto)]
 mod calls;
 mod input;
 mod output;

@@ -1,4 +1,5 @@
 // The checker: from any bytes to a verdict.
+#![tactic(auto)]
 ghost use Rattle.std.specs.Prelude.{◌≡◌};
 ghost use Rattle.index.specs.Indexed.{Indexed};
 ghost use Rattle.checking.specs.Check as def;

@@ -6,7 +6,7 @@ use mathlib.Core.List.{List, [], ◌∷◌, ◌++◌}
 use mathlib.Core.Option.{Option, none, some}
 use native.Mathlib.Nat.{zero-add}
 use lib.Dec.{eqb, leb, ltb}
-use borrow.Author.Tests.{lt-ltb, leb-true, eqb-true, not_true}
+use borrow.Author.Tests.{lt-ltb, leb-true, eqb-true, not-true}
 use Rattle.model.specs.Rights.{Rights, within, has, none_above, record_rights, open_right, fetch_right, store_right, size_right, array_rights}
 use Rattle.model.specs.Qualified.{Qual, base, rights, element, is_integer, is_array, is_generic, same, alike, covers}
 use Rattle.model.specs.Generic.{Bound, least, own, instance, read, read_result, uses, settled, some_uses, is_settled, is_enough}
@@ -184,7 +184,7 @@ module _ (y : Bound) (z : Rights) (good : Good y z) where
   record_fact o n a h =
       let x = kind_right (owned_by o (ruled a)) (not (is_generic (ruled a)) && none_above n (rights (ruled a))) [] h in
       let w = both_true (not (is_generic (ruled a))) (none_above n (rights (ruled a))) x.1 in
-      (owned o a x.0, rw (rights_read y z a (not_true (is_generic (ruled a)) w.0)) at (within_all n (rights (ruled a)) w.1))
+      (owned o a x.0, rw (rights_read y z a (not-true (is_generic (ruled a)) w.0)) at (within_all n (rights (ruled a)) w.1))
 
   get_fact :
       (o : ℕ) (a b slot : Qual) → has open_right (least y) ≡ false → uses slot ≡ false → failure (get_slot_rule o (ruled a) (ruled b) (ruled slot)) ≡ 0 →
@@ -306,7 +306,7 @@ agrees_fact o need inner h = go (amplifies o inner) refl h
 
 closed_fact : (q : Qual) → closed q ≡ true → Closed q
 unfolding closed
-closed_fact q h = not_true (has open_right (rights q)) h
+closed_fact q h = not-true (has open_right (rights q)) h
 
 inner_fact : (o : ℕ) (inner : Qual) → (amplifies o inner || closed inner) ≡ true → has open_right (rights inner) ≡ true → amplifies o inner ≡ true
 inner_fact o inner h k = go (amplifies o inner) h

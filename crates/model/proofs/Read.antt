@@ -120,7 +120,9 @@ module _ (b : Bound) (z : Rights) where
   moves_ordered s d m = rw (m.kinds, no_name d) m.licensed
     where
       no_name : (q : Qual) → is_generic (read (instance b z) q) ≡ false
-      no_name q = unfold read instance is_generic in elim q [ integer ↦ refl | array r e ↦ refl | declared t r ↦ refl | generic t l ↦ refl ]
+      no_name q =
+          unfold read instance is_generic in
+          elim q as (λ (k : Qual). is_generic (read (instance b z) k) ≡ false) [ integer ↦ refl | array r e ↦ refl | declared t r ↦ refl | generic t l ↦ refl ]
 
   module _ (good : Good b z) where
     -- a frame has every right that its procedure counts on

@@ -1,4 +1,5 @@
 // The answers and the operations that every layer speaks of. Their meaning is in specs/.
+#![tactic(auto)]
 
 // What a check says: accepted, or the number of a refusal and the byte at which the refused record starts.
 #[derive(Drop)]

@@ -1,4 +1,5 @@
 // A short wait.
+#![tactic(auto)]
 pub fn pause() {
     let asked = libc::types::timespec {
         tv_sec: 0,

@@ -1,4 +1,5 @@
 // Sets of rights: bit i is right i.
+#![tactic(auto)]
 ghost use Rattle.std.specs.Prelude.{◌≡◌, ◌<◌};
 ghost use Rattle.model.specs.Rights.{within, has, none_above};
 

@@ -1,2 +1,3 @@
 // The watched machine: one instruction inside the lent memory.
+#![tactic(auto)]
 pub mod step; // one instruction

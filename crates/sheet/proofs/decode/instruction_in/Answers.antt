@@ -1,0 +1,8 @@
+-- The operation is that which `operation_at` ensures.
+use borrow.Author.Rules.{rules}
+use Rattle.sheet.specs.Decode.{instruction_in}
+use Rattle.sheet.proofs.decode.instruction_in.Goals as goal
+
+pub returns : goal.returns
+unfolding instruction_in
+returns c = rw c.operation_at-operation.ensures
