@@ -6,7 +6,7 @@ use crate::calls::{Answer, meant};
 use pause::pause;
 
 // How far the input is read.
-#[derive(Drop)]
+#[derive(Clone, Copy)]
 pub enum Input {
     Partial(usize),
     Whole(usize),

@@ -15,7 +15,7 @@ use sheet::fields::field;
 use words::{bound_in, first_in, variables_in};
 
 // A procedure as types are read in it: where its PR and its VRs stand, and the word of what ?R is.
-#[derive(Drop)]
+#[derive(Clone, Copy)]
 pub struct Scope {
     pub head: u32,
     pub start: u32,

@@ -75,7 +75,7 @@ pub fn variable_scale(q: u8, f: u8, x: u8, inner: u8, need: u8) -> bool
 }
 
 // What the limits of an IN depend on: its procedure's variables, instructions and owner, and that owner's slots.
-#[derive(Drop)]
+#[derive(Clone, Copy)]
 pub struct Limits {
     pub variables: u8,
     pub instructions: u16,

@@ -2,14 +2,14 @@
 #![tactic(auto)]
 
 // What a check says: accepted, or the number of a refusal and the byte at which the refused record starts.
-#[derive(Drop)]
+#[derive(Clone, Copy)]
 pub enum Verdict {
     Accepted,
     Refused(u8, usize),
 }
 
 // One of seventeen kinds of work. a, b and c are variables, k a number; 255 as a variable is none.
-#[derive(Drop)]
+#[derive(Clone, Copy)]
 pub enum Operation {
     Set(u8, u16), // a := k
     Add(u8, u8, u8), // a := b + c, modulo 2^32
@@ -31,7 +31,7 @@ pub enum Operation {
 }
 
 // An operation with its place: procedure and instruction numbers.
-#[derive(Drop)]
+#[derive(Clone, Copy)]
 pub struct Instruction {
     pub procedure: usize,
     pub instruction: usize,

@@ -6,7 +6,7 @@ ghost use Rattle.sheet.specs.Reader.{record_bytes, past_at, left_at};
 
 use sheet::records::{left_at, past_at, record_at};
 
-#[derive(Drop)]
+#[derive(Clone, Copy)]
 pub struct Reader<'a> {
     pub sheet: &'a [u8],
     pub at: usize,

@@ -18,7 +18,7 @@ use well_formed::well_formed;
 use words::clear;
 
 // What a run says: the number and place of a refusal; or the number of the stop, steps, words put, procedure and instruction.
-#[derive(Drop)]
+#[derive(Clone, Copy)]
 pub struct Reply {
     pub number: u64,
     pub place: u64,

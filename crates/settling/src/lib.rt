@@ -20,7 +20,7 @@ use rights::is_within;
 use sheet::fields::{field, need_of};
 
 // What one actual settles: its need does not use ?R; it does, and nothing is settled; what a name has.
-#[derive(Drop)]
+#[derive(Clone, Copy)]
 enum Settles {
     Unused,
     Nothing,
@@ -28,7 +28,7 @@ enum Settles {
 }
 
 // What a call settles: 20, 21, or what a name has.
-#[derive(Drop)]
+#[derive(Clone, Copy)]
 pub enum Settled {
     Unsettled,
     Short,
@@ -104,7 +104,7 @@ fn actual_settles(s: &[u8], index: &Index, to: Scope, c: Scope, b: u8, j: u8) ->
 
 // What the actuals before some number settle: whether a need uses ?R, whether one is settled, whether all are settled alike, and to what: where none is, to
 // the least set.
-#[derive(Drop)]
+#[derive(Clone, Copy)]
 struct Found {
     used: bool,
     some: bool,

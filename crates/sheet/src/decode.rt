@@ -6,7 +6,7 @@ use crate::bytes::{byte, word};
 use model::{Instruction, Operation};
 
 // The fields of an IN.
-#[derive(Drop)]
+#[derive(Clone, Copy)]
 pub struct Fields {
     pub code: u8,
     pub a: u8,

@@ -7,7 +7,7 @@ ghost use Rattle.sheet.specs.Quals.{qual_fields_at};
 use crate::bytes::{byte, whole};
 use crate::edition::rights_at;
 
-#[derive(Drop)]
+#[derive(Clone, Copy)]
 pub struct QualFields {
     pub base: u8,
     pub rights: u32,

@@ -135,7 +135,7 @@ pub fn call(
 }
 
 // What a return hands over: nothing, the word of a filled cell, or the number of the stop.
-#[derive(Drop)]
+#[derive(Clone, Copy)]
 enum Handed {
     Nothing,
     Is(u64),

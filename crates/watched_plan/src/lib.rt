@@ -33,14 +33,14 @@ use words::{
 };
 
 // Two integers, or the number of the stop.
-#[derive(Drop)]
+#[derive(Clone, Copy)]
 enum Pair {
     Are(u32, u32),
     Halt(u8),
 }
 
 // A cell of an object, or the number of the stop.
-#[derive(Drop)]
+#[derive(Clone, Copy)]
 enum Spot {
     At(u32, u32),
     Halt(u8),

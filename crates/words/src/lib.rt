@@ -9,28 +9,28 @@ ghost use Rattle.words.specs.Word.{cell, head, back, low, tag, payload, size_of,
 ghost use Rattle.words.specs.Answer.{read_as};
 
 // What a variable, a cell of an array or a slot of a record holds: a filled one by its word.
-#[derive(Drop)]
+#[derive(Clone, Copy)]
 pub enum Cell {
     Blank,
     Filled(u64),
 }
 
 // An integer, or the number of the stop.
-#[derive(Drop)]
+#[derive(Clone, Copy)]
 pub enum Number {
     Is(u32),
     Halt(u8),
 }
 
 // The word of a filled cell, or the number of the stop.
-#[derive(Drop)]
+#[derive(Clone, Copy)]
 pub enum Moved {
     To(u64),
     Halt(u8),
 }
 
 // An object, a cell of it and the word of a filled cell, or the number of the stop.
-#[derive(Drop)]
+#[derive(Clone, Copy)]
 pub enum Stored {
     At(u32, u32, u64),
     Halt(u8),

@@ -359,7 +359,7 @@ module _ (words zeros : List ℕ) (used w n : ℕ) (fits : used + 1 + n ≤ leng
       ap (take (used + (n + 1))) (sym (append_assoc (take (used + 1) (set words used w)) zeros _)) ∙ take_at (take (used + 1) (set words used w) ++ zeros) _ (used + (n + 1)) l in
       let f : take (used + 1) (set words used w) ++ zeros ≡ take used words ++ (w ∷ replicate n 0) =
       rw (add-one, take-suc-set words used w h, zeros_are) (append_assoc (take used words) (w ∷ []) (replicate n 0)) in
-      sym (map_take (slot_in m q) (used + (n + 1)) (laid words zeros used w n)) ∙ ap (map (slot_in m q)) (e ∙ f) ∙ rw (map-append, map_take, map_replicate, slot_zero)
+      sym (map_take (slot_in m q) (used + (n + 1)) (laid words zeros used w n)) ∙ ap (map (slot_in m q)) (e ∙ f) ∙ rw (map-append, map_take (slot_in m q), map_replicate (slot_in m q), slot_zero)
 
   pub laid_frames : {A : Type 0} (f : ℕ → A) (m : ℕ) → used + (n + 1) ≤ m → drop m (map f (laid words zeros used w n)) ≡ drop m (map f words)
   laid_frames f m h =

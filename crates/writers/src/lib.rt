@@ -16,7 +16,7 @@ use words::{
 
 // The registers: the word of the running procedure, its next instruction and where its variables start in the memory; where the objects end; the input
 // words taken, the output words put and the steps made, which no writer counts.
-#[derive(Drop)]
+#[derive(Clone, Copy)]
 pub struct Registers {
     pub procedure: u64,
     pub next: usize,
@@ -29,7 +29,7 @@ pub struct Registers {
 
 // What a step came to: another instruction, with all other registers as they were, which is what most steps do and a loop can lean on; any other
 // registers; the number of a stop; or main's return.
-#[derive(Drop)]
+#[derive(Clone, Copy)]
 pub enum Stepped {
     Go(Registers),
     Enter(Registers),

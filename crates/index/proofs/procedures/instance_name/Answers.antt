@@ -1,0 +1,8 @@
+-- The parts of the sum do not overlap.
+use native.Mathlib.Omega.{arith}
+use Rattle.index.proofs.Bounds.{instance_named}
+use borrow.Author.Rules.{rules}
+use Rattle.index.proofs.procedures.instance_name.Goals as goal
+
+pub returns : goal.returns
+returns c h k = instance_named _ _ _ (c.base_bits.ensures.result_value h k) c.base_bits.ensures.upper_bound (omega arith)

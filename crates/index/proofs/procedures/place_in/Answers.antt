@@ -1,0 +1,15 @@
+-- Where the VRs start nearer to the start than what stands before them is long, the difference is 0.
+use Rattle.index.specs.Procedures.{place_of}
+use native.Mathlib.Omega.{arith}
+use borrow.Author.Rules.{rules}
+use Rattle.index.proofs.procedures.place_in.Goals as goal
+
+pub returns-then-start-head : goal.returns-then-start-head
+unfolding place_of
+returns-then-start-head c =
+    omega (arith, c.bound_in.ensures, c.start_in-start.ensures, c.if-start-head.true)
+
+pub returns : goal.returns
+unfolding place_of
+returns c =
+    omega (arith, c.bound_in.ensures, c.start_in-start.ensures, c.if-start-head.false)

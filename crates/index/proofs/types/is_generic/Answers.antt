@@ -1,0 +1,8 @@
+-- The shape tells ?R from the others.
+use mathlib.Core.Path.{sym}
+use Rattle.index.proofs.Reading.{generic_as}
+use borrow.Author.Rules.{rules}
+use Rattle.index.proofs.types.is_generic.Goals as goal
+
+pub returns : goal.returns
+returns c = rw (c.shape_in.ensures, c.type_word_as.ensures) (sym (generic_as _ _ _))

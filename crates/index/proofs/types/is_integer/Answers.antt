@@ -1,0 +1,8 @@
+-- The shape tells an integer from the others.
+use mathlib.Core.Path.{sym}
+use Rattle.index.proofs.Trees.{integer_qual}
+use borrow.Author.Rules.{rules}
+use Rattle.index.proofs.types.is_integer.Goals as goal
+
+pub returns : goal.returns
+returns c = rw (c.shape_in.ensures, c.type_word.ensures) (sym (integer_qual _ _))

@@ -1,0 +1,8 @@
+-- The code is the definition, with what the calls ensure in place of their results.
+use borrow.Author.Rules.{rules}
+use Rattle.limits.specs.Scale.{below_or_none}
+use Rattle.limits.proofs.below_or_none.Goals as goal
+
+pub returns : goal.returns
+unfolding below_or_none
+returns c = rw c.pick.ensures

@@ -1,0 +1,8 @@
+-- Elements under store are equal.
+use borrow.Author.Rules.{rules}
+use Rattle.model.specs.Qualified.{elements}
+use Rattle.order.proofs.equal.Goals as goal
+
+pub returns : goal.returns
+unfolding elements
+returns c = c.elements_agree.ensures

@@ -1,0 +1,6 @@
+-- Both tests are the contract's.
+use borrow.Author.Rules.{rules}
+use Rattle.order.proofs.is_array_above.Goals as goal
+
+pub returns : goal.returns
+returns c = rw (c.is_within.ensures, c.rights_in-2.ensures, c.rights_in.ensures, c.shape_in.ensures)

@@ -1,0 +1,8 @@
+-- The tests are the definition's.
+use Rattle.order.specs.Words.{same_heads}
+use borrow.Author.Rules.{rules}
+use Rattle.order.proofs.is_same_head.Goals as goal
+
+pub returns : goal.returns
+unfolding same_heads
+returns c = rw (c.rights_in-2.ensures, c.rights_in.ensures, c.shape_in.ensures, c.shape_in-b.ensures)

@@ -1,0 +1,17 @@
+use Prim.Native.Nat.{◌+◌, ◌-◌, ◌≤◌}
+use mathlib.Core.Path.{◌≡◌, ap}
+use native.Mathlib.Omega.{arith}
+use borrow.Author.Rules.{rules}
+use Rattle.model.specs.Generic.{settlings}
+use Rattle.sheet.specs.Layout.{formals_at}
+use Rattle.index.specs.Types.{named_as}
+use Rattle.index.specs.Scope.{inner_as, need_as}
+use Rattle.settling.specs.Settles.{least_name}
+use Rattle.settling.proofs.Actuals.{FoundBefore, found_start, found_more}
+use Rattle.settling.proofs.found_by.Given as goal
+
+abbrev pub invariant-loop-j : goal.invariant-loop-j
+invariant-loop-j l = (l.j ≤ l.f) × FoundBefore (need_as l.s l.to) (λ k. inner_as l.s l.c (l.b + k)) (named_as (least_name l.to.name)) l.j l.x
+
+abbrev pub decreases-loop-j : goal.decreases-loop-j
+decreases-loop-j l = l.f - l.j
