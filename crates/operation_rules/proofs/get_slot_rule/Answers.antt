@@ -1,0 +1,26 @@
+-- The two tests in their order, then the movement from the slot.
+use borrow.Author.Rules.{rules}
+use Rattle.model.specs.Rules.{get_slot_rule}
+use Rattle.model.specs.Refusal.{failure}
+use Rattle.sheet.specs.Layout.{owner_at}
+use Rattle.index.proofs.Reading.{inner_type, slot_type}
+use Rattle.operation_rules.proofs.get_slot_rule.Goals as goal
+
+pub returns : goal.returns
+unfolding failure get_slot_rule owner_at
+returns c =
+    rw (
+      c.require-2.ensures,
+      c.require.ensures,
+      c.has_right.ensures,
+      c.rights_as.ensures,
+      c.is_owned.ensures,
+      c.movement-moved.ensures,
+      c.inner_of.ensures,
+      c.slot_of.ensures,
+      c.inner_of-from.ensures,
+      c.field-owner.ensures,
+      inner_type c.requires c.args.p c.args.a,
+      inner_type c.requires c.args.p c.args.b,
+      slot_type c.requires c.args.p _ c.args.k,
+    )
