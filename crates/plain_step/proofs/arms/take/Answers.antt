@@ -1,0 +1,13 @@
+-- The next input word is that which the state has left.
+use Rattle.model.specs.Modes.{plain}
+use Rattle.sheet.specs.Meaning.{program_of}
+use Rattle.frames.proofs.Performs.{performs_take}
+use Rattle.plain_step.proofs.Laws.{exactly, takes}
+use borrow.Author.Rules.{rules}
+use Rattle.plain_step.proofs.arms.take.Goals as goal
+
+pub returns : goal.returns
+returns c =
+    let args = c.args in
+    let take-input = c.take_input in
+    λ s out. performs_take plain s args.input.now args.memory.now take-input.new.memory out out args.r take-input.result args.a (λ d. take-input.ensures plain d out) (λ v R e. exactly (takes (program_of s) v args.a _ e))
