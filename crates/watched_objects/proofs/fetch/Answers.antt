@@ -1,0 +1,14 @@
+-- What is read is what the view sees; the writer does what is planned.
+use borrow.Author.Rules.{rules}
+use Rattle.model.specs.Modes.{watched}
+use Rattle.sheet.specs.Meaning.{qual_of}
+use Rattle.words.specs.Answers.{moved_to}
+use Rattle.watched_calls.proofs.Laws.{performs_seeing}
+use Rattle.watched_objects.proofs.fetch.Goals as goal
+
+pub returns : goal.returns
+returns c =
+    let args = c.args in
+    let give-moved = c.give_moved in
+    let fetch-in = c.fetch_in-m in
+    λ input out. performs_seeing args.s.now input args.memory.now give-moved.new.memory out out args.r give-moved.result _ (λ z. moved_to watched (qual_of z) args.a fetch-in.result) (λ d q. give-moved.ensures watched d out fetch-in.ensures.0) c.requires.scope_here fetch-in.ensures.1
