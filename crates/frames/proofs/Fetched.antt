@@ -1,7 +1,7 @@
 -- The instruction that the registers name, read from the running procedure's part of the sheet; and what is known of a call.
 use Prim.Native.Nat.{ℕ, ◌+◌, ◌-◌, ◌*◌, ◌≤◌}
 use native.Mathlib.Omega.{arith}
-use mathlib.Core.Path.{◌≡◌, ap, subst, ◌∙◌}
+use mathlib.Core.Path.{◌≡◌, ap, sym, subst, ◌∙◌}
 use mathlib.Core.List.{List}
 use lib.ListN.{length, get_or, drop, length-drop}
 use lib.Seq.{get_or-drop}
@@ -51,3 +51,11 @@ callable s r a b k F e =
 -- the variables that the instruction names are the frame's
 pub named_as : {s : List ℕ} {r : Registers} {op : Operation} → Fetchable s r → operation_at s (place_in r) ≡ op → Named (variables_in r) op
 named_as {r = r} F e = subst (Named (variables_in r)) e F.named
+
+-- of what was read from the procedure's part, and is `op`: it is the operation at the place that the registers name
+pub fetched : (s : List ℕ) (r : Registers) {code : List ℕ} {o op : Operation} → CodeOf s r code → o ≡ operation_at code (8 * r.next) → o ≡ op → operation_at s (place_in r) ≡ op
+fetched s r {code = code} k e f = sym (e ∙ code_operation s r code k) ∙ f
+
+pub fetched_named : (s : List ℕ) (r : Registers) {code : List ℕ} {o op : Operation}
+    → Fetchable s r → CodeOf s r code → o ≡ operation_at code (8 * r.next) → o ≡ op → Named (variables_in r) op
+fetched_named s r h k e f = named_as h (fetched s r k e f)

@@ -1,25 +1,7 @@
 -- The operation at the place is the one matched, and its arm performs it.
-use Prim.Native.Nat.{ℕ, ◌*◌}
-use mathlib.Core.List.{List}
-use mathlib.Core.Path.{◌≡◌, sym, ◌∙◌}
-use Rattle.model.specs.declared.Operation.{Operation}
-use Rattle.sheet.specs.Decode.{operation_at}
-use Rattle.form.specs.Named.{Named}
-use Rattle.writers.specs.Memory.{variables_in}
-use Rattle.writers.specs.declared.Registers.{Registers}
-use Rattle.frames.specs.Fetch.{Fetchable, CodeOf, place_in}
-use Rattle.frames.proofs.Fetched.{named_as, code_operation, code_whole, callable}
+use Rattle.frames.proofs.Fetched.{fetched, fetched_named, code_whole, callable}
 use borrow.Author.Rules.{rules}
 use Rattle.plain_step.proofs.step.step.Goals as goal
-
--- it is the operation at the place that the registers name
-fetched : (s : List ℕ) (r : Registers) {code : List ℕ} {o op : Operation} → CodeOf s r code → o ≡ operation_at code (8 * r.next) → o ≡ op → operation_at s (place_in r) ≡ op
-fetched s r {code = code} k e f = sym (e ∙ code_operation s r code k) ∙ f
-
--- the variables that it names are the frame's
-named : (s : List ℕ) (r : Registers) {code : List ℕ} {o op : Operation}
-    → Fetchable s r → CodeOf s r code → o ≡ operation_at code (8 * r.next) → o ≡ op → Named (variables_in r) op
-named s r h k e f = named_as h (fetched s r k e f)
 
 pub operation_whole-operation-requires : goal.operation_whole-operation-requires
 operation_whole-operation-requires c =
@@ -31,7 +13,7 @@ set-requires c =
     record {
       sane = c.requires.sane;
       next_bound = c.requires.fetchable.next;
-      named = named c.args.s.now c.args.r c.requires.fetchable c.requires.code_of c.operation_whole-operation.ensures c.in-Set.is;
+      named = fetched_named c.args.s.now c.args.r c.requires.fetchable c.requires.code_of c.operation_whole-operation.ensures c.in-Set.is;
     }
 
 pub add-requires : goal.add-requires
@@ -39,7 +21,7 @@ add-requires c =
     record {
       sane = c.requires.sane;
       next_bound = c.requires.fetchable.next;
-      named = named c.args.s.now c.args.r c.requires.fetchable c.requires.code_of c.operation_whole-operation.ensures c.in-Add.is;
+      named = fetched_named c.args.s.now c.args.r c.requires.fetchable c.requires.code_of c.operation_whole-operation.ensures c.in-Add.is;
     }
 
 pub subtract-requires : goal.subtract-requires
@@ -47,7 +29,7 @@ subtract-requires c =
     record {
       sane = c.requires.sane;
       next_bound = c.requires.fetchable.next;
-      named = named c.args.s.now c.args.r c.requires.fetchable c.requires.code_of c.operation_whole-operation.ensures c.in-Subtract.is;
+      named = fetched_named c.args.s.now c.args.r c.requires.fetchable c.requires.code_of c.operation_whole-operation.ensures c.in-Subtract.is;
     }
 
 pub less-requires : goal.less-requires
@@ -55,7 +37,7 @@ less-requires c =
     record {
       sane = c.requires.sane;
       next_bound = c.requires.fetchable.next;
-      named = named c.args.s.now c.args.r c.requires.fetchable c.requires.code_of c.operation_whole-operation.ensures c.in-Less.is;
+      named = fetched_named c.args.s.now c.args.r c.requires.fetchable c.requires.code_of c.operation_whole-operation.ensures c.in-Less.is;
     }
 
 pub jump_zero-requires : goal.jump_zero-requires
@@ -63,7 +45,7 @@ jump_zero-requires c =
     record {
       sane = c.requires.sane;
       next_bound = c.requires.fetchable.next;
-      named = named c.args.s.now c.args.r c.requires.fetchable c.requires.code_of c.operation_whole-operation.ensures c.in-JumpZero.is;
+      named = fetched_named c.args.s.now c.args.r c.requires.fetchable c.requires.code_of c.operation_whole-operation.ensures c.in-JumpZero.is;
     }
 
 pub bind-requires : goal.bind-requires
@@ -71,7 +53,7 @@ bind-requires c =
     record {
       sane = c.requires.sane;
       next_bound = c.requires.fetchable.next;
-      named = named c.args.s.now c.args.r c.requires.fetchable c.requires.code_of c.operation_whole-operation.ensures c.in-Bind.is;
+      named = fetched_named c.args.s.now c.args.r c.requires.fetchable c.requires.code_of c.operation_whole-operation.ensures c.in-Bind.is;
     }
 
 pub take-requires : goal.take-requires
@@ -79,7 +61,7 @@ take-requires c =
     record {
       sane = c.requires.sane;
       next_bound = c.requires.fetchable.next;
-      named = named c.args.s.now c.args.r c.requires.fetchable c.requires.code_of c.operation_whole-operation.ensures c.in-Take.is;
+      named = fetched_named c.args.s.now c.args.r c.requires.fetchable c.requires.code_of c.operation_whole-operation.ensures c.in-Take.is;
     }
 
 pub put-requires : goal.put-requires
@@ -87,7 +69,7 @@ put-requires c =
     record {
       sane = c.requires.sane;
       next_bound = c.requires.fetchable.next;
-      named = named c.args.s.now c.args.r c.requires.fetchable c.requires.code_of c.operation_whole-operation.ensures c.in-Put.is;
+      named = fetched_named c.args.s.now c.args.r c.requires.fetchable c.requires.code_of c.operation_whole-operation.ensures c.in-Put.is;
     }
 
 pub new_array-requires : goal.new_array-requires
@@ -95,7 +77,7 @@ new_array-requires c =
     record {
       sane = c.requires.sane;
       next_bound = c.requires.fetchable.next;
-      named = named c.args.s.now c.args.r c.requires.fetchable c.requires.code_of c.operation_whole-operation.ensures c.in-NewArray.is;
+      named = fetched_named c.args.s.now c.args.r c.requires.fetchable c.requires.code_of c.operation_whole-operation.ensures c.in-NewArray.is;
     }
 
 pub fetch-requires : goal.fetch-requires
@@ -103,7 +85,7 @@ fetch-requires c =
     record {
       sane = c.requires.sane;
       next_bound = c.requires.fetchable.next;
-      named = named c.args.s.now c.args.r c.requires.fetchable c.requires.code_of c.operation_whole-operation.ensures c.in-Fetch.is;
+      named = fetched_named c.args.s.now c.args.r c.requires.fetchable c.requires.code_of c.operation_whole-operation.ensures c.in-Fetch.is;
     }
 
 pub store-requires : goal.store-requires
@@ -111,7 +93,7 @@ store-requires c =
     record {
       sane = c.requires.sane;
       next_bound = c.requires.fetchable.next;
-      named = named c.args.s.now c.args.r c.requires.fetchable c.requires.code_of c.operation_whole-operation.ensures c.in-Store.is;
+      named = fetched_named c.args.s.now c.args.r c.requires.fetchable c.requires.code_of c.operation_whole-operation.ensures c.in-Store.is;
     }
 
 pub size-requires : goal.size-requires
@@ -119,7 +101,7 @@ size-requires c =
     record {
       sane = c.requires.sane;
       next_bound = c.requires.fetchable.next;
-      named = named c.args.s.now c.args.r c.requires.fetchable c.requires.code_of c.operation_whole-operation.ensures c.in-Size.is;
+      named = fetched_named c.args.s.now c.args.r c.requires.fetchable c.requires.code_of c.operation_whole-operation.ensures c.in-Size.is;
     }
 
 pub new_record-requires : goal.new_record-requires
@@ -127,7 +109,7 @@ new_record-requires c =
     record {
       sane = c.requires.sane;
       next_bound = c.requires.fetchable.next;
-      named = named c.args.s.now c.args.r c.requires.fetchable c.requires.code_of c.operation_whole-operation.ensures c.in-NewRecord.is;
+      named = fetched_named c.args.s.now c.args.r c.requires.fetchable c.requires.code_of c.operation_whole-operation.ensures c.in-NewRecord.is;
     }
 
 pub get_slot-requires : goal.get_slot-requires
@@ -135,7 +117,7 @@ get_slot-requires c =
     record {
       sane = c.requires.sane;
       next_bound = c.requires.fetchable.next;
-      named = named c.args.s.now c.args.r c.requires.fetchable c.requires.code_of c.operation_whole-operation.ensures c.in-GetSlot.is;
+      named = fetched_named c.args.s.now c.args.r c.requires.fetchable c.requires.code_of c.operation_whole-operation.ensures c.in-GetSlot.is;
     }
 
 pub set_slot-requires : goal.set_slot-requires
@@ -143,7 +125,7 @@ set_slot-requires c =
     record {
       sane = c.requires.sane;
       next_bound = c.requires.fetchable.next;
-      named = named c.args.s.now c.args.r c.requires.fetchable c.requires.code_of c.operation_whole-operation.ensures c.in-SetSlot.is;
+      named = fetched_named c.args.s.now c.args.r c.requires.fetchable c.requires.code_of c.operation_whole-operation.ensures c.in-SetSlot.is;
     }
 
 pub call-requires : goal.call-requires

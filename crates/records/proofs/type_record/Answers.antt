@@ -10,8 +10,7 @@ use Rattle.sheet.proofs.Laws.{size_range}
 use Rattle.sheet.specs.Layout.{ty_mark, most_named, edition_in, type_at, quals_of, named_of, slots_of, slot_of}
 use Rattle.limits.specs.Scale.{type_scale}
 use Rattle.form.specs.WellFormed.{record_tests, type_tests}
-use Rattle.records.proofs.type_record.Statement.{statement}
-use Rattle.records.proofs.type_record.Tie as tie
+use Rattle.records.proofs.type_record.Goals as goal
 
 type_place : (i : ℕ) → type_at (2 + i) ≡ 6 + 12 * i
 unfolding type_at
@@ -24,13 +23,9 @@ type-tests-at : (s : List ℕ) (i : ℕ) → type_tests s i ≡ tests-at s (6 + 
 unfolding type_tests quals_of named_of slots_of slot_of
 type-tests-at s i = ap (tests-at s) (type_place i)
 
-sub-type-scale : tie.Need-overflow-sub-type-scale
-sub-type-scale c = omega (arith, size_range _ _ c.before.requires.0)
+pub overflow_sub-size : goal.overflow_sub-size
+overflow_sub-size c = omega (arith, size_range _ _ c.requires.size_value)
 
-returns : tie.Need-returns
+pub returns : goal.returns
 returns c =
-    rw (c.«record».ensures, c.before.type_scale.ensures, c.before.before.byte.ensures, c.before.before.before.before.requires.0, type-tests-at)
-
-pub type-record-spec : {M : Type 1} → statement M
-type-record-spec =
-    tie.close (tie.spec (λ c. search rules) (λ c. search rules) (λ c. search rules) sub-type-scale (λ c κs. search rules) (λ c κs. search rules) (λ c κs. search rules) returns)
+    rw (c.«record».ensures, c.type_scale.ensures, c.byte.ensures, c.requires.size_value, type-tests-at)
