@@ -1,0 +1,19 @@
+use Prim.Native.Nat.{◌-◌, ◌≤◌}
+use mathlib.Core.Path.{◌≡◌, refl, sym, ap, ◌∙◌}
+use lib.ListN.{length}
+use Rattle.lent_step.specs.Counts.{turned}
+use Rattle.run_by_frames.specs.Turn.{mode_of, ScopeFor}
+use Rattle.run_by_frames.proofs.Turn.{Kept, begun_kept, kept_with, same_code, sane, ready, halts, completes, keeps_on, enters}
+use Rattle.run_by_frames.proofs.Scope.{scope_stays}
+use native.Mathlib.Omega.{arith}
+use borrow.Author.Rules.{rules}
+use Rattle.run_by_frames.proofs.run.run_frame.Given as goal
+
+abbrev pub invariant-loop-r : goal.invariant-loop-r
+invariant-loop-r l =
+    (l.initial.r.steps ≤ l.r.steps)
+    × ((l.r.steps ≤ l.until)
+    × ((l.r ≡ kept_with l.initial.r l.r) × (Kept (mode_of l.watch) l.s l.input l.until (length l.initial.memory) l.initial.memory l.initial.output l.initial.r l.memory l.output l.r × ScopeFor l.watch l.s l.memory l.r l.p)))
+
+abbrev pub decreases-loop-r : goal.decreases-loop-r
+decreases-loop-r l = l.until - l.r.steps

@@ -1,0 +1,15 @@
+use Prim.Native.Nat.{◌-◌, ◌≤◌}
+use mathlib.Core.Path.{sym, ap, ◌∙◌}
+use lib.ListN.{length, drop}
+use Rattle.run_by_frames.specs.Turn.{mode_of}
+use Rattle.run_by_frames.proofs.Turn.{Kept, begun_kept, begins, enters_frame, rests, ends_run}
+use native.Mathlib.Omega.{arith}
+use borrow.Author.Rules.{rules}
+use Rattle.run_by_frames.proofs.run.run_until.Given as goal
+
+abbrev pub invariant-loop-q : goal.invariant-loop-q
+invariant-loop-q l =
+    (l.r.steps ≤ l.until) × Kept (mode_of l.watch) l.s l.input l.until (length l.initial.memory) l.initial.memory l.initial.output l.initial.r l.memory l.output l.r
+
+abbrev pub decreases-loop-q : goal.decreases-loop-q
+decreases-loop-q l = l.until - l.r.steps
