@@ -7,7 +7,7 @@ use lib.ListN.{length, get_or, replicate}
 use Rattle.model.specs.Modes.{plain}
 use Rattle.model.specs.Refusal.{verdict}
 use Rattle.model.specs.Rules.{access_rules}
-use Rattle.model.specs.Run.{End, stopped, run}
+use Rattle.model.specs.Run.{End, stopped, stuck_at, run}
 use Rattle.model.specs.declared.Verdict.TheVariants.{Accepted}
 use Rattle.sheet.specs.Meaning.{program_of, place_of}
 use Rattle.form.specs.WellFormed.{form_tests}
@@ -25,6 +25,7 @@ pub answers : (memory output output' : List ℕ) (e : Ended) (r : Reply) (zeros 
     → r ≡ stopped_at e.number e.steps e.put e.procedure e.instruction → zeros ≡ replicate (length memory) 0 → EndedIs e output output' x
     → ends memory output x ≡ some (answered r zeros output')
 answers memory output output' e r zeros (stopped x n put p i) q z (ended a b c d f o) = rw (q, z, a, b, c, d, f, o)
+answers memory output output' e r zeros (stuck_at n put p i) q z x = elim x [ ]
 
 pub formed_sheet : (s : List ℕ) → check s ≡ Accepted → verdict (form_tests s) ≡ Accepted
 unfolding check check_tests

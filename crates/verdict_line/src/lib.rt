@@ -16,7 +16,9 @@ fn append(out: &mut [u8], at: usize, part: &[u8]) -> usize
     ensures value { result ≡ at + length part.now }
     ensures out_after { take result out.new ≡ take at out.old ++ part.now }
 {
-    at + bytes::copy(part, &mut out[at..])
+    let end = at + part.len();
+    out[at..end].copy_from_slice(part);
+    end
 }
 
 // Puts a number after the first `at` bytes of the line, in decimal, and gives how many it has then.
