@@ -1,6 +1,7 @@
 // Binding a value to a declared type, as the watched machine does it: its kind is tested (18), then the rights that it carries (19), and it goes on with
 // the declared rights. h is the objects' part of the memory.
 #![tactic(auto)]
+
 ghost use Rattle.std.specs.Prelude.{◌≡◌, List, true, ℕ};
 ghost use Rattle.model.specs.Qualified.{declared};
 ghost use Rattle.model.specs.Modes.{fits};

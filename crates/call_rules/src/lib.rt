@@ -1,5 +1,6 @@
 // The rules of calls and returns. 255 as a variable, or as a result, is none.
 #![tactic(auto)]
+
 ghost use Rattle.std.specs.Prelude.{◌≡◌, cond, eqb, ◌+◌, ◌<◌};
 ghost use Rattle.model.specs.Generic.{Bound, own};
 ghost use Rattle.model.specs.Refusal.{failure, each};

@@ -1,5 +1,11 @@
--- What an answer of C's read or write asks for, by POSIX.
+-- What an answer of C's read or write asks for, by POSIX; and of std's, which give the same as a result.
 use Rattle.std.specs.Prelude.{ℕ, suc, zero, cond, ℤ, pos, negsuc, eqb}
+use Rattle.core.specs.declared.option.Option.{Option}
+use Rattle.core.specs.declared.option.Option.TheVariants.{Some, None}
+use Rattle.core.specs.declared.result.Result.{Result}
+use Rattle.core.specs.declared.result.Result.TheVariants.{Ok, Err}
+use Rattle.std_io.specs.IoError.{raw_os_error}
+use Rattle.std_io.specs.declared.io.error.Error.{Error}
 use Rattle.checker.specs.declared.calls.Answer.{Answer}
 use Rattle.checker.specs.declared.calls.Answer.TheVariants.{Moved, Ended, Again, Wait, Failed}
 
@@ -13,3 +19,16 @@ unfoldable pub meant : ℤ → ℤ → Answer
 meant (pos zero) error = Ended
 meant (pos (suc n)) error = Moved (suc n)
 meant (negsuc n) error = failed error
+
+-- the number after a failure, 0 where the system gave none
+abbrev pub number : Option ℤ → ℤ
+number (Some code) = code
+number None = pos 0
+
+abbrev pub errno : Error → ℤ
+errno failure = number (raw_os_error failure)
+
+-- std gives the number of bytes moved as `Ok`, and -1 with its errno as `Err`
+abbrev pub answered : Result ℕ Error → Answer
+answered (Ok n) = meant (pos n) (pos 0)
+answered (Err failure) = meant (negsuc 0) (errno failure)

@@ -1,6 +1,12 @@
-// What C's read and write answer.
+// What the calls that read and write answer: C's, and those of std that stand for them.
 ghost use Rattle.std.specs.Prelude.{◌≡◌};
 ghost use Rattle.checker.specs.Calls as def;
+
+use std::io;
+
+// POSIX's numbers of two errors, on Linux.
+const EINTR: i32 = 4;
+const EAGAIN: i32 = 11;
 
 // What an answer asks for.
 #[derive(Clone, Copy)]
@@ -28,11 +34,32 @@ pub fn meant(got: isize, error: i32) -> Answer
 fn failed(error: i32) -> Answer
     ensures { result ≡ def.failed error }
 {
-    if error == libc::EINTR {
+    if error == EINTR {
         Answer::Again
-    } else if error == libc::EAGAIN {
+    } else if error == EAGAIN {
         Answer::Wait
     } else {
         Answer::Failed
+    }
+}
+
+// The errno of a failure, 0 where the system gave none.
+fn errno_of(failure: &io::Error) -> i32
+    ensures { result ≡ def.errno failure.now }
+{
+    match failure.raw_os_error() {
+        Some(code) => code,
+        None => 0,
+    }
+}
+
+// What a call of std answered, which gives C's number and errno as a result.
+pub fn answered(outcome: &io::Result<usize>) -> Answer
+    ensures { result ≡ def.answered outcome.now }
+{
+    match outcome {
+        Ok(0) => Answer::Ended,
+        Ok(n) => Answer::Moved(*n),
+        Err(failure) => meant(-1, errno_of(failure)),
     }
 }

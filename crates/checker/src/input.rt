@@ -2,8 +2,10 @@
 ghost use Rattle.std.specs.Prelude.{◌≤◌, ◌≡◌, length, take};
 ghost use Rattle.checker.specs.Input as def;
 
-use crate::calls::{Answer, meant};
+use crate::calls::{Answer, answered};
 use pause::pause;
+use std::io::{Error, Read, Stdin};
+use std::time::Clock;
 
 // How far the input is read.
 #[derive(Clone, Copy)]
@@ -37,23 +39,35 @@ fn reached(size: usize, n: usize) -> Input
     }
 }
 
-// One call of read for what is free of the buffer. The bytes read before stay.
-fn read_once(buffer: &mut [u8], done: usize) -> Input
+// One call of read for what is free of the buffer. The bytes read before stay. What failed last stays in `failure`.
+fn read_once(
+    stdin: &mut Stdin,
+    clock: &impl Clock,
+    buffer: &mut [u8],
+    done: usize,
+    failure: &mut Option<Error>,
+) -> Input
     requires { done ≤ length buffer.old }
     ensures held { def.Held done (length buffer.old) result }
     ensures buffer_unchanged { take done buffer.new ≡ take done buffer.old }
 {
     let size = buffer.len();
-    let got = libc::read(libc::STDIN_FILENO, &mut buffer[done..]);
-    let answer = meant(got, os::errno());
+    let outcome = stdin.read(&mut buffer[done..]);
+    let answer = answered(&outcome);
+    *failure = outcome.err();
     if let Answer::Wait = answer {
-        pause();
+        pause(clock);
     }
     after(size, done, answer)
 }
 
-// Reads until nothing is left, the buffer is full or a call fails.
-pub fn read_input(buffer: &mut [u8]) -> Input
+// Reads until nothing is left, the buffer is full or a call fails, which `failure` then tells.
+pub fn read_input(
+    stdin: &mut Stdin,
+    clock: &impl Clock,
+    buffer: &mut [u8],
+    failure: &mut Option<Error>,
+) -> Input
     ensures { def.Held 0 (length buffer.new) result }
 {
     let mut done = 0;
@@ -61,7 +75,7 @@ pub fn read_input(buffer: &mut [u8]) -> Input
     let mut turns = u64::MAX;
     while turns > 0 {
         turns -= 1;
-        let input = read_once(buffer, done);
+        let input = read_once(stdin, clock, buffer, done, failure);
         let Input::Partial(n) = input else {
             return input;
         };

@@ -1,5 +1,6 @@
 // Reads a sheet on standard input and writes a word, a number and a place. What is no input read to its end gets no verdict.
 #![tactic(auto)]
+
 mod calls;
 mod input;
 mod output;
@@ -10,7 +11,10 @@ ghost use Rattle.checker.specs.Input.{Held};
 ghost use Rattle.checker.specs.Said.{said};
 
 use input::{Input, read_input};
-use output::write_line;
+use output::{tell, write_line};
+use std::env;
+use std::io;
+use std::io::Write;
 use verdict_line::{LINE_BYTES, put_line};
 
 // The line of the verdict on the bytes read, where they are the whole input; otherwise nothing.
@@ -27,22 +31,25 @@ fn put_said(buffer: &[u8], input: Input, line: &mut [u8; LINE_BYTES]) -> usize
 }
 
 // A byte more than the longest sheet has: what fills it is refused whatever follows.
-fn answer() {
+fn answer(rt: &HostRuntime) -> io::Result<()> {
     let mut buffer = [0u8; 32769];
-    let input = read_input(&mut buffer);
+    let mut failure = None;
+    let input = read_input(&mut rt.stdin(), rt, &mut buffer, &mut failure);
     let mut line = [0u8; LINE_BYTES];
     let n = put_said(&buffer, input, &mut line);
+    let mut stderr = rt.stderr();
     if n > 0 {
-        write_line(&line[..n]);
-    } else {
-        os::fail(b"wennathig-check: standard input");
+        return write_line(rt.alloc(), rt, &mut rt.stdout(), &mut stderr, &line[..n]);
+    }
+    match failure {
+        Some(why) => tell(rt.alloc(), &mut stderr, "standard input", &why),
+        None => stderr.write_all(b"wennathig-check: standard input\n"),
     }
 }
 
-fn main() {
-    if os::arg_count() > 1 {
-        io::write_all(libc::STDERR_FILENO, b"usage: wennathig-check <SHEET\n");
-    } else {
-        answer();
+fn main(rt: HostRuntime) -> io::Result<()> {
+    if env::args(&rt)?.count() > 1 {
+        return rt.stderr().write_all(b"usage: wennathig-check <SHEET\n");
     }
+    answer(&rt)
 }

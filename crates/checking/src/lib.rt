@@ -1,5 +1,6 @@
 // The checker: from any bytes to a verdict.
 #![tactic(auto)]
+
 ghost use Rattle.std.specs.Prelude.{◌≡◌};
 ghost use Rattle.index.specs.Indexed.{Indexed};
 ghost use Rattle.checking.specs.Check as def;

@@ -1,5 +1,6 @@
 // The access rules of each declaration: refusals 6 and 7. The number of its first refusal, 0 where there is none.
 #![tactic(auto)]
+
 ghost use Rattle.std.specs.Prelude.{◌≡◌, List, ℕ, ◌+◌};
 ghost use Rattle.model.specs.Qualified.{element};
 ghost use Rattle.model.specs.Refusal.{failure, each};

@@ -1,5 +1,6 @@
 // What the caller's host, written in C, calls: numbers and slices only.
 #![tactic(auto)]
+
 ghost use Rattle.std.specs.Prelude.{◌≡◌, set};
 ghost use Rattle.std.proofs.Math.Option.{some};
 ghost use Rattle.model.specs.Modes.{plain};

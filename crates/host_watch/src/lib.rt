@@ -1,5 +1,6 @@
 // The watched machine for a host written in C, in a library of its own: there the flag that tells the machines apart is a constant.
 #![tactic(auto)]
+
 ghost use Rattle.std.specs.Prelude.{◌≡◌};
 ghost use Rattle.std.proofs.Math.Option.{some};
 ghost use Rattle.model.specs.Modes.{watched};

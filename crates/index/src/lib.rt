@@ -1,6 +1,7 @@
 // The index of a sheet: a word for each qualified type and for each procedure, made once from the bytes and lent to all that is above. Nothing above reads a
 // QT of the sheet, and a later table is more words of the same array.
 #![tactic(auto)]
+
 pub mod types; // the qualified types by their numbers
 pub mod procedures; // the procedures by theirs
 pub mod make; // the index from the bytes

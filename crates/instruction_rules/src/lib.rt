@@ -1,5 +1,6 @@
 // The access rules of each instruction: refusals 8, 9, 20 and 21.
 #![tactic(auto)]
+
 ghost use Rattle.std.specs.Prelude.{◌≡◌, ◌<◌};
 ghost use Rattle.model.specs.Refusal.{failure};
 ghost use Rattle.model.specs.Generic.{own};

@@ -1,5 +1,6 @@
 // The pass over all records in their order, one loop a kind, and the bytes left over.
 #![tactic(auto)]
+
 ghost use Rattle.std.specs.Prelude.{◌≡◌, ◌++◌, ◌-◌, ◌≤◌, ◌<◌};
 ghost use Rattle.model.specs.Refusal.{verdict, each};
 ghost use Rattle.sheet.specs.Layout.{rights_size, edition_in, procedures_of, variables_field, instructions_at, start_from};

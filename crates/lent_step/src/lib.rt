@@ -1,5 +1,6 @@
 // One step of the plain machine, counted unless it stops: by value, and of registers lent by `&mut`.
 #![tactic(auto)]
+
 ghost use Rattle.std.specs.Prelude.{◌≡◌, ◌+◌, ◌<◌, ◌^◌};
 ghost use Rattle.model.specs.Modes.{plain};
 ghost use Rattle.lent_step.specs.Counts.{Steppable, TurnIs, counted, turned, after_turn};

@@ -1,5 +1,6 @@
 // The limits of each record's fields, as tests on plain numbers. They are branch-free, so that each is its definition read aloud.
 #![tactic(auto)]
+
 ghost use Rattle.std.specs.Prelude.{◌≡◌, cond};
 ghost use Rattle.sheet.specs.Instructions.{line_of};
 ghost use Rattle.limits.specs.Scale.{below_or_none, header_scale, rights_scale, qual_scale, bound_scale, procedure_scale, variable_scale, line_scale, instruction_scale, actuals_scale};

@@ -1,6 +1,6 @@
 -- Types with ?R as a frame reads them: what check asks of a type as its procedure reads it holds of the type in every frame of the procedure.
 use mathlib.Core.Path.{◌≡◌, refl, ap, sym, subst, ◌∙◌}
-use mathlib.Core.Bool.{Bool, true, false, false≢true, ◌&&◌, cond}
+use mathlib.Core.Bool.{Bool, true, false, false≢true, cond}
 use borrow.Author.Tests.{eq-eqb}
 use Rattle.model.specs.Rights.{Rights, within, has, open_right, store_right}
 use Rattle.model.specs.Qualified.{Qual, integer, array, declared, generic, base, rights, element, is_integer, is_array, is_generic, same, alike, covers, order}

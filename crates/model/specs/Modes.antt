@@ -7,7 +7,7 @@ use Rattle.model.specs.Rights.{Rights, within, has, store_right}
 use Rattle.model.specs.Qualified.{Qual, base, rights, element, is_integer, is_array, elements}
 use Rattle.model.specs.Generic.{Bound, own, instance, settled, is_settled, is_enough}
 use Rattle.model.specs.Rules.{amplifies}
-use Rattle.model.specs.Outcome.{wrong_kind, missing_right, Res, ok, stop, stuck, ◌>>=◌, ◌>>◌, ensure}
+use Rattle.model.specs.Outcome.{wrong_kind, missing_right, Res, ok, stop, stuck, ◌>>◌, ensure}
 
 pub data Mode : Type 0 where
   plain watched : Mode

@@ -1,5 +1,6 @@
 // The rule of each operation but calls and returns, in the scope of a procedure, p: the number of its refusal, 0 where there is none.
 #![tactic(auto)]
+
 ghost use Rattle.std.specs.Prelude.{◌≡◌};
 ghost use Rattle.model.specs.Refusal.{failure};
 ghost use Rattle.model.specs.Rules.{moves, integer_rule, integers_rule, new_array_rule, new_record_rule, fetch_rule, store_rule, size_rule, get_slot_rule, set_slot_rule};

@@ -1,6 +1,7 @@
 // The order of the qualified types of an index: equality, ≥ and movements, by their numbers. Each side reads ?R as its name has it, so that one number may
 // stand for two types.
 #![tactic(auto)]
+
 ghost use Rattle.std.specs.Prelude.{◌≡◌, Bool, true, cond, ◌&&◌, eqb, List, ℕ};
 ghost use Rattle.model.specs.Rights.{within};
 ghost use Rattle.model.specs.Qualified.{same, order, elements};

@@ -2,6 +2,7 @@
 // A blank that is read or moved is 13. No kind is tested: where a value has not the kind due the definition is stuck, and of an accepted sheet
 // condition 3 says that it never is. The variables that are read are the frame's, which the callers owe.
 #![tactic(auto)]
+
 ghost use Rattle.std.specs.Prelude.{◌≡◌, ℕ, ◌<◌, List, length};
 ghost use Rattle.model.specs.Qualified.{Qual};
 ghost use Rattle.model.specs.Program.{Program};

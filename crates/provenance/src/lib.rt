@@ -1,2 +1,3 @@
 // Where a right came from (document 02, S-4), over a program: defined and stated in specs/, proved in proofs/.
 #![tactic(auto)]
+

@@ -1,6 +1,7 @@
 // A reader of records: the sheet and an offset in it, over the covered functions of `sheet::records`. Its functions only take it apart and put it together.
 // A caller that has the sheet as a plain slice takes the last two, and needs no proof by hand.
 #![tactic(auto)]
+
 ghost use Rattle.std.specs.Prelude.{◌≡◌};
 ghost use Rattle.sheet.specs.Reader.{record_bytes, past_at, left_at};
 

@@ -1,5 +1,6 @@
 // One record of each kind: whole, under its mark, within its limits.
 #![tactic(auto)]
+
 ghost use Rattle.std.specs.Prelude.{◌≡◌, ◌+◌, ◌<◌, ◌≤◌, ltb, length};
 ghost use Rattle.model.specs.Refusal.{verdict};
 ghost use Rattle.sheet.specs.Bytes.{byte_at, mark};

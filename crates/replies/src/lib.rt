@@ -1,5 +1,6 @@
 // A reply as C reads it: words in a buffer that is lent.
 #![tactic(auto)]
+
 ghost use Rattle.std.specs.Prelude.{◌≡◌, set};
 ghost use Rattle.replies.specs.Words.{reply_words};
 

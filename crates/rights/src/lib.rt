@@ -1,5 +1,6 @@
 // Sets of rights: bit i is right i.
 #![tactic(auto)]
+
 ghost use Rattle.std.specs.Prelude.{◌≡◌, ◌<◌};
 ghost use Rattle.model.specs.Rights.{within, has, none_above};
 

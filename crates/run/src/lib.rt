@@ -1,5 +1,6 @@
 // A run of any bytes: check them, then a machine in the lent memory.
 #![tactic(auto)]
+
 ghost use Rattle.std.specs.Prelude.{◌≡◌, ◌≤◌, length};
 ghost use Rattle.std.proofs.Math.Option.{some};
 ghost use Rattle.model.specs.Modes.{plain, watched};

@@ -1,5 +1,6 @@
 // A whole run inside the lent memory, one frame after another.
 #![tactic(auto)]
+
 pub mod run; // from main's frame to the stop, or to a number of steps
 
 use writers::Registers;

@@ -1,6 +1,7 @@
 // What a call settles ?R of the procedure called to (document 02, S-1). Check and the watched machine ask it of the declared types of the actuals, each as
 // its caller reads ?R.
 #![tactic(auto)]
+
 ghost use Rattle.std.specs.Prelude.{◌≡◌, ℕ, ◌+◌, Bool, false, ◌||◌, List, ◌++◌};
 ghost use Rattle.model.specs.Rights.{less_open};
 ghost use Rattle.model.specs.Qualified.{Qual, is_array, same};

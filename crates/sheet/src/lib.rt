@@ -1,5 +1,6 @@
 // The bytes of a sheet (document 01: worksheet): its fields, its records, its instructions.
 #![tactic(auto)]
+
 pub mod bytes; // single bytes and words, marks, what stands whole
 pub mod edition; // what the edition decides: how many bytes rights take
 pub mod places; // where each record starts

@@ -1,2 +1,3 @@
 // Condition 3 over the bytes of a sheet: stated in specs/, proved in proofs/.
 #![tactic(auto)]
+

@@ -1,6 +1,7 @@
 // Call and return of the watched machine, with every binding, each in the scope of a frame. A stop may leave words between the objects and the frames:
 // nothing stands there.
 #![tactic(auto)]
+
 ghost use Rattle.std.specs.Prelude.{List, ℕ, ◌+◌, ◌≤◌, length, take};
 ghost use Rattle.std.proofs.Math.Option.{none, some};
 ghost use Rattle.model.specs.Rights.{Rights};

@@ -1,6 +1,7 @@
 // The operations of the watched machine on arrays and records: what each asks for (crate watched_plan), done (crate writers). p is the scope of the running
 // frame.
 #![tactic(auto)]
+
 ghost use Rattle.std.specs.Prelude.{List, ℕ, ◌-◌, ◌<◌, length, ◌≡◌, false};
 ghost use Rattle.model.specs.Qualified.{is_generic};
 ghost use Rattle.model.specs.Modes.{watched};

@@ -1,6 +1,7 @@
 // What each instruction of the watched machine asks for, with every test of kind and right, found by reading alone: f is the running frame's part of the
 // memory, h the objects' part, p the scope in which it reads its types. Every test reads carried rights.
 #![tactic(auto)]
+
 ghost use Rattle.std.specs.Prelude.{◌≡◌, ℕ, ◌<◌, List, length, if◌then◌else◌, nat_lt};
 ghost use Rattle.model.specs.Qualified.{Qual, rights, element, is_integer};
 ghost use Rattle.model.specs.Generic as generic;

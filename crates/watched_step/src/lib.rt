@@ -1,3 +1,4 @@
 // The watched machine: one instruction inside the lent memory.
 #![tactic(auto)]
+
 pub mod step; // one instruction

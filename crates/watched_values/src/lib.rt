@@ -1,6 +1,7 @@
 // The operations of the watched machine on values, on input and on output: what each asks for (crate watched_plan), done (crate writers). p is the scope of
 // the running frame.
 #![tactic(auto)]
+
 ghost use Rattle.std.specs.Prelude.{List, ℕ, ◌<◌, length};
 ghost use Rattle.model.specs.Modes.{watched};
 ghost use Rattle.model.specs.declared.Operation.TheVariants as Op;

@@ -1,6 +1,7 @@
 // Well-formedness, refusals 1 to 5: the layout, then the pass for calls, with where ?R may not stand and the limits of a call that wait for the procedure
 // called.
 #![tactic(auto)]
+
 pub mod uses; // where ?R may not stand
 
 ghost use Rattle.std.specs.Prelude.{◌≡◌, [], ◌∷◌};

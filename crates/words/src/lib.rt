@@ -1,5 +1,6 @@
 // One word of the memory: what it stands for, and how it is read and written.
 #![tactic(auto)]
+
 ghost use Rattle.std.specs.Prelude.{◌≡◌, ℕ, ◌+◌, ◌<◌, ◌≤◌, ◌^◌, length, get_or, set, replicate};
 ghost use Rattle.model.specs.Qualified.{Qual, declared};
 ghost use Rattle.model.specs.Generic as generic;
