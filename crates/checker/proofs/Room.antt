@@ -4,12 +4,18 @@ use mathlib.Core.Bool.{Bool, true, false, cond}
 use Prim.Native.Nat.{ℕ, zero, suc, ◌+◌, ◌≤◌, zero-le}
 use lib.IntN.{ℤ, pos, negsuc}
 use lib.Dec.{eqb}
-use Rattle.libc.specs.Io.{Moved}
+use lib.ListN.{length}
+use mathlib.Core.List.{List}
+use mathlib.Core.Path.{◌≡◌}
 use Rattle.checker.specs.declared.calls.Answer.{Answer}
 use Rattle.checker.specs.declared.calls.Answer.TheVariants as answer
 use Rattle.checker.specs.declared.input.Input.{Input}
 use Rattle.checker.specs.declared.input.Input.TheVariants.{Partial, Whole, Unread}
-use Rattle.checker.specs.Calls.{failed, meant}
+use Rattle.std.specs.Io.{ReadsAtMost}
+use Rattle.std.specs.declared.result.Result.{Result}
+use Rattle.std.specs.declared.result.Result.TheVariants.{Ok, Err}
+use Rattle.std.specs.declared.io.Error.{Error}
+use Rattle.checker.specs.Calls.{failed, meant, errno, answered}
 use Rattle.checker.specs.Input.{reached, after, Room, Held}
 
 -- what holds of both holds of the one that is taken
@@ -24,11 +30,11 @@ module _ (size done : ℕ) where
   failed_room (negsuc e) h = h
 
   -- a call that is lent what is free of the buffer
-  pub room : (free : ℕ) (got error : ℤ) → done + free ≤ size → Moved free got → Room size done (meant got error)
+  pub room : (part : List ℕ) (r : Result ℕ Error) (a : Answer) → done + length part ≤ size → ReadsAtMost r part → a ≡ answered r → Room size done a
   unfolding meant
-  room free (pos zero) error h m = omega arith
-  room free (pos (suc n)) error h m = omega arith
-  room free (negsuc n) error h m = failed_room error (omega arith)
+  room part (Ok zero) a h m e = rw e (omega arith)
+  room part (Ok (suc n)) a h m e = rw e (omega (arith, m.0))
+  room part (Err f) a h m e = rw e (failed_room (errno f) (omega arith))
 
   pub held : (a : Answer) → Room size done a → Held done size (after size done a)
   unfolding after reached

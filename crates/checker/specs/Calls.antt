@@ -1,11 +1,11 @@
 -- What an answer of C's read or write asks for, by POSIX; and of std's, which give the same as a result.
 use Rattle.std.specs.Prelude.{ℕ, suc, zero, cond, ℤ, pos, negsuc, eqb}
-use Rattle.core.specs.declared.option.Option.{Option}
-use Rattle.core.specs.declared.option.Option.TheVariants.{Some, None}
-use Rattle.core.specs.declared.result.Result.{Result}
-use Rattle.core.specs.declared.result.Result.TheVariants.{Ok, Err}
-use Rattle.std_io.specs.IoError.{raw_os_error}
-use Rattle.std_io.specs.declared.io.error.Error.{Error}
+use Rattle.std.specs.declared.option.Option.{Option}
+use Rattle.std.specs.declared.option.Option.TheVariants.{Some, None}
+use Rattle.std.specs.declared.result.Result.{Result}
+use Rattle.std.specs.declared.result.Result.TheVariants.{Ok, Err}
+use Rattle.std.specs.IoError.{raw_os_error}
+use Rattle.std.specs.declared.io.Error.{Error}
 use Rattle.checker.specs.declared.calls.Answer.{Answer}
 use Rattle.checker.specs.declared.calls.Answer.TheVariants.{Moved, Ended, Again, Wait, Failed}
 

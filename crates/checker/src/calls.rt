@@ -1,5 +1,5 @@
 // What the calls that read and write answer: C's, and those of std that stand for them.
-ghost use Rattle.std.specs.Prelude.{◌≡◌};
+ghost use Rattle.std.specs.Prelude.{◌≡◌, pos};
 ghost use Rattle.checker.specs.Calls as def;
 
 use std::io;
@@ -53,13 +53,19 @@ fn errno_of(failure: &io::Error) -> i32
     }
 }
 
+// A call that moved so many bytes.
+fn counted(n: usize) -> Answer
+    ensures { result ≡ def.meant (pos n) (pos 0) }
+{
+    if n == 0 { Answer::Ended } else { Answer::Moved(n) }
+}
+
 // What a call of std answered, which gives C's number and errno as a result.
 pub fn answered(outcome: &io::Result<usize>) -> Answer
     ensures { result ≡ def.answered outcome.now }
 {
     match outcome {
-        Ok(0) => Answer::Ended,
-        Ok(n) => Answer::Moved(*n),
+        Ok(n) => counted(*n),
         Err(failure) => meant(-1, errno_of(failure)),
     }
 }
