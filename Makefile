@@ -7,7 +7,7 @@
 
 # All that a proof reads. A folder's time changes with the files in it, so that a removed file counts too.
 # rt proves again only the crates that changed.
-proved := crates.txt $(shell find crates -name must-fail -prune -o -print)
+proved := crates.txt $(shell find crates \( -name must-fail -o -name out \) -prune -o -print)
 
 # Strict C99 against the header.
 compile_c := gcc -std=c99 -O2 -Wall -Wextra -Werror -pedantic -Iinclude

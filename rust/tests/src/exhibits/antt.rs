@@ -10,9 +10,7 @@ use reference::{Program, Rights};
 const SPECS: &str = "\
 -- Generated sheets and the chains that the second engine reads off their runs (document 02, S-4): rust/tests, `exhibits specs`.
 -- Bytes in decimal, one record a line; 255 is none or unused.
-use Prim.Native.Nat.{ℕ}
-use mathlib.Core.Path.{_≡_}
-use mathlib.Core.List.{List, [], _∷_, map}
+use Rattle.std.specs.Prelude.{ℕ, ◌≡◌, List, [], ◌∷◌, map}
 ";
 
 const PROOFS: &str = "\
@@ -26,7 +24,7 @@ const NAMES: [(&str, &[&str]); 3] = [
     ("provenance.specs.Location", &["variable", "cell"]),
     (
         "provenance.specs.Chain",
-        &["nowhere", "made-in", "amplified-in", "bound-in", "chain"],
+        &["nowhere", "made_in", "amplified_in", "bound_in", "chain"],
     ),
 ];
 
@@ -43,9 +41,9 @@ pub fn specs(exhibits: &[Exhibit]) -> String {
             .copied()
             .filter(|name| words.contains(name))
             .collect();
-        format!("use Rattle·{module}.{{{}}}\n", used.join(", "))
+        format!("use Rattle.{module}.{{{}}}\n", used.join(", "))
     });
-    let meaning = "use Rattle·sheet.specs.Meaning.{programOf}\n";
+    let meaning = "use Rattle.sheet.specs.Meaning.{program_of}\n";
     let all = named("Chains", exhibits, " × ");
     let all = format!("\nabbrev pub GeneratedChains : Type 0\nGeneratedChains = {all}\n");
     format!("{SPECS}{}{meaning}{body}{all}", uses.concat())
@@ -53,26 +51,28 @@ pub fn specs(exhibits: &[Exhibit]) -> String {
 
 /// The proof of them.
 pub fn proofs(exhibits: &[Exhibit]) -> String {
-    let listed = named("sheet", exhibits, ", ");
-    let stated = "use Rattle·cases·specs.specs.GeneratedChains.";
-    let computing = "use Rattle·cases·proofs.proofs.Computing.{computing}";
-    let unfolded = named("sheet", exhibits, " ");
+    let listed = named("sheet_", exhibits, ", ");
+    let stated = "use Rattle.cases.specs.GeneratedChains.";
+    let computing = "use Rattle.cases.proofs.Computing.{computing}";
+    let unfolded = named("sheet_", exhibits, " ");
     let proof = vec!["refl"; exhibits.len()].join(", ");
     format!(
         "{PROOFS}{stated}{{{listed}}}
 {stated}{{GeneratedChains}}
 {computing}
 
-pub generated-chains : GeneratedChains
+pub generated_chains : GeneratedChains
 unfolding computing {unfolded}
-generated-chains = ({proof})
+generated_chains = ({proof})
 "
     )
 }
 
-/// The names of a definition of each exhibit.
-fn named(of: &str, exhibits: &[Exhibit], separator: &str) -> String {
-    let names: Vec<String> = (1..=exhibits.len()).map(|n| format!("{of}-{n}")).collect();
+/// The names of a definition of each exhibit: how they begin, and a number.
+fn named(begins: &str, exhibits: &[Exhibit], separator: &str) -> String {
+    let names: Vec<String> = (1..=exhibits.len())
+        .map(|n| format!("{begins}{n}"))
+        .collect();
     names.join(separator)
 }
 
@@ -110,13 +110,13 @@ fn definition(number: usize, exhibit: &Exhibit) -> String {
     format!(
         "
 -- generated sheet {number}: {shows}
-unfoldable pub sheet-{number} : List ℕ
-sheet-{number} =
+unfoldable pub sheet_{number} : List ℕ
+sheet_{number} =
 {bytes}    []
 
-abbrev pub Chains-{number} : Type 0
-Chains-{number} =
-    map (chain (programOf sheet-{number}) {memory} {output} ({input}) {fuel} {after})
+abbrev pub Chains{number} : Type 0
+Chains{number} =
+    map (chain (program_of sheet_{number}) {memory} {output} ({input}) {fuel} {after})
     ({places}) ≡
 {chains}    []
 "
@@ -193,13 +193,13 @@ impl Writer<'_> {
     fn link(&self, link: &Link) -> String {
         let step = link.step;
         match link.origin {
-            Origin::Made => format!("(made-in {step}"),
+            Origin::Made => format!("(made_in {step}"),
             Origin::Amplified { procedure, formal } => {
-                format!("(amplified-in {step} {procedure} {formal}")
+                format!("(amplified_in {step} {procedure} {formal}")
             }
             Origin::BoundFrom { from, ref through } => {
                 let through = list(through.iter().map(|&read| self.declared(read)));
-                format!("(bound-in {step} ({}) ({through})", self.location(from))
+                format!("(bound_in {step} ({}) ({through})", self.location(from))
             }
             Origin::Stays | Origin::GivenUp => panic!("{link:?} is no link"),
         }
