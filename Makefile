@@ -1,8 +1,8 @@
-# The libraries, the checking program, the command, the samples and the tests. What Rattle proves is built by rt, under target/;
-# what others use is copied to build/.
+# The libraries, the checking program, the command, the samples and the tests. What Rattle proves is built by rt, in each crate's
+# out/; what others use is copied to build/.
 
 .PHONY: all lib watch checker command host demo test bench fuzz install uninstall clean
-.NOTPARALLEL: # two rt at once would share target/
+.NOTPARALLEL: # two rt at once would wait for one another
 .DELETE_ON_ERROR:
 
 # All that a proof reads. A folder's time changes with the files in it, so that a removed file counts too.
@@ -23,19 +23,20 @@ checker: build/wennathig-check
 host: build/wennathig-host
 
 build/libwennathig.a: $(proved)
-	rt staticlib host
+	cd crates/host && rt lib
 	@mkdir -p build
-	cp target/staticlib/libhost.a $@
+	cp crates/host/out/libhost.a $@
 
 build/libwennathig_watch.a: $(proved)
-	rt staticlib host_watch
+	cd crates/host_watch && rt lib
 	@mkdir -p build
-	cp target/staticlib/libhost_watch.a $@
+	cp crates/host_watch/out/libhost_watch.a $@
 
+# rt builds a program by running it: here of no input, which it refuses.
 build/wennathig-check: $(proved)
-	rt check checker
+	cd crates/checker && rt run </dev/null
 	@mkdir -p build
-	cp target/bin/checker $@
+	cp crates/checker/out/checker $@
 
 # cargo knows what of the command has changed.
 command: lib
@@ -123,4 +124,4 @@ uninstall:
 	rm -f $(installed)
 
 clean:
-	rm -rf build target
+	rm -rf build target crates/*/out
