@@ -20,7 +20,7 @@ use Rattle.index.specs.Scope.{need_as, result_as}
 use Rattle.index.specs.declared.procedures.Scope.{Scope}
 use Rattle.settling.specs.Settles.{callee_as, Settling}
 use Rattle.settling.specs.declared.Settled.{Settled}
-use Rattle.settling.specs.declared.Settled.TheVariants as All
+use Rattle.settling.specs.declared.Settled.TheVariants as OfAll
 
 first_cond : (m n : ℕ) → first m n ≡ cond (eqb m 0) n m
 first_cond zero n = refl
@@ -89,14 +89,14 @@ module _ (s : List ℕ) (bound : Bound) (to : Scope) (name : ℕ) (e : named_as 
 -- ---- A call, by what it settles
 
 module _ (inner : ℕ → Qual) (c : Callee) (a b : ℕ) {x : Settled} where
-  pub call_unsettled : x ≡ All.Unsettled → Settling inner c b x → 20 ≡ failure (call_rule inner c a b)
+  pub call_unsettled : x ≡ OfAll.Unsettled → Settling inner c b x → 20 ≡ failure (call_rule inner c a b)
   unfolding failure call_rule settling_rule
   call_unsettled e s = let h = subst (λ (y : Settled). Settling inner c b y) e s in rw h
 
-  pub call_short : x ≡ All.Short → Settling inner c b x → 21 ≡ failure (call_rule inner c a b)
+  pub call_short : x ≡ OfAll.Short → Settling inner c b x → 21 ≡ failure (call_rule inner c a b)
   unfolding failure call_rule settling_rule
   call_short e s = let h = subst (λ (y : Settled). Settling inner c b y) e s in rw (h.0, h.1)
 
-  pub call_passes : (n r : ℕ) → x ≡ All.To n → Settling inner c b x → r ≡ failure (passing_rule inner c (named_as n) a b) → r ≡ failure (call_rule inner c a b)
+  pub call_passes : (n r : ℕ) → x ≡ OfAll.To n → Settling inner c b x → r ≡ failure (passing_rule inner c (named_as n) a b) → r ≡ failure (call_rule inner c a b)
   unfolding failure call_rule settling_rule
   call_passes n r e s p = let h = subst (λ (y : Settled). Settling inner c b y) e s in rw (h.0, h.1, ← h.2) p

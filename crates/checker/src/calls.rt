@@ -6,6 +6,7 @@ use std::io;
 
 // POSIX's numbers of two errors, on Linux.
 const EINTR: i32 = 4;
+
 const EAGAIN: i32 = 11;
 
 // What an answer asks for.
@@ -57,7 +58,11 @@ fn errno_of(failure: &io::Error) -> i32
 fn counted(n: usize) -> Answer
     ensures { result ≡ def.meant (pos n) (pos 0) }
 {
-    if n == 0 { Answer::Ended } else { Answer::Moved(n) }
+    if n == 0 {
+        Answer::Ended
+    } else {
+        Answer::Moved(n)
+    }
 }
 
 // What a call of std answered, which gives C's number and errno as a result.

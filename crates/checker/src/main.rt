@@ -12,9 +12,8 @@ ghost use Rattle.checker.specs.Said.{said};
 
 use input::{Input, read_input};
 use output::{tell, write_line};
-use std::env;
-use std::io;
 use std::io::Write;
+use std::{env, io};
 use verdict_line::{LINE_BYTES, put_line};
 
 // The line of the verdict on the bytes read, where they are the whole input; otherwise nothing.

@@ -8,7 +8,7 @@ use lib.Dec.{eqb, ltb, leb}
 use lib.ListN.{get_or}
 use borrow.Author.Tests.{eqb-true, eqb-false, eq-eqb, ne_eqb, ltb-true, ltb-false, lt-ltb, le-ltb, le-leb}
 use Rattle.model.specs.Rights.{Rights, within, has, store_right}
-use Rattle.model.specs.Qualified.{Qual, base, is_generic, same, alike, covers, order, elements}
+use Rattle.model.specs.Qualified.{Qual, base, same, alike, covers, order, elements}
 use Rattle.model.specs.Refusal.{failure}
 use Rattle.model.specs.Rules.{moves, amplifies}
 use Rattle.model.proofs.Order.{alike_arrays, order_refl, moves_order}

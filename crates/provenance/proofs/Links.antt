@@ -1,12 +1,12 @@
 -- A step that writes one variable or one cell, of any program: a right carried after it was carried before it where the step's origin says, by every declared
 -- type in between, or the step gave it to an object that it made.
-use Prim.Native.Nat.{ℕ, suc, ◌+◌}
+use Prim.Native.Nat.{ℕ, suc}
 use mathlib.Core.Path.{◌≡◌, refl, sym, ap, ap₂, ◌∙◌, subst}
 use mathlib.Core.Bool.{Bool, true, false, cond}
 use mathlib.Core.List.{List, [], ◌∷◌, ◌++◌}
 use lib.ListN.{length, get_or, set}
 use Rattle.model.specs.Rights.{Rights, has}
-use Rattle.model.specs.Qualified.{Qual, array, rights}
+use Rattle.model.specs.Qualified.{Qual, rights}
 use Rattle.model.specs.Program.{Program}
 use Rattle.model.specs.declared.Operation.TheVariants.{Fetch, Store, GetSlot, SetSlot}
 use Rattle.model.specs.Modes.{watched, Kind}

@@ -1,13 +1,13 @@
 -- What the actuals of a call settle, one after another, and what the call does.
 use Prim.Native.Nat.{ℕ, zero, suc, ◌+◌}
-use mathlib.Core.Path.{◌≡◌, refl, sym, ap, ap₂, subst, ◌∙◌}
+use mathlib.Core.Path.{◌≡◌, refl, sym, ap, ap₂, ◌∙◌}
 use mathlib.Core.List.{List, [], ◌∷◌, ◌++◌, append_assoc}
-use mathlib.Core.Bool.{Bool, true, false, false≢true, not, ◌&&◌, ◌||◌, cond}
+use mathlib.Core.Bool.{Bool, true, false, false≢true, ◌&&◌, ◌||◌, cond}
 use native.Mathlib.Omega.{arith}
 use Rattle.model.specs.Rights.{within}
-use Rattle.model.specs.Qualified.{Qual, declared, base, rights, same}
+use Rattle.model.specs.Qualified.{Qual, base, rights, same}
 use Rattle.model.specs.Refusal.{span}
-use Rattle.model.specs.Generic.{Bound, no_bound, at_least, bound_base, least, own, instance, uses, settles, first_or, settled, all_same, some_uses, is_settled, is_enough}
+use Rattle.model.specs.Generic.{Bound, no_bound, at_least, least, own, instance, uses, settles, first_or, settled, all_same, some_uses, is_settled, is_enough}
 use Rattle.model.specs.Rules.{Callee, found_by}
 use Rattle.model.proofs.Rights.{within_refl}
 use Rattle.model.proofs.Order.{same_refl}
@@ -20,7 +20,7 @@ use Rattle.settling.specs.Settles.{settles_as, uses_as, SettlesIs, FoundIs, leas
 use Rattle.settling.specs.declared.Settles.{Settles}
 use Rattle.settling.specs.declared.Settles.TheVariants as One
 use Rattle.settling.specs.declared.Found.{Found}
-use Rattle.settling.specs.declared.Settled.TheVariants as All
+use Rattle.settling.specs.declared.Settled.TheVariants as OfAll
 use Rattle.settling.proofs.Laws.{least_named}
 
 -- ---- Lists
@@ -146,7 +146,7 @@ unfolding is_enough own rights
 enough_found bound found own_name name e f = rw (e, f)
 
 -- without one, nothing is asked
-pub unbounded : (inner : ℕ → Qual) (c : Callee) (b : ℕ) {to : Scope} (n : ℕ) → n ≡ least_name to.name → BoundOf c.bound false to → Settling inner c b (All.To n)
+pub unbounded : (inner : ℕ → Qual) (c : Callee) (b : ℕ) {to : Scope} (n : ℕ) → n ≡ least_name to.name → BoundOf c.bound false to → Settling inner c b (OfAll.To n)
 unbounded inner c b {to} n e of = go c.bound of.has (ap named_as e ∙ least_own c.bound to.name of.name)
   where
     go : (k : Bound) → false ≡ has_bound k → named_as n ≡ instance k (least k)

@@ -5,13 +5,13 @@ use Rattle.model.specs.Generic.{Bound, no_bound, at_least, own, uses, settles, f
 use Rattle.model.specs.Rules.{Callee, found_by}
 use Rattle.sheet.specs.Layout.{formals_at}
 use Rattle.index.specs.Types.{named_as, qual_in, type_in}
-use Rattle.index.specs.Scope.{inner_as, need_as, result_as}
+use Rattle.index.specs.Scope.{need_as, result_as}
 use Rattle.index.specs.declared.procedures.Scope.{Scope}
 use Rattle.settling.specs.declared.Settles.{Settles}
 use Rattle.settling.specs.declared.Settles.TheVariants as One
 use Rattle.settling.specs.declared.Found.{Found}
 use Rattle.settling.specs.declared.Settled.{Settled}
-use Rattle.settling.specs.declared.Settled.TheVariants as All
+use Rattle.settling.specs.declared.Settled.TheVariants as OfAll
 
 abbrev is_nil : List Qual → Bool
 is_nil [] = true
@@ -63,9 +63,9 @@ module _ (inner : ℕ → Qual) (c : Callee) (b : ℕ) where
 
   -- a call with variables from b on
   abbrev pub Settling : Settled → Type 0
-  Settling All.Unsettled = is_settled_by ≡ false
-  Settling All.Short = (is_settled_by ≡ true) × (is_enough c.bound (found_by inner c b) ≡ false)
-  Settling (All.To n) =
+  Settling OfAll.Unsettled = is_settled_by ≡ false
+  Settling OfAll.Short = (is_settled_by ≡ true) × (is_enough c.bound (found_by inner c b) ≡ false)
+  Settling (OfAll.To n) =
       (is_settled_by ≡ true) × (is_enough c.bound (found_by inner c b) ≡ true) × (named_as n ≡ settled c.bound (found_by inner c b))
 
 -- the procedure called has this bound, which the scope `to` reads ?R with

@@ -6,12 +6,12 @@ use mathlib.Core.Logic.{◌⊎◌, inl, inr, ⊎_elim}
 use mathlib.Core.Bool.{Bool, true, false, ◌&&◌, cond}
 use native.Mathlib.Omega.{arith}
 use lib.Dec.{leb, ltb, eqb}
-use lib.ListN.{length, get_or, take, drop, length-take, length-drop}
+use lib.ListN.{length, take, drop, length-take, length-drop}
 use lib.Seq.{get_or-take, get_or-drop, length-take-le}
 use borrow.Author.Tests.{leb-true, leb-false, le-leb, lt-leb, ltb-true, ltb-false, lt-ltb, eqb-true}
 use Rattle.model.proofs.Verdicts.{both_true}
 use Rattle.sheet.specs.Bytes.{byte_at, number_at, word_at, whole_at, mark, marked_at}
-use Rattle.sheet.specs.Layout.{hd_mark, in_mark, rights_size, edition_in, rights_at, is_bounded, bound_size, variable_at, inner_at, need_at, variables_field, instructions_at, start_from, instruction_from, procedure_at, instruction_at, start_at}
+use Rattle.sheet.specs.Layout.{hd_mark, in_mark, rights_size, edition_in, rights_at, is_bounded, bound_size, variable_at, inner_at, need_at, variables_field, instructions_at, start_from, instruction_from, procedure_at}
 use Rattle.sheet.specs.Reader.{size_at, record_bytes}
 
 -- ---- tests

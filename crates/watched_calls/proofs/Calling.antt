@@ -30,7 +30,7 @@ use Rattle.index.specs.declared.procedures.Scope.{Scope}
 use Rattle.index.proofs.Reading.{inner_read, need_read, result_read}
 use Rattle.settling.specs.Settles.{callee_as, Settling}
 use Rattle.settling.specs.declared.Settled.{Settled}
-use Rattle.settling.specs.declared.Settled.TheVariants as All
+use Rattle.settling.specs.declared.Settled.TheVariants as OfAll
 use Rattle.words.specs.Word.{cell, slot_in, as_cell, formals_of, variables_of}
 use Rattle.words.specs.Sees.{Sees}
 use Rattle.words.specs.Answers.{halted, IsCell}
@@ -278,27 +278,27 @@ module _ (s words : List ℕ) (r : Registers) (a b k : ℕ) {p to : Scope} (here
         subst (λ (f : ℕ → Qual). Settling f (called (program_of s) k) b x) (λ i y. inner_read in_frame y i)
         (subst (λ (f : Callee). Settling (inner_as s p) f b x) (callee_is scope) told)
 
-    pub call_unsettled : Settling (inner_as s p) (callee_as s (bound_of_procedure s k) to) b All.Unsettled
+    pub call_unsettled : Settling (inner_as s p) (callee_as s (bound_of_procedure s k) to) b OfAll.Unsettled
         → (input out : List ℕ) → Performs watched s input words words out out r (Halt 18) (Call a b k)
     unfolding ◌>>=◌
     call_unsettled told input out c t same from S =
         let v = view (length words) (length out) t in
-        let h = settling_seen All.Unsettled told v (in_scope here c out t same S) in
+        let h = settling_seen OfAll.Unsettled told v (in_scope here c out t same S) in
         planned_as c words out s r t (Halt 18) _ (stop wrong_kind)
         (plan_settled (program_of s) v a b k (keeps_told kept) (stop wrong_kind) (unsettled (program_of s) v k b h))
         (stopped_after watched c words out r t S 18 wrong_kind refl)
 
-    pub call_short : Settling (inner_as s p) (callee_as s (bound_of_procedure s k) to) b All.Short
+    pub call_short : Settling (inner_as s p) (callee_as s (bound_of_procedure s k) to) b OfAll.Short
         → (input out : List ℕ) → Performs watched s input words words out out r (Halt 19) (Call a b k)
     unfolding ◌>>=◌
     call_short told input out c t same from S =
         let v = view (length words) (length out) t in
-        let h = settling_seen All.Short told v (in_scope here c out t same S) in
+        let h = settling_seen OfAll.Short told v (in_scope here c out t same S) in
         planned_as c words out s r t (Halt 19) _ (stop missing_right)
         (plan_settled (program_of s) v a b k (keeps_told kept) (stop missing_right) (short (program_of s) v k b h.0 h.1))
         (stopped_after watched c words out r t S 19 missing_right refl)
 
-    pub call_enters : (name : ℕ) → Settling (inner_as s p) (callee_as s (bound_of_procedure s k) to) b (All.To name)
+    pub call_enters : (name : ℕ) → Settling (inner_as s p) (callee_as s (bound_of_procedure s k) to) b (OfAll.To name)
         → (words' : List ℕ) (o : Stepped) (w : ℕ) → ProcedureWord s k w → Callable s r a b k
         → ((j : ℕ) (z : Rights) → FrameScope s j z (record { head = to.head; start = to.start; name = name }) → ProcedureWord s j w
         → Enters s words words' r a b j z o)
@@ -306,7 +306,7 @@ module _ (s words : List ℕ) (r : Registers) (a b k : ℕ) {p to : Scope} (here
     unfolding ◌>>=◌
     call_enters name told words' o w C callable enters input out c t same from S =
         let v = view (length words) (length out) t in
-        let h = settling_seen (All.To name) told v (in_scope here c out t same S) in
+        let h = settling_seen (OfAll.To name) told v (in_scope here c out t same S) in
         let z = rights (settles_to (program_of s) v k b) in
         planned_as c words' out s r t o _ (entering (program_of s) v k b z)
         (plan_settled (program_of s) v a b k (keeps_told kept) (ok z) (settles (program_of s) v k b h.0 h.1))

@@ -1,6 +1,5 @@
 -- What was bound to need is a filled cell, of which `raise_filled` ensures the rest; a stop stays what it is.
 use mathlib.Core.Path.{sym, ap, ◌∙◌}
-use borrow.Author.Rules.{rules}
 use Rattle.sheet.specs.Meaning.{qual_of, program_of}
 use Rattle.binding.specs.Binds.{moved_cell}
 use Rattle.binding.proofs.Laws.{word_of_sheet, raises_of_sheet, actual_to, actual_same, actual_halt, moved_ok_to}

@@ -1,7 +1,6 @@
 -- An integer is of base 0; an object is tested by its head, and gets the rights in the type's word.
 use native.Mathlib.Omega.{arith}
 use mathlib.Core.Path.{sym, ap, ◌∙◌}
-use borrow.Author.Rules.{rules}
 use Rattle.model.specs.Modes.{watched}
 use Rattle.index.specs.Types.{shape_of, qual_in}
 use Rattle.words.specs.Word.{payload}

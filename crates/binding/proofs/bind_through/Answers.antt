@@ -1,6 +1,5 @@
 -- What was bound is a cell, of which `bind_word` ensures the rest; a stop stays what it is.
 use mathlib.Core.Path.{sym, ap, ◌∙◌}
-use borrow.Author.Rules.{rules}
 use Rattle.model.specs.Modes.{watched}
 use Rattle.index.specs.Types.{qual_in, type_in}
 use Rattle.binding.specs.Binds.{moved_cell}

@@ -1,7 +1,6 @@
 -- A word of 0 is a blank cell, any other a filled one, of which the test for integers or `bind_filled` ensures it.
 use Rattle.words.proofs.Laws.{told_blank, told_filled}
 use Rattle.binding.proofs.Laws.{bind_blank, bind_value}
-use borrow.Author.Rules.{rules}
 use Rattle.binding.proofs.bind_word.Goals as goal
 
 pub returns-in_default : goal.returns-in_default

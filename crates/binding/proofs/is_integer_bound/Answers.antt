@@ -5,7 +5,6 @@ use Rattle.model.proofs.Verdicts.{both_true}
 use Rattle.index.specs.Types.{shape_of, qual_in}
 use Rattle.words.proofs.Laws.{slot_integer}
 use Rattle.binding.proofs.Laws.{integer_unread, bind_integer}
-use borrow.Author.Rules.{rules}
 use Rattle.binding.proofs.is_integer_bound.Goals as goal
 
 pub returns : goal.returns

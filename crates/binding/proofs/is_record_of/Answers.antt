@@ -1,5 +1,4 @@
 -- The tests of the two tags leave the definition's two.
-use borrow.Author.Rules.{rules}
 use Rattle.binding.proofs.Laws.{own_record}
 use Rattle.binding.proofs.is_record_of.Goals as goal
 

@@ -1,6 +1,5 @@
 -- By the tag of the head: an array's, a record's, or none.
 use mathlib.Core.Path.{sym, ◌∙◌}
-use borrow.Author.Rules.{rules}
 use Rattle.binding.proofs.Laws.{fits_array, fits_record, fits_nothing}
 use Rattle.binding.proofs.object_fits.Goals as goal
 

@@ -1,7 +1,6 @@
 -- The base in a head is one that a name can have.
 use native.Mathlib.Omega.{arith}
 use mathlib.Core.Path.{◌∙◌}
-use borrow.Author.Rules.{rules}
 use Rattle.binding.proofs.object_name.Goals as goal
 
 pub returns : goal.returns

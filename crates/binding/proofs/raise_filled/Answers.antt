@@ -1,7 +1,6 @@
 -- The test is that of the definition: inner's rights, or what `bind_filled` ensures of any program.
 use native.Mathlib.Omega.{arith}
 use mathlib.Core.List.{[]}
-use borrow.Author.Rules.{rules}
 use Rattle.model.specs.Modes.{watched}
 use Rattle.sheet.specs.Meaning.{program_of}
 use Rattle.index.specs.Types.{qual_in}

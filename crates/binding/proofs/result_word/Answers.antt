@@ -1,7 +1,6 @@
 -- A blank cell, no result, or what the test for integers or `bind_filled` ensures, handed over.
 use Rattle.words.proofs.Laws.{told_blank, told_filled}
 use Rattle.binding.proofs.Laws.{filled_of_sheet, result_blank, result_none, result_value}
-use borrow.Author.Rules.{rules}
 use Rattle.binding.proofs.result_word.Goals as goal
 
 pub returns-in_default : goal.returns-in_default

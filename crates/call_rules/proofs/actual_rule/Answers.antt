@@ -1,7 +1,6 @@
 -- The two bytes that are read are the fields of the definition.
 use Rattle.sheet.proofs.Laws.{inner_field}
 use Rattle.index.proofs.Reading.{inner_type, need_type}
-use borrow.Author.Rules.{rules}
 use Rattle.call_rules.proofs.actual_rule.Goals as goal
 
 pub returns : goal.returns

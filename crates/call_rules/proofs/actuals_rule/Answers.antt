@@ -1,14 +1,7 @@
 -- The invariant: what is left to say is the number of the tests from actual j on.
-use Prim.Native.Nat.{ℕ, ◌+◌, ◌-◌}
-use mathlib.Core.List.{List}
 use native.Mathlib.Omega.{arith}
-use borrow.Author.Rules.{rules}
-use Rattle.model.specs.Refusal.{Test}
-use Rattle.model.specs.Rules.{moves}
-use Rattle.model.proofs.Verdicts.{Testing, test_start, test_next, test_stop, test_end}
+use Rattle.model.proofs.Verdicts.{test_start, test_next, test_stop, test_end}
 use Rattle.sheet.specs.Layout.{formals_at}
-use Rattle.index.specs.Scope.{inner_as, need_as}
-use Rattle.index.specs.declared.procedures.Scope.{Scope}
 use Rattle.call_rules.proofs.actuals_rule.Goals as goal
 
 pub loop-j-init : goal.loop-j-init

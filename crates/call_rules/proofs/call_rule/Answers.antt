@@ -2,7 +2,6 @@
 use Rattle.index.specs.Scope.{inner_as}
 use Rattle.settling.specs.Settles.{callee_as}
 use Rattle.call_rules.proofs.Laws.{call_unsettled, call_short, call_passes}
-use borrow.Author.Rules.{rules}
 use Rattle.call_rules.proofs.call_rule.Goals as goal
 
 pub returns-in-Unsettled : goal.returns-in-Unsettled

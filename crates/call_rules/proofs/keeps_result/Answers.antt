@@ -2,7 +2,6 @@
 use Rattle.sheet.specs.Layout.{result_at}
 use Rattle.index.specs.Scope.{inner_as}
 use Rattle.call_rules.proofs.Laws.{keeps_tests}
-use borrow.Author.Rules.{rules}
 use Rattle.call_rules.proofs.keeps_result.Goals as goal
 
 pub returns : goal.returns

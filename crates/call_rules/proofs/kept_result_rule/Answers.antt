@@ -4,7 +4,6 @@ use Rattle.model.specs.Refusal.{failure}
 use Rattle.model.specs.Rules.{optional, optional_variable, kept_rule}
 use Rattle.sheet.specs.Layout.{result_at}
 use Rattle.index.proofs.Reading.{inner_type, result_type}
-use borrow.Author.Rules.{rules}
 use Rattle.call_rules.proofs.kept_result_rule.Goals as goal
 
 pub returns-then-a-eq255 : goal.returns-then-a-eq255

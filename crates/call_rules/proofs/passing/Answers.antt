@@ -1,7 +1,6 @@
 -- `passes`: the parts in their order, where the procedure called reads ?R with the name.
 use Rattle.index.specs.Scope.{inner_as}
 use Rattle.call_rules.proofs.Laws.{passes}
-use borrow.Author.Rules.{rules}
 use Rattle.call_rules.proofs.passing.Goals as goal
 
 pub returns : goal.returns

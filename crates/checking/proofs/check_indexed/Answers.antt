@@ -1,7 +1,6 @@
 -- Well-formedness first; where it accepts, it also gives what the access rules lean on: an index that has room, bounds of declared types, and callees that
 -- are there.
 use mathlib.Core.Path.{◌≡◌, sym, ◌∙◌}
-use borrow.Author.Rules.{rules}
 use Rattle.model.specs.Refusal.{verdict}
 use Rattle.model.specs.Rules.{access_rules}
 use Rattle.model.specs.declared.Verdict.TheVariants.{Accepted}
@@ -24,10 +23,13 @@ unfolding CalleesAt
 access-requires c =
     let s = c.args.s.now in
     let f : verdict (form_tests s) ≡ Accepted = sym c.well_formed-form.ensures ∙ c.in-Accepted.is in
-    let there = callee_below s f in record { ready = form_ready s f _ c.requires; callees = record {
+    let there = callee_below s f in record {
+      ready = form_ready s f _ c.requires;
+      callees = record {
         bounded = bound_formed s f;
         each = λ p l i m. record { there = there p l i m; bounded = bound_formed s f _ (there p l i m) };
-      } }
+      };
+    }
 
 pub returns : goal.returns
 unfolding check check_tests

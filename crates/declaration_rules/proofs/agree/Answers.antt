@@ -1,6 +1,5 @@
 -- The branches are those of the definition; where ?R is read alike in both, two types are equal if they are so unread.
 use mathlib.Core.Path.{◌≡◌, refl, sym, ◌∙◌}
-use borrow.Author.Rules.{rules}
 use Rattle.model.specs.Qualified.{generic}
 use Rattle.model.specs.Rules.{agrees}
 use Rattle.index.specs.Types.{rights_of, named_as}

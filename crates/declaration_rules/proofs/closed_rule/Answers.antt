@@ -1,5 +1,4 @@
 -- The one test of the rule, on what `is_closed` ensures.
-use borrow.Author.Rules.{rules}
 use Rattle.model.specs.Refusal.{failure}
 use Rattle.model.specs.Rules.{closed_rule}
 use Rattle.declaration_rules.proofs.closed_rule.Goals as goal

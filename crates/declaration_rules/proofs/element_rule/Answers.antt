@@ -1,5 +1,4 @@
 -- The number that `element_of` gives stands for the element.
-use borrow.Author.Rules.{rules}
 use Rattle.declaration_rules.proofs.element_rule.Goals as goal
 
 pub returns : goal.returns

@@ -1,5 +1,4 @@
 -- The tests of the definition in their order, on what the calls ensure.
-use borrow.Author.Rules.{rules}
 use Rattle.model.specs.Refusal.{failure}
 use Rattle.model.specs.Rules.{formal_rule}
 use Rattle.declaration_rules.proofs.formal_number.Goals as goal

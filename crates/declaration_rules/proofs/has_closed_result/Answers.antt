@@ -1,6 +1,5 @@
 -- 255 is no result; another byte is the result's number.
 use mathlib.Core.Path.{sym, ◌∙◌}
-use borrow.Author.Rules.{rules}
 use borrow.Author.Tests.{ne_eqb}
 use Rattle.model.specs.Rules.{closed_result}
 use Rattle.sheet.specs.Layout.{result_at}

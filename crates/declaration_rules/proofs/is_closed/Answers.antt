@@ -1,5 +1,4 @@
 -- Open is right 0, and the rights are those that `rights_of` ensures.
-use borrow.Author.Rules.{rules}
 use Rattle.model.specs.Rules.{closed}
 use Rattle.declaration_rules.proofs.is_closed.Goals as goal
 

@@ -1,5 +1,4 @@
 -- The one test of the rule, on what the calls ensure.
-use borrow.Author.Rules.{rules}
 use Rattle.model.specs.Refusal.{failure}
 use Rattle.model.specs.Rules.{local_rule}
 use Rattle.declaration_rules.proofs.local_number.Goals as goal

@@ -1,11 +1,6 @@
 -- The loop over the slots: what is left to say is the first failure from the present slot on. The bound is the byte read.
-use Prim.Native.Nat.{◌+◌, ◌-◌}
 use native.Mathlib.Omega.{arith}
-use borrow.Author.Rules.{rules}
-use Rattle.model.specs.Rules.{closed_rule}
-use Rattle.model.proofs.Verdicts.{Testing, test_start, test_next, test_stop, test_end}
-use Rattle.sheet.specs.Bytes.{byte_at}
-use Rattle.sheet.specs.Meaning.{qual_of}
+use Rattle.model.proofs.Verdicts.{test_start, test_next, test_stop, test_end}
 use Rattle.declaration_rules.proofs.slots_rule.Goals as goal
 
 pub loop-k-init : goal.loop-k-init

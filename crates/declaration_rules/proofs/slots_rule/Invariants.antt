@@ -1,8 +1,6 @@
 use Prim.Native.Nat.{◌+◌, ◌-◌}
-use native.Mathlib.Omega.{arith}
-use borrow.Author.Rules.{rules}
 use Rattle.model.specs.Rules.{closed_rule}
-use Rattle.model.proofs.Verdicts.{Testing, test_start, test_next, test_stop, test_end}
+use Rattle.model.proofs.Verdicts.{Testing}
 use Rattle.sheet.specs.Bytes.{byte_at}
 use Rattle.sheet.specs.Meaning.{qual_of}
 use Rattle.declaration_rules.proofs.slots_rule.Given as goal

@@ -1,6 +1,5 @@
 -- A variable below the number of formals is a formal; its need and inner are the bytes of its VR.
 use borrow.Author.Tests.{lt-ltb, le-ltb}
-use borrow.Author.Rules.{rules}
 use Rattle.model.specs.Rules.{declaration_rule}
 use Rattle.sheet.specs.Layout.{owner_at, formals_at}
 use Rattle.sheet.specs.Meaning.{inner_in, need_in}

@@ -1,5 +1,4 @@
 -- The frame goes back to the instruction after its call.
-use borrow.Author.Rules.{rules}
 use Rattle.frames.proofs.back_of.Goals as goal
 
 pub returns : goal.returns

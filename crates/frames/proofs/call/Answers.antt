@@ -6,7 +6,6 @@ use Rattle.frames.specs.Frames.{Copies}
 use Rattle.frames.proofs.Called.{formals_within, word_is}
 use Rattle.frames.proofs.Calling.{actuals_fit, call_without_room, call_of_blank, call_goes}
 use native.Mathlib.Omega.{arith}
-use borrow.Author.Rules.{rules}
 use Rattle.frames.proofs.call.Goals as goal
 
 pub returns-then-base-r : goal.returns-then-base-r

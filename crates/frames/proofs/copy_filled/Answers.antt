@@ -1,9 +1,9 @@
 -- After j turns the first j words are copied, and none of them is blank; a word not yet copied lies above those written.
-use Prim.Native.Nat.{ℕ, ◌+◌, ◌-◌, ◌≤◌, ◌<◌}
+use Prim.Native.Nat.{◌+◌, ◌<◌}
 use native.Mathlib.Omega.{arith}
 use mathlib.Core.Path.{◌≡◌, refl, sym, ap, ◌∙◌}
 use mathlib.Core.List.{append_assoc}
-use lib.ListN.{length, get_or, take, drop, length-set}
+use lib.ListN.{get_or, take, drop, length-set}
 use lib.Seq.{paste, paste-zero}
 use borrow.Author.Count.{below_more}
 use Rattle.frames.proofs.Copied.{copied_word, copied_next}

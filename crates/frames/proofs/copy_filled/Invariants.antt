@@ -1,11 +1,7 @@
 use Prim.Native.Nat.{ℕ, ◌+◌, ◌-◌, ◌≤◌, ◌<◌}
-use native.Mathlib.Omega.{arith}
-use mathlib.Core.Path.{◌≡◌, refl, sym, ap, ◌∙◌}
-use mathlib.Core.List.{append_assoc}
-use lib.ListN.{length, get_or, take, drop, length-set}
-use lib.Seq.{paste, paste-zero}
-use borrow.Author.Count.{below_more}
-use Rattle.frames.proofs.Copied.{copied_word, copied_next}
+use mathlib.Core.Path.{◌≡◌}
+use lib.ListN.{length, get_or, drop}
+use lib.Seq.{paste}
 use Rattle.frames.proofs.copy_filled.Given as goal
 
 abbrev pub invariant-loop-j : goal.invariant-loop-j

@@ -2,7 +2,6 @@
 use Rattle.model.specs.Modes.{plain}
 use Rattle.frames.proofs.Returning.{blank_told, value_told, gives_blank, gives_over, gives_dropped, gives_kept}
 use native.Mathlib.Omega.{arith}
-use borrow.Author.Rules.{rules}
 use Rattle.frames.proofs.give_back.Goals as goal
 
 pub returns-then-w-a : goal.returns-then-w-a

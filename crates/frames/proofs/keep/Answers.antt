@@ -2,7 +2,6 @@
 use mathlib.Core.Path.{refl}
 use Rattle.frames.proofs.Returning.{keeps, keeps_none}
 use native.Mathlib.Omega.{arith}
-use borrow.Author.Rules.{rules}
 use Rattle.frames.proofs.keep.Goals as goal
 
 pub returns-then-a-variables_in : goal.returns-then-a-variables_in

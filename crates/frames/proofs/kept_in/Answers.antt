@@ -1,7 +1,6 @@
 -- The word behind the running frame's variables tells what the call of the frame that waits keeps.
 use mathlib.Core.Path.{refl}
 use Rattle.frames.proofs.Returning.{keeps_in}
-use borrow.Author.Rules.{rules}
 use Rattle.frames.proofs.kept_in.Goals as goal
 
 pub returns : goal.returns

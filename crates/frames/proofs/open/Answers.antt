@@ -2,7 +2,6 @@
 use lib.ListN.{length-set}
 use Rattle.frames.proofs.Opening.{opens}
 use native.Mathlib.Omega.{arith}
-use borrow.Author.Rules.{rules}
 use Rattle.frames.proofs.open.Goals as goal
 
 pub bounds-memory-end-2 : goal.bounds-memory-end-2

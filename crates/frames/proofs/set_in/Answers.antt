@@ -1,6 +1,5 @@
 -- The word behind the running frame's variables has its set.
 use Rattle.frames.proofs.Returning.{sets_in}
-use borrow.Author.Rules.{rules}
 use Rattle.frames.proofs.set_in.Goals as goal
 
 pub returns : goal.returns

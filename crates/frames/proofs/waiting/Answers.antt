@@ -2,7 +2,6 @@
 use mathlib.Core.Path.{refl}
 use Rattle.frames.proofs.Returning.{waits}
 use native.Mathlib.Omega.{arith}
-use borrow.Author.Rules.{rules}
 use Rattle.frames.proofs.waiting.Goals as goal
 
 pub returns : goal.returns

@@ -1,5 +1,4 @@
 use mathlib.Core.Path.{sym, ◌∙◌}
-use borrow.Author.Rules.{rules}
 use Rattle.host.proofs.wn_check.Goals as goal
 
 pub returns-in-Accepted : goal.returns-in-Accepted

@@ -1,4 +1,3 @@
-use borrow.Author.Rules.{rules}
 use Rattle.host_watch.proofs.wn_watch.Goals as goal
 
 pub returns : goal.returns

@@ -2,7 +2,6 @@
 use Rattle.index.proofs.Reading.{placed_word}
 use Rattle.instruction_rules.proofs.Laws.{called_as}
 use Rattle.settling.proofs.Actuals.{bound_here}
-use borrow.Author.Rules.{rules}
 use Rattle.instruction_rules.proofs.call_number.Goals as goal
 
 pub returns : goal.returns

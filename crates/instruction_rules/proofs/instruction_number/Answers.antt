@@ -2,7 +2,6 @@
 use Rattle.model.specs.Rules.{rule, callee}
 use Rattle.index.proofs.Reading.{result_read}
 use Rattle.instruction_rules.proofs.Laws.{typed_as, typed_all, slot_as}
-use borrow.Author.Rules.{rules}
 use Rattle.instruction_rules.proofs.instruction_number.Goals as goal
 
 pub call_number-requires : goal.call_number-requires

@@ -1,14 +1,10 @@
 -- The loop over the IN records of a procedure: what is left to say is the verdict from the present record on. Each record is tested by what was read of its procedure, which is what the definition reads.
-use Prim.Native.Nat.{◌-◌}
-use mathlib.Core.Path.{◌≡◌, ap, ◌∙◌}
-use native.Mathlib.Omega.{arith}
-use borrow.Author.Rules.{rules}
+use mathlib.Core.Path.{ap, ◌∙◌}
 use Rattle.model.specs.Refusal.{verdict}
-use Rattle.model.proofs.Verdicts.{Passing, pass_start, pass_next, pass_stop, pass_end}
+use Rattle.model.proofs.Verdicts.{pass_start, pass_next, pass_stop, pass_end}
 use Rattle.sheet.specs.Layout.{instruction_from}
 use Rattle.form.proofs.Laws.{instruction_counted, instruction_here}
 use Rattle.limits.specs.declared.Limits.{Limits}
-use Rattle.form.specs.WellFormed.{instruction_tests}
 use Rattle.layout.proofs.instructions_pass.Goals as goal
 
 pub loop-i-init : goal.loop-i-init

@@ -1,12 +1,5 @@
 use Prim.Native.Nat.{◌-◌}
-use mathlib.Core.Path.{◌≡◌, ap, ◌∙◌}
-use native.Mathlib.Omega.{arith}
-use borrow.Author.Rules.{rules}
-use Rattle.model.specs.Refusal.{verdict}
-use Rattle.model.proofs.Verdicts.{Passing, pass_start, pass_next, pass_stop, pass_end}
-use Rattle.sheet.specs.Layout.{instruction_from}
-use Rattle.form.proofs.Laws.{instruction_counted, instruction_here}
-use Rattle.limits.specs.declared.Limits.{Limits}
+use Rattle.model.proofs.Verdicts.{Passing}
 use Rattle.form.specs.WellFormed.{instruction_tests}
 use Rattle.layout.proofs.instructions_pass.Given as goal
 

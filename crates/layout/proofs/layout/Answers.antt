@@ -2,7 +2,6 @@
 -- accepted procedures end with an IN, after which `leftover` asks what is left.
 use mathlib.Core.Path.{sym, ap, ◌∙◌}
 use native.Mathlib.Omega.{arith}
-use borrow.Author.Rules.{rules}
 use Rattle.model.proofs.Verdicts.{stop_here, go_on}
 use Rattle.sheet.specs.Layout.{types_of, quals_of, procedures_of, procedure_at}
 use Rattle.form.specs.WellFormed.{layout_tests}

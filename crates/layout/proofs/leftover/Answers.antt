@@ -1,5 +1,4 @@
 -- What is left after the last record is nothing exactly where that ends with the sheet.
-use borrow.Author.Rules.{rules}
 use borrow.Author.Tests.{eq-eqb, ne_eqb}
 use Rattle.model.specs.Refusal.{verdict, failure, refuse}
 use Rattle.form.specs.WellFormed.{leftover_tests}

@@ -1,5 +1,4 @@
 -- The bytes and the word that the calls ensure.
-use borrow.Author.Rules.{rules}
 use Rattle.sheet.specs.Layout.{slots_of, owner_at, instructions_at, variables_field}
 use Rattle.layout.proofs.limits_at.Goals as goal
 

@@ -1,7 +1,6 @@
 -- The first of the four passes that refuses is the verdict, else the last one is.
 use Prim.Native.Nat.{ℕ}
 use mathlib.Core.Path.{ap, ◌∙◌}
-use borrow.Author.Rules.{rules}
 use Rattle.model.specs.Refusal.{verdict, each}
 use Rattle.model.proofs.Verdicts.{stop_here, go_on}
 use Rattle.sheet.specs.Layout.{variables_field, instructions_at}

@@ -1,9 +1,5 @@
 -- The loop over the QT records: what is left to say is the verdict from the present record on.
-use Prim.Native.Nat.{◌-◌}
-use native.Mathlib.Omega.{arith}
-use borrow.Author.Rules.{rules}
-use Rattle.model.proofs.Verdicts.{Passing, pass_start, pass_next, pass_stop, pass_end}
-use Rattle.form.specs.WellFormed.{qual_tests}
+use Rattle.model.proofs.Verdicts.{pass_start, pass_next, pass_stop, pass_end}
 use Rattle.layout.proofs.quals_pass.Goals as goal
 
 pub loop-j-init : goal.loop-j-init

@@ -1,9 +1,5 @@
 -- The loop over the TY records: what is left to say is the verdict from the present record on.
-use Prim.Native.Nat.{◌-◌}
-use native.Mathlib.Omega.{arith}
-use borrow.Author.Rules.{rules}
-use Rattle.model.proofs.Verdicts.{Passing, pass_start, pass_next, pass_stop, pass_end}
-use Rattle.form.specs.WellFormed.{type_tests}
+use Rattle.model.proofs.Verdicts.{pass_start, pass_next, pass_stop, pass_end}
 use Rattle.layout.proofs.types_pass.Goals as goal
 
 pub loop-i-init : goal.loop-i-init

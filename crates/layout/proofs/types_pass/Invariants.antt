@@ -1,7 +1,5 @@
 use Prim.Native.Nat.{◌-◌}
-use native.Mathlib.Omega.{arith}
-use borrow.Author.Rules.{rules}
-use Rattle.model.proofs.Verdicts.{Passing, pass_start, pass_next, pass_stop, pass_end}
+use Rattle.model.proofs.Verdicts.{Passing}
 use Rattle.form.specs.WellFormed.{type_tests}
 use Rattle.layout.proofs.types_pass.Given as goal
 

@@ -1,5 +1,4 @@
 -- The registers that the answer tells; else as they were, or counted.
-use borrow.Author.Rules.{rules}
 use Rattle.lent_step.proofs.after_step.Goals as goal
 
 pub returns-in-Go : goal.returns-in-Go

@@ -1,5 +1,4 @@
 -- A step is counted where the run goes on.
-use borrow.Author.Rules.{rules}
 use Rattle.lent_step.proofs.count_step.Goals as goal
 
 pub returns-in-Go : goal.returns-in-Go

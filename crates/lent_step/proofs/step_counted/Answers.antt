@@ -1,5 +1,4 @@
 -- The step is owed what it is told; its answer is counted.
-use borrow.Author.Rules.{rules}
 use Rattle.lent_step.proofs.step_counted.Goals as goal
 
 pub step-o-requires : goal.step-o-requires

@@ -1,5 +1,4 @@
 -- The code is the definition, with what the calls ensure in place of their results.
-use borrow.Author.Rules.{rules}
 use Rattle.limits.specs.Scale.{actuals_scale}
 use Rattle.limits.proofs.actuals_scale.Goals as goal
 

@@ -1,5 +1,4 @@
 -- The code is the definition, with what the calls ensure in place of their results.
-use borrow.Author.Rules.{rules}
 use Rattle.limits.specs.Scale.{below_or_none}
 use Rattle.limits.proofs.below_or_none.Goals as goal
 

@@ -1,6 +1,5 @@
 -- The code is the definition, with what the call ensures in place of its result.
 use Rattle.limits.specs.Scale.{instruction_scale}
-use borrow.Author.Rules.{rules}
 use Rattle.limits.proofs.instruction_scale.Goals as goal
 
 pub returns : goal.returns

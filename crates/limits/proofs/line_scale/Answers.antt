@@ -5,7 +5,6 @@ use Rattle.model.specs.Refusal.{all_from}
 use Rattle.sheet.specs.Instructions.{table, line_in}
 use Rattle.sheet.proofs.Instructions.{by_line}
 use Rattle.limits.specs.Scale.{operand_limits, constant_limits, home_limits, line_limits, line_scale}
-use borrow.Author.Rules.{rules}
 use Rattle.limits.proofs.line_scale.Goals as goal
 
 pub returns-in-1 : goal.returns-in-1

@@ -1,6 +1,5 @@
 -- The code is the definition.
 use mathlib.Core.Path.{refl}
-use borrow.Author.Rules.{rules}
 use Rattle.model.specs.Refusal.{all_from}
 use Rattle.limits.specs.Scale.{procedure_scale}
 use Rattle.limits.proofs.procedure_scale.Goals as goal

@@ -1,5 +1,4 @@
 -- The code is the definition, with what the calls ensure in place of their results.
-use borrow.Author.Rules.{rules}
 use Rattle.model.specs.Refusal.{all_from}
 use Rattle.limits.specs.Scale.{variable_scale}
 use Rattle.limits.proofs.variable_scale.Goals as goal

@@ -1,5 +1,4 @@
 -- The two tests in their order; 14 is the set of all rights of an array.
-use borrow.Author.Rules.{rules}
 use Rattle.model.specs.Rules.{new_array_rule}
 use Rattle.model.specs.Refusal.{failure}
 use Rattle.index.proofs.Reading.{inner_type}

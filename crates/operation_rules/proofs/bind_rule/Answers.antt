@@ -1,5 +1,4 @@
 -- A movement between the two types that the variables have.
-use borrow.Author.Rules.{rules}
 use Rattle.index.proofs.Reading.{inner_type}
 use Rattle.operation_rules.proofs.bind_rule.Goals as goal
 

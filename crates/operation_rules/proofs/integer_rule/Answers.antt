@@ -1,5 +1,4 @@
 -- One test: `require` gives its number where it fails.
-use borrow.Author.Rules.{rules}
 use Rattle.model.specs.Rules.{integer_rule}
 use Rattle.model.specs.Refusal.{failure}
 use Rattle.operation_rules.proofs.Laws.{inner_integer}

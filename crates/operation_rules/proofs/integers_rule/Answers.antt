@@ -1,5 +1,4 @@
 -- One test of three, put together as in the definition.
-use borrow.Author.Rules.{rules}
 use Rattle.model.specs.Rules.{integers_rule}
 use Rattle.model.specs.Refusal.{failure}
 use Rattle.operation_rules.proofs.Laws.{inner_integer}

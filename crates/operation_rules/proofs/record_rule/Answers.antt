@@ -1,5 +1,4 @@
 -- The two tests in their order, on the owner and its named rights that are read.
-use borrow.Author.Rules.{rules}
 use Rattle.model.specs.Rules.{new_record_rule}
 use Rattle.model.specs.Refusal.{failure}
 use Rattle.sheet.specs.Layout.{named_of, owner_at}

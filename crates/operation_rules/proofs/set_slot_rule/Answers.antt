@@ -1,5 +1,4 @@
 -- The two tests in their order, then the movement to the slot.
-use borrow.Author.Rules.{rules}
 use Rattle.model.specs.Rules.{set_slot_rule}
 use Rattle.model.specs.Refusal.{failure}
 use Rattle.sheet.specs.Layout.{owner_at}

@@ -1,5 +1,4 @@
 -- The two tests in their order, then the rule of an integer variable.
-use borrow.Author.Rules.{rules}
 use Rattle.model.specs.Rules.{size_rule}
 use Rattle.model.specs.Refusal.{failure}
 use Rattle.index.proofs.Reading.{inner_type}

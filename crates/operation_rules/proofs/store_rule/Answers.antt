@@ -1,5 +1,4 @@
 -- The two tests in their order, then the movement to the number that stands for the element.
-use borrow.Author.Rules.{rules}
 use Rattle.model.specs.Rules.{store_rule}
 use Rattle.model.specs.Refusal.{failure}
 use Rattle.index.proofs.Reading.{inner_type, type_element}

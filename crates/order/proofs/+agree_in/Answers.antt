@@ -1,9 +1,8 @@
 -- Under store what `equal_in` ensures; else `order_arrays` of an array, whose elements are walked first, and `order_others` of all others. The walk ends since
 -- an element's number falls.
 use mathlib.Core.Path.{sym}
-use borrow.Author.Rules.{rules}
 use Rattle.model.specs.Qualified.{elements}
-use Rattle.order.proofs.Laws.{order_arrays, order_others, type_of_element, element_there_below, levels, levels_fall}
+use Rattle.order.proofs.Laws.{order_arrays, order_others, type_of_element, element_there_below, levels_fall}
 use Rattle.order.proofs.+agree_in.Goals as goal
 
 pub equal_in-requires : goal.equal_in-requires

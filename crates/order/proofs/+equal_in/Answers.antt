@@ -1,7 +1,6 @@
 -- `same_arrays` of an array, whose elements are walked first, and `same_others` of all others. The walk ends since an element's number falls.
 use mathlib.Core.Path.{sym}
-use borrow.Author.Rules.{rules}
-use Rattle.order.proofs.Laws.{same_arrays, same_others, type_of_element, element_there_below, levels, levels_fall}
+use Rattle.order.proofs.Laws.{same_arrays, same_others, type_of_element, element_there_below, levels_fall}
 use Rattle.order.proofs.+equal_in.Goals as goal
 
 pub element_word-e-requires : goal.element_word-e-requires

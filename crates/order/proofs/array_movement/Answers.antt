@@ -1,5 +1,4 @@
 -- `moves_arrays`: the elements, by the store of the second array, then the rights.
-use borrow.Author.Rules.{rules}
 use Rattle.order.proofs.Laws.{moves_arrays}
 use Rattle.order.proofs.array_movement.Goals as goal
 

@@ -1,6 +1,5 @@
 -- The word of a number that falls, or none.
 use native.Mathlib.Omega.{arith}
-use borrow.Author.Rules.{rules}
 use Rattle.order.proofs.Laws.{element_word_there, element_word_none}
 use Rattle.order.proofs.element_word.Goals as goal
 

@@ -1,7 +1,6 @@
 -- A type agrees with itself, read alike; else what `agree_in` ensures of the two words.
 use mathlib.Core.Path.{sym}
 use lib.Dec.{eqb}
-use borrow.Author.Rules.{rules}
 use borrow.Author.Tests.{eqb-true}
 use Rattle.model.proofs.Order.{elements_refl}
 use Rattle.model.proofs.Verdicts.{both_true}

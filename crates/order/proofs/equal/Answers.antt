@@ -1,5 +1,4 @@
 -- Elements under store are equal.
-use borrow.Author.Rules.{rules}
 use Rattle.model.specs.Qualified.{elements}
 use Rattle.order.proofs.equal.Goals as goal
 

@@ -1,5 +1,4 @@
 -- Nothing refuses a movement exactly if the order allows it.
-use borrow.Author.Rules.{rules}
 use Rattle.model.proofs.Order.{moves_order}
 use Rattle.order.proofs.is_above.Goals as goal
 

@@ -1,6 +1,5 @@
 -- The tests of `alike_heads`, on shapes that are below 512.
 use native.Mathlib.Omega.{arith}
-use borrow.Author.Rules.{rules}
 use borrow.Author.Tests.{eq-eqb, ne_eqb}
 use Rattle.order.specs.Words.{one_named, alike_heads}
 use Rattle.order.proofs.Laws.{shape_small}

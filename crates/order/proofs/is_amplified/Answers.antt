@@ -1,7 +1,6 @@
 -- No shape of ?R is a byte.
 use mathlib.Core.Path.{sym}
 use native.Mathlib.Omega.{arith}
-use borrow.Author.Rules.{rules}
 use Rattle.order.proofs.Laws.{amplifies_word}
 use Rattle.order.proofs.is_amplified.Goals as goal
 

@@ -1,5 +1,4 @@
 -- Both tests are the contract's.
-use borrow.Author.Rules.{rules}
 use Rattle.order.proofs.is_array_above.Goals as goal
 
 pub returns : goal.returns

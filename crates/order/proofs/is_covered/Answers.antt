@@ -1,5 +1,4 @@
 -- The tests of `covered_heads`.
-use borrow.Author.Rules.{rules}
 use borrow.Author.Tests.{lt-leb, le-leb}
 use Rattle.order.specs.Words.{covered_heads}
 use Rattle.order.proofs.is_covered.Goals as goal

@@ -1,5 +1,4 @@
 -- The two tests are those of the definition, on the base in the shape.
-use borrow.Author.Rules.{rules}
 use Rattle.model.specs.Rules.{owned_by}
 use Rattle.order.proofs.Laws.{base_part}
 use Rattle.order.proofs.is_owned.Goals as goal

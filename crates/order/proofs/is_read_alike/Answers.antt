@@ -1,5 +1,4 @@
 -- One name, or none that is read.
-use borrow.Author.Rules.{rules}
 use Rattle.order.proofs.Laws.{read_alike}
 use Rattle.order.proofs.is_read_alike.Goals as goal
 

@@ -1,6 +1,5 @@
 -- `heads_at_once` says that the one test is both.
 use Rattle.order.proofs.Laws.{heads_at_once}
-use borrow.Author.Rules.{rules}
 use Rattle.order.proofs.is_same_array.Goals as goal
 
 pub returns : goal.returns

@@ -1,6 +1,5 @@
 -- The tests are the definition's.
 use Rattle.order.specs.Words.{same_heads}
-use borrow.Author.Rules.{rules}
 use Rattle.order.proofs.is_same_head.Goals as goal
 
 pub returns : goal.returns

@@ -1,6 +1,5 @@
 -- A type moves to itself; else what `movement_of_words` ensures.
 use mathlib.Core.Path.{sym}
-use borrow.Author.Rules.{rules}
 use Rattle.order.proofs.Laws.{moves_itself}
 use Rattle.order.proofs.movement.Goals as goal
 

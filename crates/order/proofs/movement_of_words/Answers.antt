@@ -1,7 +1,5 @@
 -- Two arrays, or `moves_others`: the two tests of a movement, each on the words of the two types.
-use mathlib.Core.Path.{sym, ◌∙◌}
 use lib.Dec.{eqb}
-use borrow.Author.Rules.{rules}
 use borrow.Author.Tests.{eqb-true}
 use Rattle.model.proofs.Verdicts.{both_true}
 use Rattle.index.specs.Types.{shape_of, word_as}

@@ -1,5 +1,5 @@
 -- The words read are those of the variables: blanks stop, integers are added, and of objects nothing is claimed.
-use Rattle.std.proofs.Common.{sym, rules}
+use Rattle.std.proofs.Common.{sym}
 use Rattle.model.specs.Machine.{plan, plus}
 use Rattle.words.specs.Answers.{given, halted}
 use Rattle.plain_plan.proofs.Laws.{due, stuck_or, blank_there, filled_there, first_blank, second_blank, computed}

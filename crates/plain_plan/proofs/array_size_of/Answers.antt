@@ -1,5 +1,5 @@
 -- The words read are those of the variable and of the head; the size is in the head's word.
-use Rattle.std.proofs.Common.{sym, rules}
+use Rattle.std.proofs.Common.{sym}
 use Rattle.model.specs.Machine.{plan}
 use Rattle.words.specs.Answers.{given, halted}
 use Rattle.plain_plan.proofs.Laws.{due, stuck_or, blank_there, filled_there, size_blank, size_filled}

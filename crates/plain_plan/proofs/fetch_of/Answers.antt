@@ -1,5 +1,5 @@
 -- The words read are those of the variables and of the head; below the size, the word moved is that of the array's cell.
-use Rattle.std.proofs.Common.{sym, ◌∙◌, rules}
+use Rattle.std.proofs.Common.{sym, ◌∙◌}
 use Rattle.model.specs.Rights.{fetch_right}
 use Rattle.model.specs.Modes.{plain}
 use Rattle.model.specs.Machine.{plan, plan_fetch, declared_as}

@@ -1,5 +1,5 @@
 -- A word is blank exactly if it is 0.
-use Rattle.std.proofs.Common.{ap, rules, eq-eqb, ne_eqb}
+use Rattle.std.proofs.Common.{ap, eq-eqb, ne_eqb}
 use Rattle.words.specs.declared.Moved.TheVariants.{To}
 use Rattle.words.proofs.Laws.{told_blank, told_filled}
 use Rattle.plain_plan.proofs.filled_word.Goals as goal

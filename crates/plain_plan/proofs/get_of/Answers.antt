@@ -1,5 +1,5 @@
 -- The word read is that of the variable; the word moved is that of the record's slot, or the definition is stuck.
-use Rattle.std.proofs.Common.{sym, rules}
+use Rattle.std.proofs.Common.{sym}
 use Rattle.model.specs.Rights.{open_right}
 use Rattle.model.specs.Modes.{plain}
 use Rattle.model.specs.Machine.{plan, plan_get, declared_as}

@@ -1,5 +1,5 @@
 -- The word read is that of the variable; where it is an object's the definition is stuck.
-use Rattle.std.proofs.Common.{sym, ap, ◌∙◌, rules}
+use Rattle.std.proofs.Common.{sym, ap, ◌∙◌}
 use Rattle.model.specs.Outcome.{ok}
 use Rattle.words.specs.Answers.{number_as, halted}
 use Rattle.plain_plan.proofs.Laws.{due, stuck_or, blank_there, filled_there, one_blank, one_filled}

@@ -1,5 +1,5 @@
 -- The words read are those of the variables: blanks stop, integers are compared, and of objects nothing is claimed.
-use Rattle.std.proofs.Common.{ltb, sym, rules, le-ltb, lt-ltb}
+use Rattle.std.proofs.Common.{ltb, sym, le-ltb, lt-ltb}
 use Rattle.model.specs.Machine.{plan, flag}
 use Rattle.words.specs.Answers.{given, halted}
 use Rattle.plain_plan.proofs.Laws.{due, stuck_or, blank_there, filled_there, first_blank, second_blank, computed}

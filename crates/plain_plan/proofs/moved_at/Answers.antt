@@ -1,5 +1,5 @@
 -- The word moved is that of the variable.
-use Rattle.std.proofs.Common.{refl, rules}
+use Rattle.std.proofs.Common.{refl}
 use Rattle.model.specs.Modes.{plain}
 use Rattle.model.specs.Machine.{plan, declared_as}
 use Rattle.model.specs.declared.Operation.TheVariants.{Bind}

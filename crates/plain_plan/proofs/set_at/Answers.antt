@@ -1,5 +1,5 @@
 -- The words read are those of the variables; the slot set is one of the record's, or the definition is stuck.
-use Rattle.std.proofs.Common.{sym, refl, ◌∙◌, rules}
+use Rattle.std.proofs.Common.{sym, refl, ◌∙◌}
 use Rattle.model.specs.Rights.{open_right}
 use Rattle.model.specs.Modes.{plain}
 use Rattle.model.specs.Machine.{read_in, plan, plan_set}

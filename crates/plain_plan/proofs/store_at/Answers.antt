@@ -1,5 +1,5 @@
 -- The words read are those of the variables and of the head; below the size, the cell stored to is one of the array's.
-use Rattle.std.proofs.Common.{sym, ◌∙◌, rules}
+use Rattle.std.proofs.Common.{sym, ◌∙◌}
 use Rattle.model.specs.Rights.{store_right}
 use Rattle.model.specs.Modes.{plain}
 use Rattle.model.specs.Machine.{plan, plan_store}

@@ -3,7 +3,6 @@ use mathlib.Core.Path.{sym, ◌∙◌}
 use Rattle.model.specs.Refusal.{verdict}
 use Rattle.sheet.specs.Layout.{types_of, named_of, bound_base_at, least_at}
 use Rattle.form.specs.WellFormed.{bound_tests}
-use borrow.Author.Rules.{rules}
 use Rattle.records.proofs.bound_record.Goals as goal
 
 pub returns-then-is_bounded : goal.returns-then-is_bounded

@@ -1,5 +1,4 @@
 -- The code is the definition, with what the calls ensure in place of their results.
-use borrow.Author.Rules.{rules}
 use Rattle.sheet.specs.Layout.{types_of, quals_of, owner_at, formals_at, variables_field, result_at, instructions_at}
 use Rattle.form.specs.WellFormed.{head_tests}
 use Rattle.records.proofs.head_record.Goals as goal

@@ -1,7 +1,6 @@
 -- Each way through the tests is a way through the definition. Past the first two the reader gives the HD, whose fields are the header's.
 use mathlib.Core.Path.{sym, ◌∙◌}
 use native.Mathlib.Omega.{arith}
-use borrow.Author.Rules.{rules}
 use Rattle.model.specs.Refusal.{verdict, refuse, failure}
 use Rattle.sheet.specs.Layout.{edition_of, types_of, quals_of, procedures_of}
 use Rattle.form.specs.WellFormed.{header_tests}

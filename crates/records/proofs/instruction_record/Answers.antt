@@ -1,6 +1,5 @@
 -- Where the record stands whole it is tested there; where it does not, 2 is the first test that fails.
 use mathlib.Core.Path.{sym, ◌∙◌}
-use borrow.Author.Rules.{rules}
 use Rattle.model.specs.Refusal.{verdict, refuse, failure}
 use Rattle.sheet.proofs.Laws.{whole_true}
 use Rattle.form.specs.WellFormed.{record_tests, instruction_tests_at}

@@ -3,7 +3,6 @@ use mathlib.Core.Path.{sym, ◌∙◌}
 use Rattle.model.specs.Refusal.{verdict, refuse, failure}
 use Rattle.sheet.proofs.Laws.{whole_true}
 use Rattle.form.specs.WellFormed.{record_tests, qual_tests}
-use borrow.Author.Rules.{rules}
 use Rattle.records.proofs.qual_record.Goals as goal
 
 pub whole_qual-requires : goal.whole_qual-requires

@@ -1,6 +1,5 @@
 -- Each way through the tests is a way through the definition.
 use mathlib.Core.Path.{sym, ◌∙◌}
-use borrow.Author.Rules.{rules}
 use Rattle.model.specs.Refusal.{verdict, refuse, failure}
 use Rattle.form.specs.WellFormed.{record_tests}
 use Rattle.records.proofs.record.Goals as goal

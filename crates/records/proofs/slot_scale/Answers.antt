@@ -1,5 +1,4 @@
 -- The code is the definition, with what the calls ensure in place of their results.
-use borrow.Author.Rules.{rules}
 use Rattle.records.proofs.slot_scale.Goals as goal
 
 pub returns : goal.returns

@@ -1,5 +1,4 @@
 -- The code is the definition, with what the calls ensure in place of their results.
-use borrow.Author.Rules.{rules}
 use Rattle.model.specs.Refusal.{all_from}
 use Rattle.limits.specs.Scale.{type_scale}
 use Rattle.records.proofs.type_scale.Goals as goal

@@ -1,5 +1,4 @@
 -- The code is the definition, with what the calls ensure in place of their results.
-use borrow.Author.Rules.{rules}
 use Rattle.sheet.specs.Layout.{quals_of, formals_at, inner_at, need_at}
 use Rattle.form.specs.WellFormed.{variable_tests}
 use Rattle.records.proofs.variable_record.Goals as goal

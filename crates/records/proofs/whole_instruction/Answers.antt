@@ -1,7 +1,6 @@
 -- The fields read are those of the definition, and the record stands whole; each way through the other tests is a way through the definition.
 use mathlib.Core.Path.{sym, ap, ◌∙◌}
 use native.Mathlib.Omega.{arith}
-use borrow.Author.Rules.{rules}
 use Rattle.model.specs.Refusal.{verdict, refuse, failure}
 use Rattle.limits.specs.Scale.{instruction_scale}
 use Rattle.form.specs.WellFormed.{record_tests, instruction_tests_at}

@@ -5,7 +5,6 @@ use Rattle.model.specs.Refusal.{verdict, refuse, failure}
 use Rattle.sheet.specs.Layout.{types_of, named_of, base_of, rights_field, element_field}
 use Rattle.form.specs.WellFormed.{record_tests, qual_tests}
 use Rattle.form.proofs.Laws.{whole_here, mark_here}
-use borrow.Author.Rules.{rules}
 use Rattle.records.proofs.whole_qual.Goals as goal
 
 pub returns-then-scale : goal.returns-then-scale

@@ -1,4 +1,3 @@
-use borrow.Author.Rules.{rules}
 use Rattle.replies.proofs.put_reply.Goals as goal
 
 pub returns : goal.returns

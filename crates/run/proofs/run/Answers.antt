@@ -3,7 +3,6 @@ use mathlib.Core.Path.{sym, ◌∙◌}
 use Rattle.form.proofs.WellFormed.{form_ready}
 use Rattle.run.specs.Run.{answer, end}
 use Rattle.run.proofs.Laws.{formed_sheet, never_stuck}
-use borrow.Author.Rules.{rules}
 use Rattle.run.proofs.run.Goals as goal
 
 pub run_lent-requires : goal.run_lent-requires

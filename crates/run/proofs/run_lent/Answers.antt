@@ -5,7 +5,6 @@ use lib.ListN.{replicate}
 use borrow.Author.Tests.{lt-leb, le-leb}
 use Rattle.run.specs.Run.{memory_fits, end}
 use Rattle.run.proofs.Laws.{answers}
-use borrow.Author.Rules.{rules}
 use Rattle.run.proofs.run_lent.Goals as goal
 
 pub returns-then-memory-gt65536 : goal.returns-then-memory-gt65536

@@ -3,7 +3,6 @@ use mathlib.Core.Path.{sym, ◌∙◌}
 use Rattle.model.proofs.AnyProgram.{watched_not_stuck}
 use Rattle.form.proofs.WellFormed.{form_ready}
 use Rattle.run.specs.Run.{answer, end}
-use borrow.Author.Rules.{rules}
 use Rattle.run.proofs.watch.Goals as goal
 
 pub run_lent-requires : goal.run_lent-requires

@@ -1,10 +1,9 @@
 -- An array leads to its element, and one whose element does not fall nowhere. The measure falls with the number of the need's element.
 use mathlib.Core.Path.{refl, sym}
 use native.Mathlib.Omega.{arith}
-use borrow.Author.Rules.{rules}
 use borrow.Author.Tests.{lt-ltb, le-ltb}
 use Rattle.index.specs.Types.{element_below}
-use Rattle.index.proofs.Trees.{depth, element_falls}
+use Rattle.index.proofs.Trees.{element_falls}
 use Rattle.settling.proofs.Laws.{inner_element, inner_none, inner_base}
 use Rattle.settling.proofs.+innermost.Goals as goal
 

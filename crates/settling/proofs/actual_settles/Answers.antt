@@ -1,5 +1,4 @@
 -- The two bytes that are read are the fields of the definition.
-use borrow.Author.Rules.{rules}
 use Rattle.sheet.proofs.Laws.{inner_field}
 use Rattle.index.proofs.Reading.{inner_type, need_type}
 use Rattle.settling.proofs.actual_settles.Goals as goal

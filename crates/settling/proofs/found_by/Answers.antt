@@ -1,14 +1,10 @@
 -- The invariant: what was found is what the actuals before j settle.
-use Prim.Native.Nat.{◌+◌, ◌-◌, ◌≤◌}
 use mathlib.Core.Path.{◌≡◌, ap}
 use native.Mathlib.Omega.{arith}
-use borrow.Author.Rules.{rules}
 use Rattle.model.specs.Generic.{settlings}
 use Rattle.sheet.specs.Layout.{formals_at}
 use Rattle.index.specs.Types.{named_as}
-use Rattle.index.specs.Scope.{inner_as, need_as}
-use Rattle.settling.specs.Settles.{least_name}
-use Rattle.settling.proofs.Actuals.{FoundBefore, found_start, found_more}
+use Rattle.settling.proofs.Actuals.{found_start, found_more}
 use Rattle.settling.proofs.found_by.Goals as goal
 
 pub loop-j-init : goal.loop-j-init

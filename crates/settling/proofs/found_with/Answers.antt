@@ -1,5 +1,4 @@
 -- One of the four laws of an actual more.
-use borrow.Author.Rules.{rules}
 use Rattle.settling.proofs.Actuals.{found_unused, found_nothing, found_first, found_again}
 use Rattle.settling.proofs.found_with.Goals as goal
 

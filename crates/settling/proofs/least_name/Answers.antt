@@ -1,6 +1,5 @@
 -- The remainder is the definition's.
 use mathlib.Core.Path.{refl}
-use borrow.Author.Rules.{rules}
 use Rattle.settling.specs.Settles.{least_name}
 use Rattle.settling.proofs.least_name.Goals as goal
 

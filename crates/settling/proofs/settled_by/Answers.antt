@@ -1,6 +1,5 @@
 -- What was found, held to the bound.
 use mathlib.Core.Path.{sym, ◌∙◌}
-use borrow.Author.Rules.{rules}
 use Rattle.index.specs.Scope.{inner_as}
 use Rattle.settling.specs.Settles.{callee_as}
 use Rattle.settling.proofs.Actuals.{settled_found, enough_found, unbounded}

@@ -1,6 +1,5 @@
 -- The shapes tell whether the need is ?R, and the actual the caller's ?R or a type of its base.
 use native.Mathlib.Omega.{arith}
-use borrow.Author.Rules.{rules}
 use Rattle.index.specs.Types.{shape_of}
 use Rattle.settling.proofs.Laws.{generic_shape, settles_unused, settles_named, settles_base, settles_nothing}
 use Rattle.settling.proofs.settles_base.Goals as goal

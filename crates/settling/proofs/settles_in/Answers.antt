@@ -1,7 +1,5 @@
 -- The need's innermost type is no array, and the two lead back.
 use mathlib.Core.Path.{◌∙◌}
-use native.Mathlib.Omega.{arith}
-use borrow.Author.Rules.{rules}
 use Rattle.index.proofs.Reading.{type_array}
 use Rattle.settling.proofs.settles_in.Goals as goal
 

@@ -1,6 +1,5 @@
 -- The product is the definition's.
 use mathlib.Core.Path.{refl}
-use borrow.Author.Rules.{rules}
 use Rattle.model.specs.Rights.{less_open}
 use Rattle.settling.proofs.without_open.Goals as goal
 

@@ -1,6 +1,5 @@
 use native.Mathlib.Omega.{arith}
-use mathlib.Core.Path.{◌≡◌, sym, ap, ◌∙◌}
-use borrow.Author.Rules.{rules}
+use mathlib.Core.Path.{sym, ap, ◌∙◌}
 use Rattle.io.proofs.Counting.{prefix_len_of_le}
 use Rattle.verdict_line.specs.Line.{ascii, line}
 use Rattle.verdict_line.proofs.put_line.Goals as goal

@@ -1,12 +1,8 @@
 -- After j turns the first j actuals stand at the place; a word that is written there changes nothing that the next one reads.
-use Prim.Native.Nat.{ℕ, ◌+◌, ◌-◌, ◌≤◌, ◌<◌}
+use Prim.Native.Nat.{◌+◌, ◌-◌, ◌<◌}
 use native.Mathlib.Omega.{arith}
 use mathlib.Core.Path.{◌≡◌, refl}
-use lib.ListN.{length, length-set}
-use borrow.Author.Rules.{rules}
-use Rattle.model.specs.Rights.{Rights}
-use Rattle.binding.specs.Binds.{FrameScope}
-use Rattle.watched_calls.specs.Calls.{Bound}
+use lib.ListN.{length-set}
 use Rattle.watched_calls.proofs.Calling.{bound_none, bound_more, bound_stop, bound_done}
 use Rattle.watched_calls.proofs.bind_actuals.Goals as goal
 

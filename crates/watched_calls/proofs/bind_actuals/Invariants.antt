@@ -1,12 +1,9 @@
-use Prim.Native.Nat.{ℕ, ◌+◌, ◌-◌, ◌≤◌, ◌<◌}
-use native.Mathlib.Omega.{arith}
-use mathlib.Core.Path.{◌≡◌, refl}
-use lib.ListN.{length, length-set}
-use borrow.Author.Rules.{rules}
+use Prim.Native.Nat.{ℕ, ◌-◌, ◌≤◌}
+use mathlib.Core.Path.{◌≡◌}
+use lib.ListN.{length}
 use Rattle.model.specs.Rights.{Rights}
 use Rattle.binding.specs.Binds.{FrameScope}
 use Rattle.watched_calls.specs.Calls.{Bound}
-use Rattle.watched_calls.proofs.Calling.{bound_none, bound_more, bound_stop, bound_done}
 use Rattle.watched_calls.proofs.bind_actuals.Given as goal
 
 abbrev pub invariant-loop-j : goal.invariant-loop-j

@@ -2,7 +2,6 @@
 use native.Mathlib.Omega.{arith}
 use mathlib.Core.Path.{sym, ap, ◌∙◌}
 use lib.Seq.{length-take-le}
-use borrow.Author.Rules.{rules}
 use Rattle.index.specs.Types.{type_in}
 use Rattle.index.proofs.Reading.{inner_type}
 use Rattle.binding.proofs.Laws.{word_of_sheet}

@@ -1,6 +1,5 @@
 -- The tests are those of the definition, in its order; the rest is what `enter` ensures, with the set that ?R is settled to.
 use mathlib.Core.Path.{subst}
-use borrow.Author.Rules.{rules}
 use Rattle.sheet.specs.Layout.{result_at}
 use Rattle.index.specs.Scope.{bound_of_procedure, inner_as}
 use Rattle.index.proofs.Reading.{placed_word}

@@ -1,7 +1,6 @@
 -- The room is tested first; then the actuals are bound into the words where the frame will stand, which is opened around them.
 use native.Mathlib.Omega.{arith}
 use mathlib.Core.Path.{subst, ◌∙◌, ap}
-use borrow.Author.Rules.{rules}
 use Rattle.model.specs.Modes.{watched}
 use Rattle.model.specs.Qualified.{rights}
 use Rattle.model.specs.Generic.{instance}

@@ -1,5 +1,4 @@
 -- What is handed over decides how the frame that waits goes on.
-use borrow.Author.Rules.{rules}
 use Rattle.watched_calls.proofs.Returning.{gives_nothing, gives_word, gives_halt}
 use Rattle.watched_calls.proofs.give_back.Goals as goal
 

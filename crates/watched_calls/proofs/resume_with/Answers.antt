@@ -1,6 +1,5 @@
 -- Main's return, a result that is dropped, and one that is bound to the variable that keeps it.
 use native.Mathlib.Omega.{arith}
-use borrow.Author.Rules.{rules}
 use Rattle.model.specs.Modes.{watched}
 use Rattle.frames.proofs.Returning.{returns_over, returns_dropped}
 use Rattle.watched_calls.proofs.Laws.{scope_here}

@@ -1,7 +1,6 @@
 -- Main's return, a result that is dropped, and one that is kept and is not there.
 use native.Mathlib.Omega.{arith}
 use mathlib.Core.Option.{none}
-use borrow.Author.Rules.{rules}
 use Rattle.model.specs.Modes.{watched}
 use Rattle.frames.proofs.Returning.{returns_over, returns_dropped}
 use Rattle.watched_calls.proofs.Returning.{returns_lacking}

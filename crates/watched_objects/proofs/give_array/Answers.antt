@@ -1,6 +1,5 @@
 -- The test is that of the definition: an array of x cells takes x + 1 units.
 use native.Mathlib.Omega.{arith}
-use borrow.Author.Rules.{rules}
 use Rattle.model.specs.Modes.{watched}
 use Rattle.model.specs.Outcome.{memory_full}
 use Rattle.writers.proofs.Effects.{does_stop, does_halt}

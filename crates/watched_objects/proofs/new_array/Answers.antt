@@ -1,7 +1,6 @@
 -- The size is that which is planned, and the free units are those of the view.
 use Rattle.frames.proofs.Performs.{cut_length}
 use mathlib.Core.Path.{sym}
-use borrow.Author.Rules.{rules}
 use lib.ListN.{length}
 use Rattle.model.specs.Modes.{watched}
 use Rattle.model.specs.Machine.{view}

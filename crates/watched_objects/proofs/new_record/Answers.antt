@@ -2,7 +2,6 @@
 use Prim.Native.Nat.{◌-◌}
 use native.Mathlib.Omega.{arith}
 use mathlib.Core.Path.{refl, sym, ◌∙◌}
-use borrow.Author.Rules.{rules}
 use Rattle.model.specs.Modes.{watched}
 use Rattle.model.specs.Outcome.{memory_full, stop}
 use Rattle.sheet.specs.Meaning.{program_of}

@@ -1,5 +1,4 @@
 -- What is read is what the view sees; the writer does what is planned.
-use borrow.Author.Rules.{rules}
 use Rattle.model.specs.Modes.{watched}
 use Rattle.words.specs.Answers.{given}
 use Rattle.watched_calls.proofs.Laws.{performs_seeing}

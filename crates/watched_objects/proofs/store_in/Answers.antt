@@ -3,7 +3,6 @@ use Rattle.frames.proofs.Performs.{cut_length}
 use native.Mathlib.Omega.{arith}
 use mathlib.Core.Path.{sym}
 use lib.Seq.{length-take-le}
-use borrow.Author.Rules.{rules}
 use Rattle.model.specs.Modes.{watched}
 use Rattle.sheet.specs.Meaning.{qual_of}
 use Rattle.frames.proofs.Performs.{sees_cut}

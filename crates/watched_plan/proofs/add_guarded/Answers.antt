@@ -1,5 +1,4 @@
 -- Two integers, whose sum `give` moves on, or a stop, which stays what it is.
-use Rattle.std.proofs.Common.{rules}
 use Rattle.model.specs.Machine.{plan, plus}
 use Rattle.sheet.specs.Meaning.{program_of}
 use Rattle.watched_plan.proofs.Laws.{computed, not_computed}

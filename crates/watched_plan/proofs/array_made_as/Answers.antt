@@ -1,5 +1,5 @@
 -- A new array fits its own declared type; its rights are tested as in the definition.
-use Rattle.std.proofs.Common.{sym, ap, ◌∙◌, rules}
+use Rattle.std.proofs.Common.{sym, ap, ◌∙◌}
 use Rattle.model.specs.Qualified.{rights}
 use Rattle.watched_plan.proofs.Laws.{type_in_lem, array_in_type, made_fit, made_without, made_misfit, array_fits}
 use Rattle.watched_plan.proofs.array_made_as.Goals as goal

@@ -1,5 +1,5 @@
 -- What `bind_word` ensures of the variable's cell.
-use Rattle.std.proofs.Common.{ap, ◌∙◌, rules}
+use Rattle.std.proofs.Common.{ap, ◌∙◌}
 use Rattle.model.specs.Modes.{watched}
 use Rattle.sheet.specs.Meaning.{qual_of, program_of}
 use Rattle.words.specs.Word.{slot_in}

@@ -1,5 +1,5 @@
 -- What the calls ensure.
-use Rattle.std.proofs.Common.{sym, ap, ◌∙◌, rules}
+use Rattle.std.proofs.Common.{sym, ap, ◌∙◌}
 use Rattle.model.specs.Qualified.{element}
 use Rattle.index.proofs.Reading.{type_element, type_read}
 use Rattle.watched_plan.proofs.Laws.{type_in_lem}

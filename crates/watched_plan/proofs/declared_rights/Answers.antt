@@ -1,5 +1,5 @@
 -- What the calls ensure.
-use Rattle.std.proofs.Common.{ap, ◌∙◌, rules}
+use Rattle.std.proofs.Common.{ap, ◌∙◌}
 use Rattle.model.specs.Qualified.{rights}
 use Rattle.watched_plan.proofs.Laws.{type_in_lem}
 use Rattle.watched_plan.proofs.declared_rights.Goals as goal

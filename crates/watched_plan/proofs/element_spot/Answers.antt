@@ -1,5 +1,4 @@
 -- Blanks first, b before c; then what `index_in` ensures.
-use Rattle.std.proofs.Common.{rules}
 use Rattle.watched_plan.proofs.Laws.{element_blank, element_blank_index, element_found, blank_seen, filled_seen}
 use Rattle.watched_plan.proofs.element_spot.Goals as goal
 

@@ -1,5 +1,4 @@
 -- The element found is a cell of the array, of which `bind_through` ensures the rest; a stop stays what it is.
-use Rattle.std.proofs.Common.{rules}
 use Rattle.sheet.specs.Meaning.{program_of}
 use Rattle.binding.proofs.Laws.{twice_of_sheet}
 use Rattle.watched_plan.proofs.Laws.{declared_type, declared_element, fetch_at, fetch_halt}

@@ -1,5 +1,5 @@
 -- The slot found is a cell of the record, of which `bind_word` ensures the rest; a stop stays what it is.
-use Rattle.std.proofs.Common.{sym, rules}
+use Rattle.std.proofs.Common.{sym}
 use Rattle.sheet.specs.Layout.{owner_at}
 use Rattle.sheet.specs.Meaning.{program_of}
 use Rattle.binding.proofs.Laws.{word_of_sheet}

@@ -1,5 +1,5 @@
 -- An integer without rights fits the integer type alone.
-use Rattle.std.proofs.Common.{sym, ◌∙◌, rules}
+use Rattle.std.proofs.Common.{sym, ◌∙◌}
 use Rattle.sheet.specs.Meaning.{program_of}
 use Rattle.index.proofs.Reading.{inner_read}
 use Rattle.watched_plan.proofs.Laws.{gives_integer, gives_misfit}

@@ -1,5 +1,5 @@
 -- The test of the three tags is that of the kinds; then the right and the size, in the definition's order.
-use Rattle.std.proofs.Common.{eqb, rules}
+use Rattle.std.proofs.Common.{eqb}
 use Rattle.watched_plan.proofs.Laws.{index_misfit, index_without, index_past, index_at, inside_array}
 use Rattle.watched_plan.proofs.index_in.Goals as goal
 

@@ -1,5 +1,4 @@
 -- By the tag: an integer, or what tells why there is none.
-use Rattle.std.proofs.Common.{rules}
 use Rattle.watched_plan.proofs.Laws.{one_word, no_word}
 use Rattle.watched_plan.proofs.integer_in.Goals as goal
 

@@ -1,5 +1,5 @@
 -- Two integers, whose comparison `give` moves on, or a stop, which stays what it is.
-use Rattle.std.proofs.Common.{ℕ, ltb, rules}
+use Rattle.std.proofs.Common.{ℕ, ltb}
 use Rattle.model.specs.Machine.{plan, flag}
 use Rattle.sheet.specs.Meaning.{program_of}
 use Rattle.watched_plan.proofs.Laws.{computed, not_computed}

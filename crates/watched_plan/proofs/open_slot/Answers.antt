@@ -1,5 +1,5 @@
 -- The test of tags and type is that of the kind; then open and the slot, in the definition's order.
-use Rattle.std.proofs.Common.{eqb, rules}
+use Rattle.std.proofs.Common.{eqb}
 use Rattle.watched_plan.proofs.Laws.{slot_misfit, slot_without, slot_past, slot_there_at, inside_record}
 use Rattle.watched_plan.proofs.open_slot.Goals as goal
 

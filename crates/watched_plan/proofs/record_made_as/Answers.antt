@@ -1,5 +1,5 @@
 -- The test of the kind is that of the definition; no right above the named ones is within all rights.
-use Rattle.std.proofs.Common.{sym, rules}
+use Rattle.std.proofs.Common.{sym}
 use Rattle.sheet.specs.Layout.{owner_at, named_of}
 use Rattle.watched_plan.proofs.Laws.{type_in_lem, made_fit, made_without, made_misfit, record_fits, within_named}
 use Rattle.watched_plan.proofs.record_made_as.Goals as goal

@@ -1,5 +1,4 @@
 -- What `give` ensures.
-use Rattle.std.proofs.Common.{rules}
 use Rattle.model.specs.Machine.{plan}
 use Rattle.watched_plan.proofs.set_guarded.Goals as goal
 

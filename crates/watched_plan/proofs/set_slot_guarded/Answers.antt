@@ -1,5 +1,5 @@
 -- What `bind_word` ensures of the variable's cell, bound to the slot's type, is stored to the slot found.
-use Rattle.std.proofs.Common.{sym, ap, ◌∙◌, rules}
+use Rattle.std.proofs.Common.{sym, ap, ◌∙◌}
 use Rattle.model.specs.Modes.{watched}
 use Rattle.sheet.specs.Layout.{owner_at}
 use Rattle.sheet.specs.Meaning.{qual_of, program_of}

@@ -1,5 +1,4 @@
 -- A blank cell; then the two tags, the right, and what `give` ensures of the size.
-use Rattle.std.proofs.Common.{rules}
 use Rattle.sheet.specs.Meaning.{program_of}
 use Rattle.watched_plan.proofs.Laws.{size_blank, size_misfit, size_without, size_given, blank_seen, filled_seen}
 use Rattle.watched_plan.proofs.size_guarded.Goals as goal

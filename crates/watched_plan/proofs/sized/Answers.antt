@@ -1,5 +1,5 @@
 -- A stop stays what it is; an integer is the size of a declared array.
-use Rattle.std.proofs.Common.{◌∙◌, rules}
+use Rattle.std.proofs.Common.{◌∙◌}
 use Rattle.watched_plan.proofs.Laws.{array_in_type, size_halts, size_asked, size_refused}
 use Rattle.watched_plan.proofs.sized.Goals as goal
 

@@ -1,5 +1,4 @@
 -- A blank cell, or what `open_slot` ensures of a filled one.
-use Rattle.std.proofs.Common.{rules}
 use Rattle.watched_plan.proofs.Laws.{slot_blank, slot_found, blank_seen, filled_seen}
 use Rattle.watched_plan.proofs.slot_spot.Goals as goal
 

@@ -1,5 +1,5 @@
 -- What `bind_word` ensures of the variable's cell, bound to the array's element, is stored to the element found.
-use Rattle.std.proofs.Common.{ap, ◌∙◌, rules}
+use Rattle.std.proofs.Common.{ap, ◌∙◌}
 use Rattle.model.specs.Modes.{watched}
 use Rattle.sheet.specs.Meaning.{qual_of, program_of}
 use Rattle.index.proofs.Reading.{type_read}

@@ -1,5 +1,4 @@
 -- In each case the code is the definition.
-use Rattle.std.proofs.Common.{rules}
 use Rattle.watched_plan.proofs.Laws.{stored_ok, stored_to, stored_halt}
 use Rattle.watched_plan.proofs.stored_at.Goals as goal
 

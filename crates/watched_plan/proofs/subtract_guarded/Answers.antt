@@ -1,5 +1,5 @@
 -- Two integers, whose difference `give` moves on, or a stop, which stays what it is.
-use Rattle.std.proofs.Common.{arith, rules}
+use Rattle.std.proofs.Common.{arith}
 use Rattle.model.specs.Machine.{plan, minus}
 use Rattle.sheet.specs.Meaning.{program_of}
 use Rattle.watched_plan.proofs.Laws.{computed, not_computed}

@@ -1,5 +1,5 @@
 -- The code is the definition, with what the calls ensure in place of their results.
-use Rattle.std.proofs.Common.{◌∙◌, rules}
+use Rattle.std.proofs.Common.{◌∙◌}
 use Rattle.watched_plan.proofs.Laws.{integer_in_type}
 use Rattle.watched_plan.proofs.takes_integer.Goals as goal
 

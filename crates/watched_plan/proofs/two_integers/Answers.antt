@@ -1,5 +1,4 @@
 -- By the tags: two integers, or what tells why they are not.
-use Rattle.std.proofs.Common.{rules}
 use Rattle.watched_plan.proofs.Laws.{both_words, no_words}
 use Rattle.watched_plan.proofs.two_integers.Goals as goal
 

@@ -1,6 +1,5 @@
 -- The integer is that of the variable, and the free output words are those of the view.
 use Rattle.frames.proofs.Performs.{cut_length}
-use borrow.Author.Rules.{rules}
 use Rattle.model.specs.Modes.{watched}
 use Rattle.sheet.specs.Meaning.{qual_of, program_of}
 use Rattle.model.specs.Machine.{one_integer}

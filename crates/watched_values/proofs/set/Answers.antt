@@ -1,5 +1,4 @@
 -- What is asked for is what is planned; the writer does it.
-use borrow.Author.Rules.{rules}
 use Rattle.model.specs.Modes.{watched}
 use Rattle.words.specs.Answers.{given}
 use Rattle.watched_calls.proofs.Laws.{performs_seeing}

@@ -1,6 +1,5 @@
 -- The part of the memory that is read is the frame's, which the view sees; the writer does what is planned.
 use Rattle.frames.proofs.Performs.{cut_length}
-use borrow.Author.Rules.{rules}
 use Rattle.model.specs.Modes.{watched}
 use Rattle.sheet.specs.Meaning.{qual_of}
 use Rattle.words.specs.Answers.{given}

@@ -1,7 +1,6 @@
 -- The next input word is that which the state has left; a word that is there and no integer's is 18.
 use mathlib.Core.Path.{sym}
 use lib.ListN.{drop}
-use borrow.Author.Rules.{rules}
 use Rattle.model.specs.Modes.{watched}
 use Rattle.model.specs.Outcome.{wrong_kind, stop}
 use Rattle.model.specs.Machine.{first_of}

@@ -1,11 +1,7 @@
 -- The branches are those of the definition. The index has the formals of the procedure called.
-use mathlib.Core.Path.{◌≡◌, ◌∙◌}
-use mathlib.Core.Bool.{cond}
+use mathlib.Core.Path.{◌∙◌}
 use native.Mathlib.Omega.{arith}
-use borrow.Author.Rules.{rules}
-use Rattle.model.specs.Refusal.{failure}
 use Rattle.sheet.specs.Layout.{procedures_of}
-use Rattle.form.specs.WellFormed.{call_tests_at}
 use Rattle.form.proofs.Laws.{call_none, call_outside, call_inside}
 use Rattle.well_formed.proofs.call_number.Goals as goal
 

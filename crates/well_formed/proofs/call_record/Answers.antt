@@ -1,5 +1,4 @@
 -- The record is accepted where its number is 0.
-use borrow.Author.Rules.{rules}
 use Rattle.model.proofs.Verdicts.{tests_pass, tests_stop}
 use Rattle.well_formed.proofs.call_record.Goals as goal
 

@@ -1,5 +1,4 @@
 -- The types refuse, else the procedures say the verdict.
-use borrow.Author.Rules.{rules}
 use Rattle.model.proofs.Verdicts.{stop_here, go_on}
 use Rattle.sheet.specs.Layout.{types_of, procedures_of}
 use Rattle.form.specs.WellFormed.{calls_tests}

@@ -1,13 +1,9 @@
 -- The loop over the instructions of a procedure: what is left to say is the verdict from the present one on.
-use Prim.Native.Nat.{◌-◌}
-use mathlib.Core.Path.{◌≡◌, ap, ◌∙◌}
-use native.Mathlib.Omega.{arith}
-use borrow.Author.Rules.{rules}
+use mathlib.Core.Path.{ap, ◌∙◌}
 use Rattle.model.specs.Refusal.{verdict}
-use Rattle.model.proofs.Verdicts.{Passing, pass_start, pass_next, pass_stop, pass_end}
+use Rattle.model.proofs.Verdicts.{pass_start, pass_next, pass_stop, pass_end}
 use Rattle.sheet.specs.Layout.{variables_field, instructions_at}
 use Rattle.form.proofs.Laws.{instruction_counted, call_here}
-use Rattle.form.specs.WellFormed.{call_tests}
 use Rattle.well_formed.proofs.calls_pass.Goals as goal
 
 pub loop-i-init : goal.loop-i-init

@@ -1,11 +1,5 @@
 use Prim.Native.Nat.{◌-◌}
-use mathlib.Core.Path.{◌≡◌, ap, ◌∙◌}
-use native.Mathlib.Omega.{arith}
-use borrow.Author.Rules.{rules}
-use Rattle.model.specs.Refusal.{verdict}
-use Rattle.model.proofs.Verdicts.{Passing, pass_start, pass_next, pass_stop, pass_end}
-use Rattle.sheet.specs.Layout.{variables_field, instructions_at}
-use Rattle.form.proofs.Laws.{instruction_counted, call_here}
+use Rattle.model.proofs.Verdicts.{Passing}
 use Rattle.form.specs.WellFormed.{call_tests}
 use Rattle.well_formed.proofs.calls_pass.Given as goal
 

@@ -1,6 +1,5 @@
 -- The first of the three passes that refuses is the verdict, else the last one is.
 use mathlib.Core.Path.{ap, ◌∙◌}
-use borrow.Author.Rules.{rules}
 use Rattle.model.specs.Refusal.{verdict}
 use Rattle.model.proofs.Verdicts.{stop_here, go_on}
 use Rattle.form.specs.WellFormed.{procedure_calls_at}

@@ -1,10 +1,9 @@
 -- The loop over the procedures: what is left to say is the verdict from the present one on. The index says where each one stands.
-use Prim.Native.Nat.{ℕ, ◌-◌}
-use mathlib.Core.Path.{◌≡◌, ap, ◌∙◌}
+use Prim.Native.Nat.{ℕ}
+use mathlib.Core.Path.{ap, ◌∙◌}
 use native.Mathlib.Omega.{arith}
-use borrow.Author.Rules.{rules}
 use Rattle.model.specs.Refusal.{verdict}
-use Rattle.model.proofs.Verdicts.{Passing, pass_start, pass_next, pass_stop, pass_end}
+use Rattle.model.proofs.Verdicts.{pass_start, pass_next, pass_stop, pass_end}
 use Rattle.form.proofs.Laws.{placed, started}
 use Rattle.form.specs.WellFormed.{procedure_calls_at, procedure_calls}
 use Rattle.well_formed.proofs.procedures_calls.Goals as goal

@@ -1,11 +1,6 @@
-use Prim.Native.Nat.{ℕ, ◌-◌}
-use mathlib.Core.Path.{◌≡◌, ap, ◌∙◌}
-use native.Mathlib.Omega.{arith}
-use borrow.Author.Rules.{rules}
-use Rattle.model.specs.Refusal.{verdict}
-use Rattle.model.proofs.Verdicts.{Passing, pass_start, pass_next, pass_stop, pass_end}
-use Rattle.form.proofs.Laws.{placed, started}
-use Rattle.form.specs.WellFormed.{procedure_calls_at, procedure_calls}
+use Prim.Native.Nat.{◌-◌}
+use Rattle.model.proofs.Verdicts.{Passing}
+use Rattle.form.specs.WellFormed.{procedure_calls}
 use Rattle.well_formed.proofs.procedures_calls.Given as goal
 
 abbrev pub invariant-loop-p : goal.invariant-loop-p

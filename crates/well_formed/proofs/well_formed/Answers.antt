@@ -1,7 +1,6 @@
 -- The layout refuses, else the calls say the verdict. An accepted layout has no more types and procedures than the index has room for.
 use mathlib.Core.Path.{sym, ◌∙◌}
 use mathlib.Core.List.{append_assoc}
-use borrow.Author.Rules.{rules}
 use Rattle.model.proofs.Verdicts.{stop_here, go_on}
 use Rattle.index.proofs.Ready.{ready}
 use Rattle.form.specs.WellFormed.{form_tests}

@@ -1,7 +1,6 @@
 -- The rest of the payload by 2^8 is the variable.
 use native.Mathlib.Omega.{arith}
 use Rattle.words.specs.Word.{payload}
-use borrow.Author.Rules.{rules}
 use Rattle.words.proofs.back_kept.Goals as goal
 
 pub returns : goal.returns

@@ -1,7 +1,6 @@
 -- The quotient of the payload by 2^14 is the instruction.
 use native.Mathlib.Omega.{arith}
 use Rattle.words.specs.Word.{payload}
-use borrow.Author.Rules.{rules}
 use Rattle.words.proofs.back_next.Goals as goal
 
 pub returns : goal.returns

@@ -1,6 +1,5 @@
 -- Bits 22 to 24 of the payload.
 use mathlib.Core.Path.{refl}
-use borrow.Author.Rules.{rules}
 use Rattle.words.specs.Word.{payload}
 use Rattle.words.proofs.bound_in.Goals as goal
 

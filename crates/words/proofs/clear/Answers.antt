@@ -1,9 +1,8 @@
 -- After i turns the first i words are 0 and the others are as they were.
-use Prim.Native.Nat.{◌≤◌, ◌-◌}
 use native.Mathlib.Omega.{arith}
 use mathlib.Core.Path.{◌≡◌, refl, ◌∙◌}
-use mathlib.Core.List.{◌++◌, append-nil}
-use lib.ListN.{length, length-set, drop, replicate}
+use mathlib.Core.List.{append-nil}
+use lib.ListN.{length, length-set}
 use lib.Seq.{drop-length}
 use borrow.Author.Fill.{fill_none, fill_more}
 use Rattle.words.proofs.clear.Goals as goal

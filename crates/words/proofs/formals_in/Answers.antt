@@ -1,7 +1,6 @@
 -- The eight bits from bit 14 of the payload on.
 use native.Mathlib.Omega.{arith}
 use Rattle.words.specs.Word.{payload}
-use borrow.Author.Rules.{rules}
 use Rattle.words.proofs.formals_in.Goals as goal
 
 pub returns : goal.returns

@@ -1,7 +1,6 @@
 -- The rest by 2^32 is the low half.
 use native.Mathlib.Omega.{arith}
 use Rattle.words.specs.Word.{low}
-use borrow.Author.Rules.{rules}
 use Rattle.words.proofs.low_of.Goals as goal
 
 pub returns : goal.returns

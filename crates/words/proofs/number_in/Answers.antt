@@ -1,7 +1,6 @@
 -- The six bits from bit 8 of the payload on.
 use native.Mathlib.Omega.{arith}
 use Rattle.words.specs.Word.{payload}
-use borrow.Author.Rules.{rules}
 use Rattle.words.proofs.number_in.Goals as goal
 
 pub returns : goal.returns

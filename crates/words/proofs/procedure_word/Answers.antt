@@ -1,7 +1,6 @@
 -- The sum is the word packed from tag 6, the GN's size, the counts and the place.
 use native.Mathlib.Omega.{arith}
 use Rattle.words.specs.Word.{pack}
-use borrow.Author.Rules.{rules}
 use Rattle.words.proofs.procedure_word.Goals as goal
 
 pub returns : goal.returns

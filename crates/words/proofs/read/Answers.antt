@@ -1,7 +1,6 @@
 -- Past the end `get_or` gives its default.
 use lib.ListN.{get_or-eq_default}
 use mathlib.Core.Path.{sym}
-use borrow.Author.Rules.{rules}
 use Rattle.words.proofs.read.Goals as goal
 
 pub returns-else-i-b : goal.returns-else-i-b

@@ -4,7 +4,6 @@ use native.Mathlib.Omega.{arith}
 use mathlib.Core.Path.{◌≡◌}
 use Rattle.words.specs.Word.{pack}
 use Rattle.words.proofs.Laws.{record_packed}
-use borrow.Author.Rules.{rules}
 use Rattle.words.proofs.record_word.Goals as goal
 
 pub returns : goal.returns

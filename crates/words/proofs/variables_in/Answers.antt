@@ -1,7 +1,6 @@
 -- The low eight bits of the payload.
 use native.Mathlib.Omega.{arith}
 use Rattle.words.specs.Word.{payload}
-use borrow.Author.Rules.{rules}
 use Rattle.words.proofs.variables_in.Goals as goal
 
 pub returns : goal.returns

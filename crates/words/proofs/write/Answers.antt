@@ -1,7 +1,6 @@
 -- Past the end `set` changes nothing.
 use lib.Seq.{set_out}
 use mathlib.Core.Path.{sym}
-use borrow.Author.Rules.{rules}
 use Rattle.words.proofs.write.Goals as goal
 
 pub returns-else-i-b : goal.returns-else-i-b

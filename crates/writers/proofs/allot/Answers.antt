@@ -5,7 +5,6 @@ use lib.ListN.{length, length-set}
 use Rattle.writers.specs.Steps.{onward}
 use Rattle.writers.proofs.Effects.{length_laid, allots}
 use native.Mathlib.Omega.{arith}
-use borrow.Author.Rules.{rules}
 use Rattle.writers.proofs.allot.Goals as goal
 
 pub slice_bounds-clear-end : goal.slice_bounds-clear-end

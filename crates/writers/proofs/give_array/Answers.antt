@@ -6,7 +6,6 @@ use Rattle.sheet.specs.Meaning.{qual_of}
 use Rattle.writers.proofs.Effects.{does_array, does_stop, does_halt}
 use Rattle.writers.proofs.Planned.{array_plain, array_full, array_halt}
 use native.Mathlib.Omega.{arith}
-use borrow.Author.Rules.{rules}
 use Rattle.writers.proofs.give_array.Goals as goal
 
 pub returns-then-x-r : goal.returns-then-x-r

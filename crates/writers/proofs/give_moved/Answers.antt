@@ -3,7 +3,6 @@ use Rattle.sheet.specs.Meaning.{qual_of}
 use Rattle.words.specs.Word.{slot_in}
 use Rattle.words.specs.Answers.{moved_to}
 use Rattle.writers.proofs.Effects.{puts, does_write, does_halt}
-use borrow.Author.Rules.{rules}
 use Rattle.writers.proofs.give_moved.Goals as goal
 
 pub returns-in-To : goal.returns-in-To

@@ -5,7 +5,6 @@ use Rattle.sheet.specs.Meaning.{qual_of}
 use Rattle.words.specs.Word.{slot_in}
 use Rattle.words.specs.Answers.{given}
 use Rattle.writers.proofs.Effects.{puts, does_write, does_halt}
-use borrow.Author.Rules.{rules}
 use Rattle.writers.proofs.give_number.Goals as goal
 
 pub returns-in-Is : goal.returns-in-Is

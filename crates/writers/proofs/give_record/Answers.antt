@@ -6,7 +6,6 @@ use Rattle.sheet.specs.Meaning.{qual_of}
 use Rattle.writers.proofs.Effects.{does_record, does_stop}
 use Rattle.writers.proofs.Planned.{record_plain, record_full}
 use native.Mathlib.Omega.{arith}
-use borrow.Author.Rules.{rules}
 use Rattle.writers.proofs.give_record.Goals as goal
 
 pub returns-then-n-r : goal.returns-then-n-r

@@ -1,7 +1,6 @@
 -- The words are as they were; the next instruction is k for zero and the following one for any other integer.
 use Rattle.writers.proofs.Effects.{does_jump, does_skip, does_halt}
 use Rattle.writers.proofs.Planned.{jumped_zero, jumped_other, jumped_halt}
-use borrow.Author.Rules.{rules}
 use Rattle.writers.proofs.jump.Goals as goal
 
 pub returns-then-x-eq0 : goal.returns-then-x-eq0

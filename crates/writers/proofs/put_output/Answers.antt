@@ -2,7 +2,6 @@
 use Rattle.model.specs.Outcome.{output_full}
 use Rattle.writers.proofs.Effects.{does_put, does_stop, does_halt}
 use Rattle.writers.proofs.Planned.{put_there, put_full, put_halt}
-use borrow.Author.Rules.{rules}
 use Rattle.writers.proofs.put_output.Goals as goal
 
 pub returns-then-at-output : goal.returns-then-at-output

@@ -1,11 +1,10 @@
 -- The part that is lent has as many words as the frame has variables, and the variable is one of them.
-use Prim.Native.Nat.{◌+◌, ◌-◌, ◌≤◌}
+use Prim.Native.Nat.{◌-◌, ◌≤◌}
 use mathlib.Core.Path.{◌≡◌}
 use native.Mathlib.Omega.{arith}
 use borrow.Rule.Slice.PartMut.{set_mid_at}
 use lib.ListN.{length, take, drop, length-drop}
 use lib.Seq.{length-take-le}
-use borrow.Author.Rules.{rules}
 use Rattle.writers.specs.Memory.{variables_in}
 use Rattle.writers.proofs.put_variable.Goals as goal
 

@@ -8,7 +8,6 @@ use Rattle.sheet.specs.Meaning.{qual_of}
 use Rattle.words.specs.Answers.{stored}
 use Rattle.writers.proofs.Effects.{does_store, does_halt}
 use native.Mathlib.Omega.{arith}
-use borrow.Author.Rules.{rules}
 use Rattle.writers.proofs.store_cell.Goals as goal
 
 pub slice_bounds-write-end-in-At : goal.slice_bounds-write-end-in-At

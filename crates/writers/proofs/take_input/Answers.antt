@@ -6,7 +6,6 @@ use Rattle.sheet.specs.Meaning.{qual_of}
 use Rattle.words.specs.Word.{slot_in}
 use Rattle.writers.proofs.Effects.{puts, does_take, does_stop}
 use Rattle.writers.proofs.Planned.{take_there, take_ended}
-use borrow.Author.Rules.{rules}
 use Rattle.writers.proofs.take_input.Goals as goal
 
 pub returns-then-at-input : goal.returns-then-at-input

@@ -1,5 +1,4 @@
 -- The first of the three passes that refuses is the verdict, else the last one is.
-use borrow.Author.Rules.{rules}
 use Rattle.model.specs.Rules.{access_rules}
 use Rattle.sheet.specs.Layout.{types_of, quals_of, procedures_of}
 use Rattle.model.proofs.Verdicts.{stop_here, go_on}

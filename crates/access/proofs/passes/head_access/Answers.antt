@@ -1,5 +1,4 @@
 -- The one test of the PR, at the procedure's place.
-use borrow.Author.Rules.{rules}
 use Rattle.model.specs.Refusal.{verdict, failure}
 use Rattle.model.specs.Rules.{head_rules}
 use Rattle.access.proofs.passes.head_access.Goals as goal

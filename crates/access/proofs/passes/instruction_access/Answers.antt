@@ -2,7 +2,6 @@
 use Rattle.model.specs.Refusal.{verdict}
 use Rattle.model.specs.Rules.{instruction_rules}
 use Rattle.sheet.specs.Decode.{instruction_in}
-use borrow.Author.Rules.{rules}
 use Rattle.access.proofs.passes.instruction_access.Goals as goal
 
 pub instruction_number-requires : goal.instruction_number-requires

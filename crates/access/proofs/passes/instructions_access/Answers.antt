@@ -1,11 +1,7 @@
 -- The loop over the IN records of a procedure: what is left to say is the verdict from the present record on. The bound is the word read.
-use Prim.Native.Nat.{◌-◌}
 use native.Mathlib.Omega.{arith}
-use borrow.Author.Rules.{rules}
-use Rattle.model.specs.Rules.{instruction_rules}
-use Rattle.model.proofs.Verdicts.{Passing, pass_start, pass_next, pass_stop, pass_end}
+use Rattle.model.proofs.Verdicts.{pass_start, pass_next, pass_stop, pass_end}
 use Rattle.sheet.specs.Layout.{instructions_at}
-use Rattle.sheet.specs.Meaning.{program_of, place_of}
 use Rattle.access.specs.Inner.Callees.{CalleesAt}
 use Rattle.access.proofs.Places.{instruction_place}
 use Rattle.access.proofs.passes.instructions_access.Goals as goal

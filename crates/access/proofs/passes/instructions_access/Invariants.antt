@@ -1,12 +1,7 @@
 use Prim.Native.Nat.{◌-◌}
-use native.Mathlib.Omega.{arith}
-use borrow.Author.Rules.{rules}
 use Rattle.model.specs.Rules.{instruction_rules}
-use Rattle.model.proofs.Verdicts.{Passing, pass_start, pass_next, pass_stop, pass_end}
-use Rattle.sheet.specs.Layout.{instructions_at}
+use Rattle.model.proofs.Verdicts.{Passing}
 use Rattle.sheet.specs.Meaning.{program_of, place_of}
-use Rattle.access.specs.Inner.Callees.{CalleesAt}
-use Rattle.access.proofs.Places.{instruction_place}
 use Rattle.access.proofs.passes.instructions_access.Given as goal
 
 abbrev pub invariant-loop-i : goal.invariant-loop-i

@@ -1,7 +1,6 @@
 -- The first of the three passes that refuses is the verdict, else the last one is.
 use Rattle.model.specs.Rules.{procedure_rules}
 use Rattle.model.proofs.Verdicts.{stop_here, go_on}
-use borrow.Author.Rules.{rules}
 use Rattle.access.proofs.passes.procedure_access.Goals as goal
 
 pub head_access-head-requires : goal.head_access-head-requires

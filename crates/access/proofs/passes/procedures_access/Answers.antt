@@ -1,11 +1,8 @@
 -- The loop over the procedures: what is left to say is the verdict from the present one on. The index gives the scope of each.
-use Prim.Native.Nat.{◌-◌, ◌<◌}
+use Prim.Native.Nat.{◌<◌}
 use native.Mathlib.Omega.{arith}
-use borrow.Author.Rules.{rules}
-use Rattle.model.specs.Rules.{procedure_rules}
-use Rattle.model.proofs.Verdicts.{Passing, pass_start, pass_next, pass_stop, pass_end}
+use Rattle.model.proofs.Verdicts.{pass_start, pass_next, pass_stop, pass_end}
 use Rattle.sheet.specs.Layout.{procedures_of}
-use Rattle.sheet.specs.Meaning.{program_of, place_of}
 use Rattle.index.proofs.Reading.{placed_word}
 use Rattle.access.proofs.passes.procedures_access.Goals as goal
 

@@ -1,11 +1,7 @@
-use Prim.Native.Nat.{◌-◌, ◌<◌}
-use native.Mathlib.Omega.{arith}
-use borrow.Author.Rules.{rules}
+use Prim.Native.Nat.{◌-◌}
 use Rattle.model.specs.Rules.{procedure_rules}
-use Rattle.model.proofs.Verdicts.{Passing, pass_start, pass_next, pass_stop, pass_end}
-use Rattle.sheet.specs.Layout.{procedures_of}
+use Rattle.model.proofs.Verdicts.{Passing}
 use Rattle.sheet.specs.Meaning.{program_of, place_of}
-use Rattle.index.proofs.Reading.{placed_word}
 use Rattle.access.proofs.passes.procedures_access.Given as goal
 
 abbrev pub invariant-loop-p : goal.invariant-loop-p

@@ -1,5 +1,4 @@
 -- The record's number and place are those that the calls ensure.
-use borrow.Author.Rules.{rules}
 use Rattle.model.specs.Refusal.{verdict}
 use Rattle.model.specs.Rules.{qual_rules}
 use Rattle.access.proofs.passes.qual_access.Goals as goal

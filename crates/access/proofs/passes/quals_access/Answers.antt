@@ -1,10 +1,5 @@
 -- The loop over the QT records: what is left to say is the verdict from the present record on.
-use Prim.Native.Nat.{◌-◌}
-use native.Mathlib.Omega.{arith}
-use borrow.Author.Rules.{rules}
-use Rattle.model.specs.Rules.{qual_rules}
-use Rattle.model.proofs.Verdicts.{Passing, pass_start, pass_next, pass_stop, pass_end}
-use Rattle.sheet.specs.Meaning.{program_of, place_of}
+use Rattle.model.proofs.Verdicts.{pass_start, pass_next, pass_stop, pass_end}
 use Rattle.access.proofs.passes.quals_access.Goals as goal
 
 pub loop-j-init : goal.loop-j-init

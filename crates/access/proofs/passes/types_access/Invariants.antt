@@ -1,8 +1,6 @@
 use Prim.Native.Nat.{◌-◌}
-use native.Mathlib.Omega.{arith}
-use borrow.Author.Rules.{rules}
 use Rattle.model.specs.Rules.{type_rules}
-use Rattle.model.proofs.Verdicts.{Passing, pass_start, pass_next, pass_stop, pass_end}
+use Rattle.model.proofs.Verdicts.{Passing}
 use Rattle.sheet.specs.Meaning.{program_of, place_of}
 use Rattle.access.proofs.passes.types_access.Given as goal
 

@@ -1,5 +1,4 @@
 -- The record's number and place are those that the calls ensure, at the procedure's place.
-use borrow.Author.Rules.{rules}
 use Rattle.model.specs.Refusal.{verdict}
 use Rattle.model.specs.Rules.{variable_rule, variable_rules}
 use Rattle.access.proofs.passes.variable_access.Goals as goal

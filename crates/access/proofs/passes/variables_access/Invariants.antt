@@ -1,9 +1,6 @@
 use Prim.Native.Nat.{◌-◌}
-use native.Mathlib.Omega.{arith}
-use borrow.Author.Rules.{rules}
 use Rattle.model.specs.Rules.{variable_rules}
-use Rattle.model.proofs.Verdicts.{Passing, pass_start, pass_next, pass_stop, pass_end}
-use Rattle.sheet.specs.Layout.{variables_field}
+use Rattle.model.proofs.Verdicts.{Passing}
 use Rattle.sheet.specs.Meaning.{program_of, place_of}
 use Rattle.access.proofs.passes.variables_access.Given as goal
 

@@ -4,7 +4,7 @@ use mir.Syntax.{w32}
 use mir.Val.{to_z, of_z}
 use mir.Facts.{to_z-of_z}
 use borrow.Author.Tests.{ne_eqb}
-use Rattle.checker.specs.declared.calls.Answer.TheVariants.{Wait, Failed}
+use Rattle.checker.specs.declared.calls.Answer.TheVariants.{Failed}
 use Rattle.checker.specs.Calls.{failed}
 use Rattle.checker.proofs.calls.failed.Goals as goal
 

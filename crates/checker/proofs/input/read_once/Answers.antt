@@ -3,10 +3,9 @@ use mathlib.Core.Path.{◌≡◌, sym, subst}
 use Prim.Native.Nat.{ℕ, ◌+◌, ◌-◌, ◌≤◌}
 use mathlib.Core.List.{List}
 use lib.ListN.{length, drop, length-drop, length-take}
-use borrow.Rule.Slice.PartMut.{mid_of, take_put}
-use Rattle.checker.specs.declared.calls.Answer.{Answer}
+use borrow.Rule.Slice.PartMut.{mid_of}
 use Rattle.checker.specs.declared.input.Input.{Input}
-use Rattle.checker.specs.Input.{Room, Held}
+use Rattle.checker.specs.Input.{Held}
 use Rattle.checker.proofs.Room.{room, held}
 use Rattle.checker.proofs.input.read_once.Goals as goal
 

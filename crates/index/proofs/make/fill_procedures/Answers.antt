@@ -1,10 +1,10 @@
 -- `at` stays at procedure i's place, which is small; the words of the procedures below i are filled, and none before them has changed.
-use Prim.Native.Nat.{ℕ, ◌+◌, ◌*◌, ◌-◌, ◌^◌, ◌<◌, ◌≤◌}
+use Prim.Native.Nat.{◌+◌, ◌^◌, ◌<◌}
 use lib.Seq.{get_or-set_other}
 use borrow.Author.Tests.{lt-ltb}
 use mathlib.Core.Path.{◌≡◌, refl, ap, ◌∙◌}
 use mathlib.Core.Logic.{⊎_elim}
-use lib.ListN.{length, get_or, length-set}
+use lib.ListN.{length-set}
 use Rattle.sheet.specs.Layout.{procedures_of, procedure_at, quals_of}
 use Rattle.sheet.proofs.Laws.{both_below, one_passed}
 use Rattle.index.specs.Indexed.{ProcedureWord}
@@ -12,7 +12,6 @@ use Rattle.index.specs.Procedures.{place_of, procedure_in}
 use Rattle.index.proofs.Filling.{filled_more, other_kept, end_place}
 use native.Mathlib.Omega.{arith}
 use native.Mathlib.Numerals.{add-one}
-use borrow.Author.Rules.{rules}
 use Rattle.index.proofs.make.fill_procedures.Goals as goal
 
 pub loop-i-init : goal.loop-i-init

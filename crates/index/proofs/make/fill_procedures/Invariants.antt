@@ -1,17 +1,8 @@
-use Prim.Native.Nat.{ℕ, ◌+◌, ◌*◌, ◌-◌, ◌^◌, ◌<◌, ◌≤◌}
-use lib.Seq.{get_or-set_other}
-use borrow.Author.Tests.{lt-ltb}
-use mathlib.Core.Path.{◌≡◌, refl, ap, ◌∙◌}
-use mathlib.Core.Logic.{⊎_elim}
-use lib.ListN.{length, get_or, length-set}
-use Rattle.sheet.specs.Layout.{procedures_of, procedure_at, quals_of}
-use Rattle.sheet.proofs.Laws.{both_below, one_passed}
+use Prim.Native.Nat.{ℕ, ◌+◌, ◌*◌, ◌-◌, ◌<◌, ◌≤◌}
+use mathlib.Core.Path.{◌≡◌}
+use lib.ListN.{length, get_or}
+use Rattle.sheet.specs.Layout.{procedure_at}
 use Rattle.index.specs.Indexed.{ProcedureWord}
-use Rattle.index.specs.Procedures.{place_of, procedure_in}
-use Rattle.index.proofs.Filling.{filled_more, other_kept, end_place}
-use native.Mathlib.Omega.{arith}
-use native.Mathlib.Numerals.{add-one}
-use borrow.Author.Rules.{rules}
 use Rattle.index.proofs.make.fill_procedures.Given as goal
 
 abbrev pub invariant-loop-i : goal.invariant-loop-i

@@ -1,8 +1,7 @@
 -- The words of the types below j are filled, and no word from j on has changed.
-use Prim.Native.Nat.{ℕ, ◌-◌, ◌<◌, ◌≤◌}
-use mathlib.Core.Path.{◌≡◌, refl, sym, ◌∙◌}
+use mathlib.Core.Path.{refl, sym, ◌∙◌}
 use mathlib.Core.Logic.{⊎_elim}
-use lib.ListN.{length, get_or, set, length-set}
+use lib.ListN.{set, length-set}
 use Rattle.sheet.specs.Layout.{quals_of}
 use Rattle.sheet.proofs.Laws.{both_below, one_passed}
 use Rattle.index.specs.Types.{UseTold}
@@ -10,7 +9,6 @@ use Rattle.index.specs.Indexed.{TypeWord}
 use Rattle.index.proofs.Filling.{filled_more, other_kept}
 use Rattle.index.proofs.Uses.{told_kept}
 use native.Mathlib.Omega.{arith}
-use borrow.Author.Rules.{rules}
 use Rattle.index.proofs.make.fill_types.Goals as goal
 
 pub loop-j-init : goal.loop-j-init

@@ -1,15 +1,8 @@
 use Prim.Native.Nat.{ℕ, ◌-◌, ◌<◌, ◌≤◌}
-use mathlib.Core.Path.{◌≡◌, refl, sym, ◌∙◌}
-use mathlib.Core.Logic.{⊎_elim}
-use lib.ListN.{length, get_or, set, length-set}
-use Rattle.sheet.specs.Layout.{quals_of}
-use Rattle.sheet.proofs.Laws.{both_below, one_passed}
+use mathlib.Core.Path.{◌≡◌}
+use lib.ListN.{length, get_or}
 use Rattle.index.specs.Types.{UseTold}
 use Rattle.index.specs.Indexed.{TypeWord}
-use Rattle.index.proofs.Filling.{filled_more, other_kept}
-use Rattle.index.proofs.Uses.{told_kept}
-use native.Mathlib.Omega.{arith}
-use borrow.Author.Rules.{rules}
 use Rattle.index.proofs.make.fill_types.Given as goal
 
 abbrev pub invariant-loop-j : goal.invariant-loop-j

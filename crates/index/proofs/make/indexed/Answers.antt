@@ -2,7 +2,6 @@
 use mathlib.Core.Path.{◌∙◌}
 use Rattle.index.proofs.Filling.{zeros}
 use Rattle.index.proofs.Uses.{told_same}
-use borrow.Author.Rules.{rules}
 use Rattle.index.proofs.make.indexed.Goals as goal
 
 pub returns : goal.returns

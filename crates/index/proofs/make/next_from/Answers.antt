@@ -3,7 +3,6 @@ use mathlib.Core.Path.{◌∙◌}
 use native.Mathlib.Omega.{arith}
 use Rattle.sheet.specs.Layout.{variables_field, instructions_at}
 use Rattle.sheet.proofs.Laws.{procedure_next}
-use borrow.Author.Rules.{rules}
 use Rattle.index.proofs.make.next_from.Goals as goal
 
 pub returns : goal.returns

@@ -3,7 +3,6 @@ use mathlib.Core.Path.{ap, ◌∙◌}
 use Rattle.sheet.specs.Layout.{formals_at, variables_field, bound_size, start_at, instruction_at}
 use Rattle.index.proofs.Filling.{entry}
 use native.Mathlib.Omega.{arith}
-use borrow.Author.Rules.{rules}
 use Rattle.index.proofs.make.procedure_entry.Goals as goal
 
 pub returns : goal.returns

@@ -1,6 +1,5 @@
 -- 255 is told from the other bytes.
 use borrow.Author.Tests.{ne_eqb}
-use borrow.Author.Rules.{rules}
 use Rattle.index.proofs.make.shape_and_rights.Goals as goal
 
 pub returns-then-base-eq255 : goal.returns-then-base-eq255

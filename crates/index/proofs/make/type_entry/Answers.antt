@@ -2,7 +2,6 @@
 use mathlib.Core.Path.{sym, ◌∙◌}
 use Rattle.index.proofs.Filling.{with_use, without_use}
 use native.Mathlib.Omega.{arith}
-use borrow.Author.Rules.{rules}
 use Rattle.index.proofs.make.type_entry.Goals as goal
 
 pub overflow_add-result : goal.overflow_add-result

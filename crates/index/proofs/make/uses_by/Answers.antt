@@ -1,6 +1,5 @@
 -- The shape tells an array from the others.
 use borrow.Author.Tests.{eq-eqb, ne_eqb}
-use borrow.Author.Rules.{rules}
 use Rattle.index.proofs.make.uses_by.Goals as goal
 
 pub returns-then-shape-eq1 : goal.returns-then-shape-eq1

@@ -2,7 +2,6 @@
 use mathlib.Core.Path.{sym, ap, ◌∙◌}
 use Rattle.sheet.specs.Layout.{is_bounded}
 use Rattle.index.proofs.Bounds.{base_some, base_none}
-use borrow.Author.Rules.{rules}
 use Rattle.index.proofs.procedures.base_in.Goals as goal
 
 pub returns-then-is_bounded_in : goal.returns-then-is_bounded_in

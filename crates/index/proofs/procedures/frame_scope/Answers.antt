@@ -2,7 +2,6 @@
 use mathlib.Core.Path.{ap, ◌∙◌}
 use Rattle.model.specs.Generic.{bound_base, instance}
 use Rattle.sheet.specs.Meaning.{bound_in_sheet}
-use borrow.Author.Rules.{rules}
 use Rattle.index.proofs.procedures.frame_scope.Goals as goal
 
 pub returns : goal.returns

@@ -1,6 +1,5 @@
 -- The size that the word has is that of the procedure's GN.
 use Rattle.index.proofs.Bounds.{bounded}
-use borrow.Author.Rules.{rules}
 use Rattle.index.proofs.procedures.is_bounded_in.Goals as goal
 
 pub returns : goal.returns

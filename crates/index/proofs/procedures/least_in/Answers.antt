@@ -2,7 +2,6 @@
 use mathlib.Core.Path.{sym, ap, ◌∙◌}
 use Rattle.sheet.specs.Layout.{is_bounded}
 use Rattle.index.proofs.Bounds.{bound_rights, least_some, least_none}
-use borrow.Author.Rules.{rules}
 use Rattle.index.proofs.procedures.least_in.Goals as goal
 
 pub returns-then-is_bounded_in : goal.returns-then-is_bounded_in

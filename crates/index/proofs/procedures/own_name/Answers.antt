@@ -1,7 +1,6 @@
 -- The parts of the sum do not overlap.
 use native.Mathlib.Omega.{arith}
 use Rattle.index.proofs.Bounds.{own_named}
-use borrow.Author.Rules.{rules}
 use Rattle.index.proofs.procedures.own_name.Goals as goal
 
 pub returns : goal.returns

@@ -1,5 +1,4 @@
 -- What the two callees ensure, one after the other.
-use borrow.Author.Rules.{rules}
 use Rattle.index.proofs.procedures.place_of.Goals as goal
 
 pub returns : goal.returns

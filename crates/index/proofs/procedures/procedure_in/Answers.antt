@@ -1,7 +1,6 @@
 -- The test is the definition's.
 use Rattle.index.specs.Procedures.{procedure_in}
 use borrow.Author.Tests.{lt-ltb, le-ltb}
-use borrow.Author.Rules.{rules}
 use Rattle.index.proofs.procedures.procedure_in.Goals as goal
 
 pub returns-then-p-lt65 : goal.returns-then-p-lt65

@@ -1,7 +1,6 @@
 -- Where the first instruction stands nearer to the start than the VRs are long, the difference is 0.
 use native.Mathlib.Omega.{arith}
 use Rattle.index.specs.Procedures.{start_of}
-use borrow.Author.Rules.{rules}
 use Rattle.index.proofs.procedures.start_in.Goals as goal
 
 pub returns-then-first-variables : goal.returns-then-first-variables

@@ -2,7 +2,6 @@
 use mathlib.Core.Path.{sym}
 use Rattle.index.specs.Types.{element_below}
 use borrow.Author.Tests.{lt-ltb, le-ltb}
-use borrow.Author.Rules.{rules}
 use Rattle.index.proofs.types.element_in.Goals as goal
 
 pub returns-then-e-j : goal.returns-then-e-j

@@ -1,7 +1,6 @@
 -- The quotient is the definition's.
 use Rattle.index.specs.Types.{element_of}
 use mathlib.Core.Path.{refl}
-use borrow.Author.Rules.{rules}
 use Rattle.index.proofs.types.element_number.Goals as goal
 
 pub returns : goal.returns

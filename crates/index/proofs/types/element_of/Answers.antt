@@ -1,7 +1,6 @@
 -- An array's word says its element; 255 stands for that of any other type.
 use mathlib.Core.Path.{sym, ◌∙◌}
 use Rattle.index.proofs.Trees.{element_said, element_unsaid}
-use borrow.Author.Rules.{rules}
 use Rattle.index.proofs.types.element_of.Goals as goal
 
 pub returns-then-shape_in-eq1 : goal.returns-then-shape_in-eq1

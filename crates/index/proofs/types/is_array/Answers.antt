@@ -1,7 +1,6 @@
 -- The shape tells an array from the others.
 use mathlib.Core.Path.{sym}
 use Rattle.index.proofs.Trees.{array_qual}
-use borrow.Author.Rules.{rules}
 use Rattle.index.proofs.types.is_array.Goals as goal
 
 pub returns : goal.returns

@@ -1,7 +1,6 @@
 -- The shape tells ?R from the others.
 use mathlib.Core.Path.{sym}
 use Rattle.index.proofs.Reading.{generic_as}
-use borrow.Author.Rules.{rules}
 use Rattle.index.proofs.types.is_generic.Goals as goal
 
 pub returns : goal.returns

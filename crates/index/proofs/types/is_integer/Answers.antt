@@ -1,7 +1,6 @@
 -- The shape tells an integer from the others.
 use mathlib.Core.Path.{sym}
 use Rattle.index.proofs.Trees.{integer_qual}
-use borrow.Author.Rules.{rules}
 use Rattle.index.proofs.types.is_integer.Goals as goal
 
 pub returns : goal.returns

@@ -2,7 +2,6 @@
 use native.Mathlib.Omega.{arith}
 use mathlib.Core.Path.{sym}
 use Rattle.index.proofs.Reading.{base_named}
-use borrow.Author.Rules.{rules}
 use Rattle.index.proofs.types.name_base.Goals as goal
 
 pub returns : goal.returns

@@ -1,7 +1,6 @@
 -- The sum is the definition's.
 use mathlib.Core.Path.{refl}
 use Rattle.index.specs.Types.{name_type, rights_of}
-use borrow.Author.Rules.{rules}
 use Rattle.index.proofs.types.name_type.Goals as goal
 
 pub returns : goal.returns

@@ -1,7 +1,6 @@
 -- An integer has no rights; of any other type they stand in its word.
 use mathlib.Core.Path.{sym, ◌∙◌}
 use borrow.Author.Tests.{ne_eqb}
-use borrow.Author.Rules.{rules}
 use Rattle.index.proofs.types.rights_by.Goals as goal
 
 pub returns-then-shape_in-eq0 : goal.returns-then-shape_in-eq0

@@ -1,7 +1,6 @@
 -- The remainder is the definition's.
 use Rattle.index.specs.Types.{rights_of}
 use mathlib.Core.Path.{refl}
-use borrow.Author.Rules.{rules}
 use Rattle.index.proofs.types.rights_in.Goals as goal
 
 pub returns : goal.returns

@@ -1,7 +1,6 @@
 -- The rights in the word are those of the tree.
 use mathlib.Core.Path.{sym}
 use Rattle.index.proofs.Trees.{rights_qual}
-use borrow.Author.Rules.{rules}
 use Rattle.index.proofs.types.rights_of.Goals as goal
 
 pub returns : goal.returns

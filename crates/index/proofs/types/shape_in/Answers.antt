@@ -1,7 +1,6 @@
 -- The quotient is the definition's.
 use Rattle.index.specs.Types.{shape_of}
 use mathlib.Core.Path.{refl}
-use borrow.Author.Rules.{rules}
 use Rattle.index.proofs.types.shape_in.Goals as goal
 
 pub returns : goal.returns

@@ -1,7 +1,6 @@
 -- The test is the definition's.
 use Rattle.index.specs.Types.{word_in}
 use borrow.Author.Tests.{lt-ltb, le-ltb}
-use borrow.Author.Rules.{rules}
 use Rattle.index.proofs.types.type_word.Goals as goal
 
 pub returns-then-j-lt64 : goal.returns-then-j-lt64

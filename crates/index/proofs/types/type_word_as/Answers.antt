@@ -1,6 +1,5 @@
 -- The word of the type, read so.
 use Rattle.index.specs.Types.{word_as}
-use borrow.Author.Rules.{rules}
 use Rattle.index.proofs.types.type_word_as.Goals as goal
 
 pub returns : goal.returns

@@ -1,6 +1,5 @@
 -- The bit of the word.
 use Rattle.index.specs.Types.{uses_of}
-use borrow.Author.Rules.{rules}
 use Rattle.index.proofs.types.uses_name.Goals as goal
 
 pub returns : goal.returns

@@ -2,7 +2,6 @@
 use mathlib.Core.Path.{sym}
 use borrow.Author.Tests.{lt-ltb, le-ltb}
 use Rattle.index.specs.Types.{read_word}
-use borrow.Author.Rules.{rules}
 use Rattle.index.proofs.types.word_read.Goals as goal
 
 pub returns-then-shape_in-lt256 : goal.returns-then-shape_in-lt256

@@ -3,7 +3,6 @@ use Rattle.model.specs.Modes.{plain}
 use Rattle.sheet.specs.Meaning.{qual_of, program_of}
 use Rattle.words.specs.Answers.{moved_to, MovedOk}
 use Rattle.frames.proofs.Performs.{cut_length, performs_if_frame}
-use borrow.Author.Rules.{rules}
 use Rattle.plain_step.proofs.arms.bind.Goals as goal
 
 pub moved_at-m-requires : goal.moved_at-m-requires

@@ -3,7 +3,6 @@ use Rattle.model.specs.Modes.{plain}
 use Rattle.sheet.specs.Meaning.{qual_of, program_of}
 use Rattle.words.specs.Answers.{moved_to, MovedOk}
 use Rattle.frames.proofs.Performs.{performs_if_seeing}
-use borrow.Author.Rules.{rules}
 use Rattle.plain_step.proofs.arms.fetch.Goals as goal
 
 pub returns : goal.returns

@@ -2,7 +2,6 @@
 use Rattle.model.specs.Modes.{plain}
 use Rattle.sheet.specs.Meaning.{qual_of, program_of}
 use Rattle.frames.proofs.Performs.{cut_length, performs_jump}
-use borrow.Author.Rules.{rules}
 use Rattle.plain_step.proofs.arms.jump_zero.Goals as goal
 
 pub integer_at-requires : goal.integer_at-requires

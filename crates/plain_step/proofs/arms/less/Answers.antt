@@ -3,7 +3,6 @@ use Rattle.model.specs.Modes.{plain}
 use Rattle.sheet.specs.Meaning.{qual_of, program_of}
 use Rattle.words.specs.Answers.{given}
 use Rattle.frames.proofs.Performs.{cut_length, performs_frame}
-use borrow.Author.Rules.{rules}
 use Rattle.plain_step.proofs.arms.less.Goals as goal
 
 pub less_of-n-requires : goal.less_of-n-requires

@@ -2,7 +2,6 @@
 use Rattle.sheet.specs.Meaning.{qual_of, program_of}
 use Rattle.plain_step.proofs.Laws.{performs_array}
 use Rattle.frames.proofs.Performs.{cut_length}
-use borrow.Author.Rules.{rules}
 use Rattle.plain_step.proofs.arms.new_array.Goals as goal
 
 pub integer_at-n-requires : goal.integer_at-n-requires

@@ -1,6 +1,5 @@
 -- The word of the running procedure has its owner, and so the slots.
 use Rattle.plain_step.proofs.Laws.{performs_record}
-use borrow.Author.Rules.{rules}
 use Rattle.plain_step.proofs.arms.new_record.Goals as goal
 
 pub returns : goal.returns

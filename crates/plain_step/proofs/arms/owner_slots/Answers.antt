@@ -1,6 +1,5 @@
 -- The owner is in the procedure's PR, its count of slots in the owner's TY.
 use Rattle.sheet.specs.Layout.{slots_of, owner_at}
-use borrow.Author.Rules.{rules}
 use Rattle.plain_step.proofs.arms.owner_slots.Goals as goal
 
 pub returns : goal.returns

@@ -5,7 +5,6 @@ use Rattle.words.specs.Answers.{given}
 use Rattle.words.specs.declared.Number.TheVariants.{Is}
 use Rattle.frames.proofs.Performs.{performs_seeing}
 use Rattle.plain_step.proofs.Laws.{exactly, sets}
-use borrow.Author.Rules.{rules}
 use Rattle.plain_step.proofs.arms.set.Goals as goal
 
 pub returns : goal.returns

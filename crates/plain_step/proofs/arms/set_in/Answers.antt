@@ -1,7 +1,6 @@
 -- The parts of the memory, as the code cuts them, are those that the view sees.
 use Rattle.model.specs.Modes.{plain}
 use Rattle.frames.proofs.Performs.{cut_length, sees_cut}
-use borrow.Author.Rules.{rules}
 use Rattle.plain_step.proofs.arms.set_in.Goals as goal
 
 pub set_at-requires : goal.set_at-requires

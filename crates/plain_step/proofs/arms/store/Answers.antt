@@ -4,7 +4,6 @@ use Rattle.sheet.specs.Meaning.{qual_of, program_of}
 use Rattle.words.specs.Answers.{stored, StoredOk}
 use Rattle.writers.specs.Memory.{object_part}
 use Rattle.frames.proofs.Performs.{performs_if_seeing}
-use borrow.Author.Rules.{rules}
 use Rattle.plain_step.proofs.arms.store.Goals as goal
 
 pub returns : goal.returns

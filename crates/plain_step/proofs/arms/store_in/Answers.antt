@@ -4,7 +4,6 @@ use lib.Seq.{length-take-le}
 use Rattle.model.specs.Modes.{plain}
 use Rattle.frames.proofs.Performs.{cut_length, sees_cut}
 use native.Mathlib.Omega.{arith}
-use borrow.Author.Rules.{rules}
 use Rattle.plain_step.proofs.arms.store_in.Goals as goal
 
 pub slice_bounds-store_at-end-2 : goal.slice_bounds-store_at-end-2

@@ -3,7 +3,6 @@ use Rattle.model.specs.Modes.{plain}
 use Rattle.sheet.specs.Meaning.{program_of}
 use Rattle.frames.proofs.Performs.{performs_take}
 use Rattle.plain_step.proofs.Laws.{exactly, takes}
-use borrow.Author.Rules.{rules}
 use Rattle.plain_step.proofs.arms.take.Goals as goal
 
 pub returns : goal.returns

@@ -1,6 +1,5 @@
 -- The operation at the place is the one matched, and its arm performs it.
 use Rattle.frames.proofs.Fetched.{fetched, fetched_named, code_whole, callable}
-use borrow.Author.Rules.{rules}
 use Rattle.plain_step.proofs.step.step.Goals as goal
 
 pub operation_whole-operation-requires : goal.operation_whole-operation-requires

@@ -1,5 +1,4 @@
 -- The procedure's number is in its word.
-use borrow.Author.Rules.{rules}
 use Rattle.run_by_frames.proofs.run.ended.Goals as goal
 
 pub returns : goal.returns

@@ -2,7 +2,6 @@
 use mathlib.Core.Path.{refl}
 use Rattle.form.proofs.WellFormed.{form_small}
 use Rattle.run_by_frames.proofs.Begin.{begins}
-use borrow.Author.Rules.{rules}
 use Rattle.run_by_frames.proofs.run.open_main.Goals as goal
 
 pub returns : goal.returns

@@ -1,14 +1,10 @@
 -- Of every run that has come to the frame's start, the registers stand for the state that it reaches in as many steps as they count; they are those of the
 -- same frame, in its scope, until a step enters another.
-use Prim.Native.Nat.{◌-◌, ◌≤◌}
-use mathlib.Core.Path.{◌≡◌, refl, sym, ap, ◌∙◌}
-use lib.ListN.{length}
+use mathlib.Core.Path.{refl, sym, ap, ◌∙◌}
 use Rattle.lent_step.specs.Counts.{turned}
-use Rattle.run_by_frames.specs.Turn.{mode_of, ScopeFor}
-use Rattle.run_by_frames.proofs.Turn.{Kept, begun_kept, kept_with, same_code, sane, ready, halts, completes, keeps_on, enters}
+use Rattle.run_by_frames.proofs.Turn.{begun_kept, same_code, sane, ready, halts, completes, keeps_on, enters}
 use Rattle.run_by_frames.proofs.Scope.{scope_stays}
 use native.Mathlib.Omega.{arith}
-use borrow.Author.Rules.{rules}
 use Rattle.run_by_frames.proofs.run.run_frame.Goals as goal
 
 pub loop-r-init : goal.loop-r-init
@@ -22,8 +18,11 @@ scope_of-p-requires c =
 pub turn-requires : goal.turn-requires
 turn-requires c =
     let l = c.loop-r.invariant in
-    record { steppable = ready _ _ _ _ c.requires.loaded _ c.requires.begun.some_run _ _ _ _ (begun_kept l.1.1.1.0 c.requires.begun) c.loop-r-test.true c.ranges.until.fits _
-          (same_code _ c.args.start _ _ l.1.1.0 c.requires.code_of); scope_for = l.1.1.1.1 }
+    record {
+      steppable = ready _ _ _ _ c.requires.loaded _ c.requires.begun.some_run _ _ _ _ (begun_kept l.1.1.1.0 c.requires.begun) c.loop-r-test.true c.ranges.until.fits _
+          (same_code _ c.args.start _ _ l.1.1.0 c.requires.code_of);
+      scope_for = l.1.1.1.1;
+    }
 
 pub overflow_add-r : goal.overflow_add-r
 overflow_add-r c = omega (arith, c.loop-r-test.true, c.ranges.until.fits)

@@ -1,12 +1,8 @@
 use Prim.Native.Nat.{◌-◌, ◌≤◌}
-use mathlib.Core.Path.{◌≡◌, refl, sym, ap, ◌∙◌}
+use mathlib.Core.Path.{◌≡◌}
 use lib.ListN.{length}
-use Rattle.lent_step.specs.Counts.{turned}
 use Rattle.run_by_frames.specs.Turn.{mode_of, ScopeFor}
-use Rattle.run_by_frames.proofs.Turn.{Kept, begun_kept, kept_with, same_code, sane, ready, halts, completes, keeps_on, enters}
-use Rattle.run_by_frames.proofs.Scope.{scope_stays}
-use native.Mathlib.Omega.{arith}
-use borrow.Author.Rules.{rules}
+use Rattle.run_by_frames.proofs.Turn.{Kept, kept_with}
 use Rattle.run_by_frames.proofs.run.run_frame.Given as goal
 
 abbrev pub invariant-loop-r : goal.invariant-loop-r

@@ -13,7 +13,6 @@ use Rattle.run_by_frames.specs.Reply.{ended}
 use Rattle.run_by_frames.specs.Turn.{mode_of, Going}
 use Rattle.run_by_frames.proofs.Turn.{no_room, starts, begins_frame, begun, rested, stopped_run}
 use native.Mathlib.Omega.{arith}
-use borrow.Author.Rules.{rules}
 use Rattle.run_by_frames.proofs.run.run_in.Goals as goal
 
 -- main's word of the index has as many variables as its PR
@@ -68,4 +67,3 @@ returns-in-End c =
     let going : Going (mode_of args.watch) (record { sheet = args.s.now; input = args.input.now; output = args.output.now }) (length start.new.memory) args.fuel start.new.memory args.output.now start.result =
     begins_frame (starts _ _ _ _ _ args.fuel loaded.formed h start.auto.memory start.ensures.steps_value (start.ensures.stands_for _ _ _) c.requires.never_stuck) in
     rw (← c.open_main-start.auto.memory) (stopped_run going _ _ _ c.run_until.ensures _ c.in-End.is)
-

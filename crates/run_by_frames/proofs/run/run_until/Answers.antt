@@ -1,11 +1,8 @@
 -- Every run that stood where the registers did stands where they do; the run of each frame takes it on, to rest or to the end.
-use Prim.Native.Nat.{◌-◌, ◌≤◌}
 use mathlib.Core.Path.{sym, ap, ◌∙◌}
-use lib.ListN.{length, drop}
-use Rattle.run_by_frames.specs.Turn.{mode_of}
-use Rattle.run_by_frames.proofs.Turn.{Kept, begun_kept, begins, enters_frame, rests, ends_run}
+use lib.ListN.{drop}
+use Rattle.run_by_frames.proofs.Turn.{begun_kept, begins, enters_frame, rests, ends_run}
 use native.Mathlib.Omega.{arith}
-use borrow.Author.Rules.{rules}
 use Rattle.run_by_frames.proofs.run.run_until.Goals as goal
 
 pub loop-q-init : goal.loop-q-init

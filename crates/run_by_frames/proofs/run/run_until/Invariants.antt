@@ -1,10 +1,7 @@
 use Prim.Native.Nat.{◌-◌, ◌≤◌}
-use mathlib.Core.Path.{sym, ap, ◌∙◌}
-use lib.ListN.{length, drop}
+use lib.ListN.{length}
 use Rattle.run_by_frames.specs.Turn.{mode_of}
-use Rattle.run_by_frames.proofs.Turn.{Kept, begun_kept, begins, enters_frame, rests, ends_run}
-use native.Mathlib.Omega.{arith}
-use borrow.Author.Rules.{rules}
+use Rattle.run_by_frames.proofs.Turn.{Kept}
 use Rattle.run_by_frames.proofs.run.run_until.Given as goal
 
 abbrev pub invariant-loop-q : goal.invariant-loop-q

@@ -1,6 +1,5 @@
 -- The word of the running procedure and the frame's set make its scope.
 use native.Mathlib.Omega.{arith}
-use borrow.Author.Rules.{rules}
 use Rattle.watched_calls.proofs.Laws.{scope_here}
 use Rattle.run_by_frames.proofs.run.scope_of.Goals as goal
 

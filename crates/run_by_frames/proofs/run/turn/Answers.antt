@@ -1,7 +1,6 @@
 -- The flag tells whose step it is.
 use mathlib.Core.Path.{refl}
 use Rattle.lent_step.proofs.Laws.{turned_again}
-use borrow.Author.Rules.{rules}
 use Rattle.run_by_frames.proofs.run.turn.Goals as goal
 
 pub guarded_step-requires : goal.guarded_step-requires

@@ -3,7 +3,6 @@ use Prim.Native.Nat.{◌+◌, ◌≤◌}
 use mathlib.Core.Path.{refl, sym}
 use native.Mathlib.Omega.{arith}
 use lib.ListN.{get_or-eq_default, length}
-use borrow.Author.Rules.{rules}
 use Rattle.sheet.specs.Bytes.{byte_at}
 use Rattle.sheet.proofs.bytes.byte.Goals as goal
 

@@ -1,5 +1,4 @@
 -- The two tests are those of the definition, on the bytes that `byte` ensures.
-use borrow.Author.Rules.{rules}
 use Rattle.sheet.specs.Bytes.{marked_at}
 use Rattle.sheet.proofs.bytes.marked.Goals as goal
 

@@ -1,5 +1,4 @@
 -- The two bytes are those that `byte` ensures.
-use borrow.Author.Rules.{rules}
 use Rattle.sheet.proofs.Laws.{word_bytes}
 use Rattle.sheet.proofs.bytes.word.Goals as goal
 

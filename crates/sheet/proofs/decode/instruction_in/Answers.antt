@@ -1,5 +1,4 @@
 -- The operation is that which `operation_at` ensures.
-use borrow.Author.Rules.{rules}
 use Rattle.sheet.specs.Decode.{instruction_in}
 use Rattle.sheet.proofs.decode.instruction_in.Goals as goal
 

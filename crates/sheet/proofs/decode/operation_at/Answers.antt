@@ -1,5 +1,4 @@
 -- The operands are the bytes and the word that the calls ensure.
-use borrow.Author.Rules.{rules}
 use Rattle.sheet.specs.Layout.{code_at, k_at}
 use Rattle.sheet.specs.Decode.{operation_at}
 use Rattle.sheet.proofs.decode.operation_at.Goals as goal

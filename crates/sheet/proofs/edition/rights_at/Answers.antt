@@ -1,7 +1,6 @@
 -- The two words that the definition reads as one number, or the first of them alone.
 use mathlib.Core.Path.{◌∙◌}
 use Rattle.sheet.proofs.Laws.{word_bytes, rights_wide, rights_narrow}
-use borrow.Author.Rules.{rules}
 use Rattle.sheet.proofs.edition.rights_at.Goals as goal
 
 pub returns-then-size-eq4 : goal.returns-then-size-eq4

@@ -2,7 +2,6 @@
 use Rattle.sheet.specs.Bytes.{byte_at}
 use Rattle.sheet.specs.Layout.{code_at}
 use Rattle.sheet.specs.Layout.{k_at}
-use borrow.Author.Rules.{rules}
 use Rattle.sheet.proofs.fetch.fields_whole.Goals as goal
 
 pub returns : goal.returns

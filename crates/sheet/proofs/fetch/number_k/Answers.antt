@@ -1,7 +1,6 @@
 -- Two bytes of the sheet, low first; each is below 256.
 use Prim.Native.Nat.{◌+◌}
 use native.Mathlib.Omega.{arith}
-use borrow.Author.Rules.{rules}
 use Rattle.sheet.specs.Bytes.{byte_at}
 use Rattle.sheet.specs.Layout.{k_at}
 use Rattle.sheet.proofs.Laws.{word_bytes}

@@ -1,7 +1,6 @@
 -- Each arm is the line of its code; in the last the line is that of 17, or there is none.
 use mathlib.Core.Path.{◌≡◌, refl}
 use Rattle.model.specs.declared.Operation.TheVariants.{Return}
-use borrow.Author.Rules.{rules}
 use Rattle.sheet.specs.Bytes.{byte_at}
 use Rattle.sheet.specs.Layout.{code_at}
 use Rattle.sheet.specs.Instructions.{table, line_in}

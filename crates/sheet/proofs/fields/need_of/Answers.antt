@@ -1,5 +1,4 @@
 -- The byte that is read is the field of the definition.
-use borrow.Author.Rules.{rules}
 use Rattle.sheet.proofs.Laws.{need_field}
 use Rattle.sheet.proofs.fields.need_of.Goals as goal
 

@@ -1,5 +1,4 @@
 -- The byte that is read is the field of the definition.
-use borrow.Author.Rules.{rules}
 use Rattle.sheet.specs.Layout.{slot_of}
 use Rattle.sheet.proofs.fields.slot_of.Goals as goal
 

@@ -3,7 +3,6 @@ use mathlib.Core.Path.{sym, ◌∙◌}
 use Rattle.sheet.specs.Layout.{bound_size}
 use Rattle.sheet.proofs.Laws.{size_range}
 use native.Mathlib.Omega.{arith}
-use borrow.Author.Rules.{rules}
 use Rattle.sheet.proofs.places.bound_size.Goals as goal
 
 pub overflow_add-result : goal.overflow_add-result

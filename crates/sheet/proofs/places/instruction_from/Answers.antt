@@ -1,6 +1,5 @@
 -- The sum is the definition; a byte and a word keep it within 600000 of the start.
 use native.Mathlib.Omega.{arith}
-use borrow.Author.Rules.{rules}
 use Rattle.sheet.specs.Layout.{instruction_from, variable_at}
 use Rattle.sheet.proofs.places.instruction_from.Goals as goal
 

@@ -1,5 +1,4 @@
 -- The code is the definition.
-use borrow.Author.Rules.{rules}
 use Rattle.sheet.specs.Layout.{is_bounded}
 use Rattle.sheet.proofs.places.is_bounded.Goals as goal
 

@@ -1,5 +1,4 @@
 -- The place that `qual_from` gives for the bytes that rights take.
-use borrow.Author.Rules.{rules}
 use Rattle.sheet.proofs.places.qual_at.Goals as goal
 
 pub returns : goal.returns

@@ -2,7 +2,6 @@
 use Rattle.sheet.specs.Layout.{qual_at, types_of}
 use Rattle.sheet.proofs.Laws.{else_two}
 use native.Mathlib.Omega.{arith}
-use borrow.Author.Rules.{rules}
 use Rattle.sheet.proofs.places.qual_from.Goals as goal
 
 pub returns-then-size-eq4 : goal.returns-then-size-eq4

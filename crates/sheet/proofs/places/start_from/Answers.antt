@@ -1,6 +1,5 @@
 -- What `bound_size` gives stands between.
 use native.Mathlib.Omega.{arith}
-use borrow.Author.Rules.{rules}
 use Rattle.sheet.specs.Layout.{start_from}
 use Rattle.sheet.proofs.places.start_from.Goals as goal
 

@@ -1,6 +1,5 @@
 -- Below 2 the difference `t - 2` is 0, so the place is 6.
 use native.Mathlib.Omega.{arith}
-use borrow.Author.Rules.{rules}
 use Rattle.sheet.specs.Layout.{type_at}
 use Rattle.sheet.proofs.places.type_at.Goals as goal
 

@@ -1,6 +1,5 @@
 -- The code is the definition.
 use native.Mathlib.Omega.{arith}
-use borrow.Author.Rules.{rules}
 use Rattle.sheet.specs.Layout.{variable_at}
 use Rattle.sheet.proofs.places.variable_at.Goals as goal
 

@@ -3,7 +3,6 @@ use Prim.Native.Nat.{◌+◌}
 use mathlib.Core.Path.{◌≡◌}
 use Rattle.sheet.specs.Bytes.{byte_at}
 use native.Mathlib.Omega.{arith}
-use borrow.Author.Rules.{rules}
 use Rattle.sheet.proofs.quals.pair.Goals as goal
 
 pub overflow_cast-result : goal.overflow_cast-result

@@ -2,7 +2,6 @@
 use mathlib.Core.Path.{sym, ◌∙◌}
 use Rattle.sheet.proofs.Laws.{whole_true}
 use native.Mathlib.Omega.{arith}
-use borrow.Author.Rules.{rules}
 use Rattle.sheet.proofs.quals.qual_fields.Goals as goal
 
 pub qual_whole-requires : goal.qual_whole-requires

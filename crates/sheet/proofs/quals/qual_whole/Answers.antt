@@ -2,7 +2,6 @@
 use Rattle.sheet.specs.Bytes.{byte_at}
 use Rattle.sheet.proofs.Laws.{size_range, else_two, rights_wide, rights_narrow}
 use native.Mathlib.Omega.{arith}
-use borrow.Author.Rules.{rules}
 use Rattle.sheet.proofs.quals.qual_whole.Goals as goal
 
 pub pair-low-requires : goal.pair-low-requires

@@ -2,7 +2,6 @@
 use mathlib.Core.Path.{◌≡◌, ap}
 use native.Mathlib.Omega.{arith}
 use lib.ListN.{length}
-use borrow.Author.Rules.{rules}
 use Rattle.sheet.specs.Reader.{record_bytes, past_at}
 use Rattle.sheet.proofs.Laws.{record_inside}
 use Rattle.sheet.proofs.records.past_at.Goals as goal

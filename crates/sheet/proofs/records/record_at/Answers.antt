@@ -2,7 +2,6 @@
 use mathlib.Core.Path.{sym, ◌∙◌}
 use native.Mathlib.Nat.{add-sub_cancel_left}
 use native.Mathlib.Omega.{arith}
-use borrow.Author.Rules.{rules}
 use Rattle.sheet.specs.Reader.{record_bytes}
 use Rattle.sheet.proofs.Laws.{whole_true}
 use Rattle.sheet.proofs.records.record_at.Goals as goal

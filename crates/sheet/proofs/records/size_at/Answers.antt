@@ -1,7 +1,6 @@
 -- The two bytes of the mark are read once. Each `pick` is a `cond` of the definition, the innermost first.
 use Rattle.sheet.specs.Bytes.{marked_at}
 use Rattle.sheet.specs.Reader.{size_at}
-use borrow.Author.Rules.{rules}
 use Rattle.sheet.proofs.records.size_at.Goals as goal
 
 pub returns : goal.returns

@@ -1,5 +1,4 @@
 -- The operation is that which was read; its arm performs it.
-use borrow.Author.Rules.{rules}
 use Rattle.frames.proofs.Fetched.{fetched, fetched_named, code_whole, callable}
 use Rattle.watched_step.proofs.step.guarded_step.Goals as goal
 

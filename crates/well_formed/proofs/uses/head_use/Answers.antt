@@ -1,5 +1,4 @@
 -- The one test, from what the calls ensure.
-use borrow.Author.Rules.{rules}
 use Rattle.form.proofs.Misplaced.{head_here}
 use Rattle.well_formed.proofs.uses.head_use.Goals as goal
 

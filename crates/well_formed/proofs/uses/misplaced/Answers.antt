@@ -1,5 +1,4 @@
 -- The one test, each way.
-use borrow.Author.Rules.{rules}
 use Rattle.model.specs.Refusal.{verdict, refuse, failure}
 use Rattle.well_formed.proofs.uses.misplaced.Goals as goal
 

@@ -1,12 +1,8 @@
 -- The loop over the slots: what is left to say is the first failure from the present one on.
-use Prim.Native.Nat.{◌-◌}
-use mathlib.Core.Path.{◌≡◌, refl}
-use mathlib.Core.Bool.{cond}
+use mathlib.Core.Path.{refl}
 use native.Mathlib.Omega.{arith}
-use borrow.Author.Rules.{rules}
-use Rattle.model.specs.Refusal.{failure}
-use Rattle.model.proofs.Verdicts.{Testing, test_start, test_next, test_stop, test_end}
-use Rattle.form.proofs.Misplaced.{slot_test, slot_here}
+use Rattle.model.proofs.Verdicts.{test_start, test_next, test_stop, test_end}
+use Rattle.form.proofs.Misplaced.{slot_here}
 use Rattle.well_formed.proofs.uses.slot_use.Goals as goal
 
 pub loop-k-init : goal.loop-k-init

@@ -1,5 +1,4 @@
 -- The one test, from what the calls ensure.
-use borrow.Author.Rules.{rules}
 use Rattle.form.proofs.Misplaced.{variable_here}
 use Rattle.well_formed.proofs.uses.variable_use.Goals as goal
 

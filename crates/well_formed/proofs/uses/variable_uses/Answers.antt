@@ -1,10 +1,6 @@
 -- The loop over the VR records of a procedure: what is left to say is the verdict from the present record on. The bound is the byte read.
-use Prim.Native.Nat.{◌-◌}
-use native.Mathlib.Omega.{arith}
-use borrow.Author.Rules.{rules}
-use Rattle.model.proofs.Verdicts.{Passing, pass_start, pass_next, pass_stop, pass_end}
+use Rattle.model.proofs.Verdicts.{pass_start, pass_next, pass_stop, pass_end}
 use Rattle.sheet.specs.Layout.{variables_field}
-use Rattle.form.specs.WellFormed.{variable_uses}
 use Rattle.well_formed.proofs.uses.variable_uses.Goals as goal
 
 pub loop-x-init : goal.loop-x-init

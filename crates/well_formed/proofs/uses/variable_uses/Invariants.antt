@@ -1,8 +1,5 @@
 use Prim.Native.Nat.{◌-◌}
-use native.Mathlib.Omega.{arith}
-use borrow.Author.Rules.{rules}
-use Rattle.model.proofs.Verdicts.{Passing, pass_start, pass_next, pass_stop, pass_end}
-use Rattle.sheet.specs.Layout.{variables_field}
+use Rattle.model.proofs.Verdicts.{Passing}
 use Rattle.form.specs.WellFormed.{variable_uses}
 use Rattle.well_formed.proofs.uses.variable_uses.Given as goal
 
