@@ -1,7 +1,7 @@
 # The libraries, the checking program, the command, the samples and the tests. What Rattle proves is built by rt, under target/;
 # what others use is copied to build/.
 
-.PHONY: all lib watch checker command host demo test bench fuzz install uninstall clean
+.PHONY: all lib watch checker command host demo test quick bench fuzz install uninstall clean
 .NOTPARALLEL: # two rt at once would share target/
 .DELETE_ON_ERROR:
 
@@ -58,6 +58,10 @@ demo: checker command
 test:
 	@scripts/test.sh
 
+# For work in progress, and no verdict: proves what has changed, and tries the edits of crates that differ from BASE.
+quick:
+	@scripts/test.sh quick $(BASE)
+
 bench: lib
 	cd rust && cargo run --release --offline -p bench -- ../docs/bench
 
@@ -106,7 +110,10 @@ version = $(shell sed -nE 's/^.define WN_VERSION_(MAJOR|MINOR|PATCH) ([0-9]+)$$/
 fill = prefix=$(call quoted,$(PREFIX)) libdir=$(call quoted,$(LIBDIR)) includedir=$(call quoted,$(INCLUDEDIR)) \
     version=$(version) perl -pe 's{@(\w+)@}{$$ENV{$$1} =~ s/[^\w\/.,:@%+=~\x80-\xff-]/\\$$&/gr}ge'
 
-install: lib checker command
+# It copies what make has built and builds nothing: who installs, as root by sudo, may have neither rt nor cargo.
+install:
+	@for built in $(programs) $(libraries); do \
+	    [ -e "$$built" ] || { echo "$$built is missing: run make first, which builds what is installed" >&2; exit 1; }; done
 	install -d $(folders)
 	install -m 755 $(programs) $(call under,$(BINDIR))
 	install -m 644 $(libraries) $(call under,$(LIBDIR))

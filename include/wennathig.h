@@ -33,7 +33,7 @@ extern "C" {
 /* The version, which stands here and nowhere else: a request that lands raises the minor number. */
 #define WN_VERSION_MAJOR 1
 #define WN_VERSION_MINOR 5
-#define WN_VERSION_PATCH 0
+#define WN_VERSION_PATCH 1
 
 /* The same as text, "MAJOR.MINOR.PATCH". */
 #define WN_VERSION WN_DOTTED_(WN_VERSION_MAJOR, WN_VERSION_MINOR, WN_VERSION_PATCH)

@@ -1,7 +1,7 @@
 #!/usr/bin/env bash
 # `make install` and `make uninstall`, as a packager and then a user meet them: in a place of its own, with a program
 # compiled against nothing else, by pkg-config too, and the manual pages opened by man. What needs pkg-config or man is left
-# out where they are missing.
+# out where they are missing. make has built all before, and is not to build here.
 set -uo pipefail
 cd "$(dirname "${BASH_SOURCE[0]}")/.." || exit 1
 
@@ -11,9 +11,14 @@ passed=0 failed=0
 tally() { # STATUS WHAT
     if [ "$1" -eq 0 ]; then passed=$((passed + 1)); else failed=$((failed + 1)); echo "FAILED: $2"; fi
 }
-by_make() { # TARGET VARIABLE=VALUE..
-    make --no-print-directory "$@" >"$place/said" 2>&1 || { cat "$place/said"; false; }
-}
+# In the place of the tools that build, programs that fail and leave a trace
+mkdir "$place/tools"
+for tool in rt rattle cargo rustc gcc; do
+    printf '#!/bin/sh\necho "$0 $*" >>%s\nexit 1\n' "'$place/built'" >"$place/tools/$tool"
+    chmod +x "$place/tools/$tool"
+done
+make_alone() { PATH="$place/tools:$PATH" make --no-print-directory "$@" >"$place/said" 2>&1; } # TARGET VARIABLE=VALUE..
+by_make() { make_alone "$@" || { cat "$place/said"; false; }; }
 files() { (cd "$1" && find . ! -type d | sort); }
 version=$(sed -nE 's/^#define WN_VERSION_(MAJOR|MINOR|PATCH) ([0-9]+)$/\2/p' include/wennathig.h | paste -sd.)
 
@@ -168,6 +173,22 @@ other_folders() {
     tally $? "make install without a completion"
 }
 
+# It copies and builds nothing, neither what is older than its sources nor what is missing.
+only_copied() {
+    local root=$place/copied
+    by_make install -W crates.txt -W include/wennathig.h DESTDIR="$root" PREFIX=/usr
+    tally $? "make install where a source is newer"
+    cmp build/wennathig "$root/usr/bin/wennathig" && cmp build/libwennathig.a "$root/usr/lib/libwennathig.a"
+    tally $? "what is installed is what was built"
+    for missing in programs libraries; do
+        make_alone install "$missing=build/none" DESTDIR="$root/none" PREFIX=/usr
+        [ $? -ne 0 ] && grep -q '^build/none is missing: run make first' "$place/said" && [ ! -e "$root/none" ]
+        tally $? "make install without $missing: $(cat "$place/said")"
+    done
+    [ ! -e "$place/built" ]
+    tally $? "no tool that builds is called: $(cat "$place/built" 2>/dev/null)"
+}
+
 command -v pkg-config >/dev/null || timeout 120 apt-get install -y pkg-config </dev/null >/dev/null 2>&1
 command -v pkg-config >/dev/null
 has_pkg_config=$?
@@ -180,6 +201,7 @@ packaged
 used
 odd_names
 other_folders
+only_copied
 
 echo "$passed passed, $failed failed"
 [ "$failed" -eq 0 ]

@@ -1,13 +1,19 @@
 #!/usr/bin/env bash
-# The whole test: every proof from nothing, then the samples, the commands of the documents, the checking program, and the C and Rust tests over what
+# test.sh: the whole test, every proof from nothing, then the samples, the commands of the documents, the checking program, and the C and Rust tests over what
 # was proved. The last line is 'N passed, M failed' over all of them; the exit status is 0 exactly if M is 0.
+# test.sh quick [BASE]: the same stages for work in progress, which is no verdict: target/ and build/ are kept, so that crates that have not changed are
+# not proved again, and of the must-fail edits only those of crates that differ from BASE are tried (scripts/check-edits).
 set -euo pipefail
 cd "$(dirname "${BASH_SOURCE[0]}")/.."
+
+quick=no base=${2:-}
+if [ "${1:-}" = quick ]; then quick=yes; fi
 
 passed=0 failed=0 finished=no
 finish() {
     # an end that no stage accounts for is a failure too
     [ "$finished" = yes ] || failed=$((failed + 1))
+    [ "$quick" = no ] || echo "this is no verdict: the gate is 'make test', which proves every crate from nothing and tries every edit"
     echo "$passed passed, $failed failed"
     [ "$failed" -eq 0 ] || exit 1
 }
@@ -16,6 +22,9 @@ trap finish EXIT
 # Ways to count what a stage said: each prints 'PASSED FAILED'.
 last_line() { tail -n 1 "$1" | sed -nE 's/^([0-9]+) passed, ([0-9]+) failed$/\1 \2/p'; }
 cargo_lines() { awk '/^test result: / { p += $4; f += $6 } END { print p + 0, f + 0 }' "$1"; }
+rt_lines() {
+    awk '/^rt: [^ ]+ proved \(/ { p++ } /^rt: [^ ]+ proved, and its run FAILED / { p-- } /^rt: FAILED:/ { f = NF - 2 } END { print p + 0, f + 0 }' "$1"
+}
 no_count() { :; }
 
 # Leaves out what rt says of each function, type and library that is in order.
@@ -59,8 +68,8 @@ for crate in crates/*; do
     fi
 done
 
-# Nothing of an earlier run is trusted: rt ci removes target/ itself.
-rm -rf build
+# Nothing of an earlier run is trusted by the gate: rt ci removes target/ itself.
+if [ "$quick" = yes ]; then rm -rf build/log; else rm -rf build; fi
 mkdir -p build/log
 
 stage acceptance last_line scripts/check-acceptance || true
@@ -69,9 +78,17 @@ stage pictures last_line scripts/draw-rules check || true
 stage unused last_line scripts/check-unused || true
 stage instructions last_line scripts/check-instructions || true
 stage breaks last_line scripts/break-reference check || true
-stage proofs last_line rt ci || true
+if [ "$quick" = yes ]; then
+    stage proofs rt_lines rt check || true
+    stage edits last_line scripts/check-edits "$base" || true
+    echo "not run, since rt says no seconds of a crate that it does not prove again: costs"
+else
+    stage proofs last_line rt ci || true
+    stage costs last_line scripts/edit-costs || true
+fi
 if stage build no_count make --no-print-directory lib checker command host; then
-    stage axioms last_line scripts/count-axioms || true
+    if [ "$quick" = yes ]; then unchanged=--unchanged; else unchanged=; fi
+    stage axioms last_line scripts/count-axioms $unchanged || true
     stage samples last_line make --no-print-directory demo || true
     stage program last_line scripts/test-checker.sh || true
     stage c last_line scripts/test-c.sh || true

@@ -10,15 +10,14 @@ ghost use Rattle.index.specs.Indexed.{Ready};
 ghost use Rattle.access.specs.Inner.Callees.{OwnScope, CalleeThere, CalleesAt, Callees};
 
 use declaration_rules::{element_rule, has_closed_result, slots_rule, variable_number};
+use decoder::instruction_in;
 use index::Index;
 use index::procedures::{Scope, own_scope, procedure_in};
 use instruction_rules::instruction_number;
 use model::Verdict;
 use order::require;
+use places::{field, instruction_from, qual_at, variable_at};
 use sheet::bytes::{byte, word};
-use sheet::decode::instruction_in;
-use sheet::fields::field;
-use sheet::places::{instruction_from, qual_at, variable_at};
 
 // The verdict of one record.
 fn refused(number: u8, at: usize) -> Verdict

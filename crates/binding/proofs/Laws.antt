@@ -1,40 +1,33 @@
 -- What binding comes to, by what the tests of the code say.
-use Prim.Native.Nat.{ℕ, ◌+◌, ◌%◌}
+use Prim.Native.Nat.{ℕ, ◌%◌}
 use native.Mathlib.Omega.{arith}
 use mathlib.Core.Path.{◌≡◌, refl, sym, ap, subst, ◌∙◌}
 use mathlib.Core.Bool.{Bool, true, false, ◌&&◌, cond, false≢true}
 use mathlib.Core.List.{List}
-use mathlib.Core.Option.{Option, none, some}
 use lib.Dec.{eqb, leb}
 use lib.ListN.{get_or}
 use borrow.Author.Tests.{ne_eqb, eqb-true}
 use Rattle.model.specs.Rights.{Rights, within, has, store_right}
 use Rattle.model.specs.Qualified.{Qual, integer, declared, base, rights, element, is_integer, is_array, elements}
-use Rattle.model.specs.Generic.{instance, read, read_result}
-use Rattle.model.specs.Rules.{amplifies}
+use Rattle.model.specs.Generic.{read}
 use Rattle.model.specs.Outcome.{blank, past_end, input_ended, output_full, memory_full, wrong_kind, missing_right, Res, ok, stop, stuck, ◌>>=◌, ◌>>◌, ensure}
 use Rattle.model.specs.Program.{Program}
-use Rattle.model.specs.Modes.{watched, Kind, amiss, fits, bind, is_record_of, raise_if, raise, bind_result}
-use Rattle.model.specs.Machine.{Value, word, object, Cell, empty, filled, Head, array_head, record_head, no_head, View, held, kind_of_head, kind_at, moved, actual, handed}
+use Rattle.model.specs.Modes.{watched, amiss, fits, bind}
+use Rattle.model.specs.Machine.{Value, word, object, Cell, empty, filled, Head, array_head, record_head, no_head, View, held, kind_of_head, kind_at, moved}
 use Rattle.model.proofs.Rights.{within_refl}
-use Rattle.sheet.specs.Bytes.{byte_at}
-use Rattle.sheet.specs.Layout.{procedure_at, need_at, inner_at, owner_at, result_at}
-use Rattle.sheet.specs.Meaning.{qual_of, program_of, inner_in, result_in}
+use Rattle.sheet.specs.Meaning.{qual_of}
 use Rattle.index.specs.Types.{word_in, rights_of, shape_of, of_shape, element_below, qual_in, named_as, type_in, word_as}
 use Rattle.index.specs.Indexed.{Ready}
-use Rattle.index.specs.Scope.{bound_of_procedure}
-use Rattle.index.specs.declared.procedures.Scope.{Scope}
 use Rattle.index.proofs.Trees.{integer_shape, array_shape, rights_shape, element_shape, qual_integer}
-use Rattle.index.proofs.Reading.{type_word_as, rights_as, inner_read, need_read, type_read, inner_type, need_type}
+use Rattle.index.proofs.Reading.{type_word_as, rights_as}
 use Rattle.index.proofs.Ready.{same_types}
 use Rattle.order.proofs.Laws.{base_part}
 use Rattle.words.specs.Word.{tag, low, payload, info_of, settled_base, cell, slot_in, as_cell, as_head}
-use Rattle.words.specs.Sees.{heads_in}
 use Rattle.words.specs.Answers.{halted, IsCell, MovedOk}
 use Rattle.words.specs.declared.Moved.{Moved}
 use Rattle.words.specs.declared.Moved.TheVariants.{To, Halt}
 use Rattle.words.proofs.Laws.{slot_array, slot_record, blank_word}
-use Rattle.binding.specs.Binds.{kind_in, Heads, moved_cell, handed_cell, raised, FrameScope, InScope, BindsFilled, BindsWord, BindsTwice, Raises}
+use Rattle.binding.specs.Binds.{kind_in, Heads, moved_cell, BindsFilled, BindsWord, BindsTwice}
 use Rattle.binding.proofs.Views.{ValueOf, integer_in, object_in, value_word, CellOf, blank_in, value_in, cell_word, HeadOf, array_in, record_in, no_head_in, head_word}
 
 -- ---- a type by the word that it is read by
@@ -120,31 +113,31 @@ object_misfit (record_head t n) = go (eqb 0 t) refl
 -- ---- binding, by its two tests
 
 module _ (g : Program) (v : View watched) (q : Qual) (x : Value) (m : Rights) where
-  pub bound_misfit : fits q (kind_at v.head x) ≡ false → moved watched g v q (filled x m) ≡ stop wrong_kind
+  pub moved_misfit : fits q (kind_at v.head x) ≡ false → moved watched g v q (filled x m) ≡ stop wrong_kind
   unfolding moved held bind ensure ◌>>=◌ ◌>>◌
-  bound_misfit e = rw e
+  moved_misfit e = rw e
 
-  bound_without : fits q (kind_at v.head x) ≡ true → within (rights q) m ≡ false → moved watched g v q (filled x m) ≡ stop missing_right
+  moved_without : fits q (kind_at v.head x) ≡ true → within (rights q) m ≡ false → moved watched g v q (filled x m) ≡ stop missing_right
   unfolding moved held bind ensure ◌>>=◌ ◌>>◌
-  bound_without e d = rw (e, d)
+  moved_without e d = rw (e, d)
 
-  pub bound : fits q (kind_at v.head x) ≡ true → within (rights q) m ≡ true → moved watched g v q (filled x m) ≡ ok (filled x (rights q))
+  pub moved_fits : fits q (kind_at v.head x) ≡ true → within (rights q) m ≡ true → moved watched g v q (filled x m) ≡ ok (filled x (rights q))
   unfolding moved held bind ensure ◌>>=◌ ◌>>◌
-  bound e d = rw (e, d)
+  moved_fits e d = rw (e, d)
 
 -- of the word of a filled cell
 module _ (qual : ℕ → Qual) (h : List ℕ) (q : Qual) (w : ℕ) (g : Program) (v : View watched) (x : Value) (m : Rights)
     (heads : Heads qual v h) (e : slot_in watched qual w ≡ cell (filled x m)) where
   bind_misfit : fits q (kind_at v.head x) ≡ false → moved_cell qual (Halt 18) ≡ moved watched g v q (filled x m)
   unfolding moved_cell halted amiss
-  bind_misfit misfit = sym (bound_misfit g v q x m misfit)
+  bind_misfit misfit = sym (moved_misfit g v q x m misfit)
 
   pub bind_integer : tag w ≡ 1 → q ≡ integer → moved_cell qual (To w) ≡ moved watched g v q (filled x m)
   unfolding moved_cell fits is_integer rights
   bind_integer i b = rw (e, b) (by (value_word qual w x m e))
     where
       by : {y : Value} {n : Rights} → ValueOf w y n → ok (filled y n) ≡ moved watched g v integer (filled y n)
-      by (integer_in j) = sym (bound g v integer (word (low w)) 0 refl (within_refl 0))
+      by (integer_in j) = sym (moved_fits g v integer (word (low w)) 0 refl (within_refl 0))
       by (object_in j) = absurd (omega arith)
 
   pub bind_no_integer : tag w ≡ 1 → is_integer q ≡ false → moved_cell qual (Halt 18) ≡ moved watched g v q (filled x m)
@@ -179,14 +172,14 @@ module _ (qual : ℕ → Qual) (h : List ℕ) (q : Qual) (w : ℕ) (g : Program)
       pub object_without : d ≡ false → moved_cell qual (Halt 19) ≡ moved watched g v q (filled x m)
       unfolding moved_cell halted
       object_without short =
-          sym (bound_without g v q x m (fits_seen ∙ told) (within_seen (value_word qual w x m e) ∙ short))
+          sym (moved_without g v q x m (fits_seen ∙ told) (within_seen (value_word qual w x m e) ∙ short))
 
-      pub object_bound : (z : ℕ) {k : ℕ} → d ≡ true → k ≡ payload w → slot_in watched qual z ≡ cell (filled (object k) r)
+      pub object_moves : (z : ℕ) {k : ℕ} → d ≡ true → k ≡ payload w → slot_in watched qual z ≡ cell (filled (object k) r)
           → moved_cell qual (To z) ≡ moved watched g v q (filled x m)
       unfolding moved_cell
-      object_bound z {k} enough name_is new =
+      object_moves z {k} enough name_is new =
           rw (new, name_is, is-r) (by (value_word qual w x m e))
-          ∙ sym (bound g v q x m (fits_seen ∙ told) (within_seen (value_word qual w x m e) ∙ enough))
+          ∙ sym (moved_fits g v q x m (fits_seen ∙ told) (within_seen (value_word qual w x m e) ∙ enough))
         where
           by : {y : Value} {n : Rights} → ValueOf w y n
               → ◌≡◌ {A = Res (Cell watched)} (ok (filled (object (payload w)) (rights q))) (ok (filled y (rights q)))
@@ -218,65 +211,6 @@ module _ (qual : ℕ → Qual) (g : Program) (v : View watched) (q : Qual) {w : 
       by empty (blank_in z) k = absurd (told.1 z)
       by (filled y m) (value_in _ _ f) k = rest y m (ap (slot_in watched qual) told.0 ∙ k)
 
--- ---- raising
-
-module _ (o : ℕ) (inner q : Qual) (x : Value) (m : Rights) where
-  raised_own : (k : Kind watched) → is_record_of o k && amplifies o inner ≡ true → raised o inner q k x m ≡ ok (filled x (rights q))
-  unfolding raised raise raise_if ◌>>=◌
-  raised_own k e = rw e
-
-  pub raised_bound : (g : Program) (v : View watched) → is_record_of o (kind_at v.head x) && amplifies o inner ≡ false
-      → raised o inner q (kind_at v.head x) x m ≡ moved watched g v q (filled x m)
-  unfolding raised raise raise_if moved held ◌>>=◌
-  raised_bound g v e = rw e
-
--- the tests of the code
-pub own_record : (qual : ℕ → Qual) (h : List ℕ) (o w : ℕ) {x : Value} {m : Rights} {n head k tw th : ℕ} → slot_in watched qual w ≡ cell (filled x m)
-    → n ≡ payload w → head ≡ get_or h n 0 → tw ≡ tag w → th ≡ tag head → k ≡ info_of head
-    → ((eqb tw 2 && eqb th 4) && leb 2 o) && eqb k o ≡ is_record_of o (kind_at (heads_in watched qual h) x)
-unfolding is_record_of
-own_record qual h o w {x} {m} e name at is-w is-h is-k =
-    rw (is-w, is-h, is-k, at, name) (by (value_word qual w x m e))
-  where
-    head : ℕ
-    head = get_or h (payload w) 0
-
-    tests : Bool
-    tests = ((eqb (tag w) 2 && eqb (tag head) 4) && leb 2 o) && eqb (info_of head) o
-
-    of_object : tag w ≡ 2 → {d : Head watched} → HeadOf qual head d → tests ≡ is_record_of o (kind_of_head d)
-    of_object i (array_in j) = rw (i, j)
-    of_object i (record_in j) = rw (i, j)
-    of_object i (no_head_in a b) = rw (i, ne_eqb (tag head) 4 b)
-
-    by : {y : Value} {r : Rights} → ValueOf w y r → tests ≡ is_record_of o (kind_at (heads_in watched qual h) y)
-    by (integer_in i) = rw i
-    by (object_in i) = of_object i (head_word qual head)
-
-module _ (qual : ℕ → Qual) (h : List ℕ) (v : View watched) (o w : ℕ) (inner q : Qual) (x : Value) (m : Rights)
-    (heads : Heads qual v h) {b n : Bool} (own : b ≡ is_record_of o (kind_at (heads_in watched qual h) x)) (is-n : n ≡ amplifies o inner) where
-  kind_seen : (y : Value) → kind_at (heads_in watched qual h) y ≡ kind_at v.head y
-  kind_seen (word k) = refl
-  kind_seen (object a) = ap kind_of_head (heads a)
-
-  own_seen : is_record_of o (kind_at v.head x) && amplifies o inner ≡ b && n
-  own_seen = rw (own, is-n, kind_seen x)
-
-  pub raise_own : (z : ℕ) {k r : ℕ} → b && n ≡ true → slot_in watched qual w ≡ cell (filled x m) → k ≡ payload w → r ≡ rights q
-      → slot_in watched qual z ≡ cell (filled (object k) r) → moved_cell qual (To z) ≡ raised o inner q (kind_at v.head x) x m
-  unfolding moved_cell is_record_of
-  raise_own z told e name is-r new =
-      rw (new, name, is-r) (by (value_word qual w x m e) (own_seen ∙ told)) ∙ sym (raised_own o inner q x m (kind_at v.head x) (own_seen ∙ told))
-    where
-      by : {y : Value} {l : Rights} → ValueOf w y l → is_record_of o (kind_at v.head y) && amplifies o inner ≡ true
-          → ◌≡◌ {A = Res (Cell watched)} (ok (filled (object (payload w)) (rights q))) (ok (filled y (rights q)))
-      by (integer_in i) f = absurd (false≢true f)
-      by (object_in i) f = refl
-
-  pub raise_bound : (g : Program) (r : Moved) → b && n ≡ false → moved_cell qual r ≡ moved watched g v q (filled x m)
-      → moved_cell qual r ≡ raised o inner q (kind_at v.head x) x m
-  raise_bound g r told is = is ∙ sym (raised_bound o inner q x m g v (own_seen ∙ told))
-
 -- ---- the same over the sheet, of which the index is ready
 
 module _ {s t h : List ℕ} {q : Qual} {w : ℕ} {r : Moved} (ready : Ready s t) where
@@ -288,9 +222,6 @@ module _ {s t h : List ℕ} {q : Qual} {w : ℕ} {r : Moved} (ready : Ready s t)
 
   pub twice_of_sheet : {e : Qual} → BindsTwice (qual_in t) h e q w r → BindsTwice (qual_of s) h e q w r
   twice_of_sheet {e} = subst (λ (f : ℕ → Qual). BindsTwice f h e q w r) (same_types ready)
-
-  pub raises_of_sheet : {o : ℕ} {p : Qual} → Raises (qual_in t) h o p q w r → Raises (qual_of s) h o p q w r
-  raises_of_sheet {o} {p} = subst (λ (f : ℕ → Qual). Raises f h o p q w r) (same_types ready)
 
 -- ---- stops
 
@@ -320,27 +251,27 @@ halted_then {A} {B} k f = by (eqb k 13) (eqb k 14) (eqb k 15) (eqb k 16) (eqb k 
     by false false false false false false true = refl
     by false false false false false false false = refl
 
--- ---- actuals and results
+-- ---- a cell that was bound
 
 pub moved_ok_to : {r : Moved} {w : ℕ} → r ≡ To w → MovedOk r → IsCell w
 moved_ok_to is o = rw is at o
 
 -- a cell that was bound to q: it fits and carries what q says
-data BoundTo (v : View watched) (q : Qual) : Cell watched → Type 0 where
-  bound_to : (x : Value) → fits q (kind_at v.head x) ≡ true → BoundTo v q (filled x (rights q))
+pub data HeldAs (v : View watched) (q : Qual) : Cell watched → Type 0 where
+  held_as : (x : Value) → fits q (kind_at v.head x) ≡ true → HeldAs v q (filled x (rights q))
 
 blank_stops : (g : Program) (v : View watched) (q : Qual) (d : Cell watched) → moved watched g v q empty ≡ ok d → ⊥
 unfolding moved held ◌>>=◌
 blank_stops g v q d e = let z : ◌≡◌ {A = ℕ} 0 1 = cc in omega arith
 
-moved_bound : (g : Program) (v : View watched) (q : Qual) (c d : Cell watched) → moved watched g v q c ≡ ok d → BoundTo v q d
-moved_bound g v q empty d e = absurd (blank_stops g v q d e)
-moved_bound g v q (filled x m) d e = by (fits q (kind_at v.head x)) (within (rights q) m) refl refl
+pub moved_held : (g : Program) (v : View watched) (q : Qual) (c d : Cell watched) → moved watched g v q c ≡ ok d → HeldAs v q d
+moved_held g v q empty d e = absurd (blank_stops g v q d e)
+moved_held g v q (filled x m) d e = by (fits q (kind_at v.head x)) (within (rights q) m) refl refl
   where
-    by : (t u : Bool) → fits q (kind_at v.head x) ≡ t → within (rights q) m ≡ u → BoundTo v q d
-    by false u a b = let k = bound_misfit g v q x m a in absurd (let z : ◌≡◌ {A = ℕ} 0 1 = cc in omega arith)
-    by true false a b = let k = bound_without g v q x m a b in absurd (let z : ◌≡◌ {A = ℕ} 0 1 = cc in omega arith)
-    by true true a b = let k = bound g v q x m a b in let is : d ≡ filled x (rights q) = cc in rw is (bound_to x a)
+    by : (t u : Bool) → fits q (kind_at v.head x) ≡ t → within (rights q) m ≡ u → HeldAs v q d
+    by false u a b = let k = moved_misfit g v q x m a in absurd (let z : ◌≡◌ {A = ℕ} 0 1 = cc in omega arith)
+    by true false a b = let k = moved_without g v q x m a b in absurd (let z : ◌≡◌ {A = ℕ} 0 1 = cc in omega arith)
+    by true true a b = let k = moved_fits g v q x m a b in let is : d ≡ filled x (rights q) = cc in rw is (held_as x a)
 
 -- ---- bound twice
 
@@ -356,126 +287,11 @@ module _ (qual : ℕ → Qual) (g : Program) (v : View watched) (e q : Qual) (c 
   -- to the type that it was bound to: it is as it was
   pub twice_same : (x : ℕ) → e ≡ q → moved_cell qual (To x) ≡ moved watched g v e c → moved_cell qual (To x) ≡ twice
   unfolding moved_cell ◌>>=◌
-  twice_same x is first = rw (sym first, sym is) (again (moved_bound g v e c _ (sym first)))
+  twice_same x is first = rw (sym first, sym is) (again (moved_held g v e c _ (sym first)))
     where
-      again : {d : Cell watched} → BoundTo v e d → ok d ≡ moved watched g v e d
-      again (bound_to y f) = sym (bound g v e y (rights e) f (within_refl (rights e)))
+      again : {d : Cell watched} → HeldAs v e d → ok d ≡ moved watched g v e d
+      again (held_as y f) = sym (moved_fits g v e y (rights e) f (within_refl (rights e)))
 
   pub twice_halt : (k : ℕ) → moved_cell qual (Halt k) ≡ moved watched g v e c → moved_cell qual (Halt k) ≡ twice
   unfolding moved_cell
   twice_halt k first = rw (sym first) (sym (halted_then k _))
-
--- what is done with an actual once it was bound
-abbrev then_raise : View watched → (o : ℕ) → (inner as_read : Qual) → Cell watched → Res (Cell watched)
-then_raise v o inner q c = held c >>= λ h. raise watched o inner q (kind_at v.head h.0) h.1 >>= λ r. ok (filled h.0 r)
-
-raised_next : (qual : ℕ → Qual) (v : View watched) (o : ℕ) (inner p q : Qual) (r : Moved) (w : ℕ) {d : Cell watched}
-    → BoundTo v q d → slot_in watched qual w ≡ cell d
-    → ((y : Value) (m : ℕ) → slot_in watched qual w ≡ cell (filled y m) → moved_cell qual r ≡ raised o inner p (kind_at v.head y) y m)
-    → moved_cell qual r ≡ then_raise v o inner p d
-unfolding raised held ◌>>=◌
-raised_next qual v o inner p q r w (bound_to y f) e rest = rest y (rights q) e
-
--- raised to the type that it was bound to, by any owner, it is as it was
-raised_same : (v : View watched) (o : ℕ) (inner q : Qual) {d : Cell watched} → BoundTo v q d → ok d ≡ then_raise v o inner q d
-unfolding raise raise_if bind ensure held ◌>>=◌ ◌>>◌
-raised_same v o inner q (bound_to x f) = by (is_record_of o (kind_at v.head x) && amplifies o inner)
-  where
-    by : (b : Bool) → ◌≡◌ {A = Res (Cell watched)} (ok (filled x (rights q))) (raise_if b q (kind_at v.head x) (rights q) >>= λ r. ok (filled x r))
-    by true = refl
-    by false = rw (f, within_refl (rights q))
-
--- the types of a formal, by their numbers, as a frame of its procedure reads them
-module _ {s t : List ℕ} (k : ℕ) (z : Rights) {c : Scope} (ready : Ready s t) (in_scope : FrameScope s k z c) (j : ℕ) where
-  need_there : {need : ℕ} → need ≡ need_at s c.start j → read (instance (bound_of_procedure s k) z) ((program_of s).need k j) ≡ type_in t c.name need
-  need_there is = sym (ap (type_in t c.name) is ∙ need_type ready c j ∙ need_read in_scope j)
-
-  inner_there : {inner : ℕ} → inner ≡ inner_at s c.start j → read (instance (bound_of_procedure s k) z) ((program_of s).inner k j) ≡ type_in t c.name inner
-  inner_there is = sym (ap (type_in t c.name) is ∙ inner_type ready c j ∙ inner_read in_scope j)
-
-  inner_unread : {inner : ℕ} → inner ≡ inner_at s c.start j → (program_of s).inner k j ≡ qual_in t inner
-  unfolding inner_in
-  inner_unread {inner} is = rw (sym in_scope.start, sym is) (sym (ready.types inner))
-
-module _ {s t : List ℕ} (v : View watched) (k b : ℕ) (z : Rights) (j : ℕ) {c : Scope} {need : ℕ} (ready : Ready s t) (in_scope : FrameScope s k z c)
-    (is-need : need ≡ need_at s c.start j) where
-  module _ (w : ℕ) {inner : ℕ} (is-inner : inner ≡ inner_at s c.start j) (is_cell : IsCell w)
-      (bound-word : moved_cell (qual_of s) (To w) ≡ moved watched (program_of s) v (type_in t c.name need) (v.variable (b + j))) where
-    pub actual_to : (r : Moved) {owner : ℕ} → owner ≡ byte_at s c.head 2
-        → ((y : Value) (m : ℕ) → slot_in watched (qual_of s) w ≡ cell (filled y m)
-        → moved_cell (qual_of s) r ≡ raised owner (qual_in t inner) (type_in t c.name inner) (kind_at v.head y) y m)
-        → moved_cell (qual_of s) r ≡ actual watched (program_of s) v k b z j
-    unfolding actual moved_cell owner_at ◌>>=◌
-    actual_to r is-owner rest =
-        raised_next (qual_of s) v _ _ _ (type_in t c.name need) r w (moved_bound (program_of s) v (type_in t c.name need) _ _ (sym bound-word)) (is_cell watched (qual_of s)) rest
-        ∙ rw (need_there k z ready in_scope j is-need, inner_there k z ready in_scope j is-inner, inner_unread k z ready in_scope j is-inner, sym in_scope.head, sym is-owner, sym bound-word)
-
-    pub actual_same : need ≡ inner → moved_cell (qual_of s) (To w) ≡ actual watched (program_of s) v k b z j
-    unfolding actual moved_cell ◌>>=◌
-    actual_same same-type =
-        raised_same v ((program_of s).owner k) ((program_of s).inner k j) (type_in t c.name need) (moved_bound (program_of s) v (type_in t c.name need) _ _ (sym bound-word))
-        ∙ rw (need_there k z ready in_scope j is-need, inner_there k z ready in_scope j is-inner, sym same-type, sym bound-word)
-
-  pub actual_halt : (n : ℕ) → moved_cell (qual_of s) (Halt n) ≡ moved watched (program_of s) v (type_in t c.name need) (v.variable (b + j))
-      → moved_cell (qual_of s) (Halt n) ≡ actual watched (program_of s) v k b z j
-  unfolding actual moved_cell
-  actual_halt n e = rw (need_there k z ready in_scope j is-need, sym e) (sym (halted_then n _))
-
--- a result: a moved cell, handed over
-pub handed_moved : (qual : ℕ → Qual) (r : Moved) → handed_cell qual r ≡ (moved_cell qual r >>= λ d. ok (some d))
-unfolding handed_cell moved_cell ◌>>=◌
-handed_moved qual (To w) = refl
-handed_moved qual (Halt k) = sym (halted_then k (λ d. ok (some d)))
-
-module _ (s : List ℕ) (v : View watched) (a : ℕ) where
-  -- what ?R stands for in the running frame
-  abbrev here : Qual
-  here = instance (bound_of_procedure s v.procedure) v.set_held
-
-  handed_bound : (q : Qual) → read_result here (result_in s (procedure_at s v.procedure)) ≡ some q
-      → handed watched (program_of s) v (some a) ≡ (moved watched (program_of s) v q (v.variable a) >>= λ d. ok (some d))
-  unfolding handed moved held bind_result ◌>>=◌
-  handed_bound q e = rw e (by_cell (v.variable a))
-    where
-      by_res : (x : Value) (r : Res Rights)
-          → ◌≡◌ {A = Res (Option (Cell watched))} (r >>= λ t. ok (some (filled x t))) ((r >>= λ t. ok (filled x t)) >>= λ d. ok (some d))
-      by_res x (ok t) = refl
-      by_res x (stop t) = refl
-      by_res x stuck = refl
-
-      by_cell : (c : Cell watched)
-          → ◌≡◌ {A = Res (Option (Cell watched))}
-          (held c >>= λ h. bind watched q (kind_at v.head h.0) h.1 >>= λ t. ok (some (filled h.0 t)))
-          (moved watched (program_of s) v q c >>= λ d. ok (some d))
-      by_cell empty = refl
-      by_cell (filled x m) = by_res x (bind watched q (kind_at v.head x) m)
-
-  pub result_blank : {w : ℕ} → w ≡ 0 → slot_in watched (qual_of s) w ≡ cell (v.variable a)
-      → handed_cell (qual_of s) (Halt 13) ≡ handed watched (program_of s) v (some a)
-  unfolding handed_cell halted handed held ◌>>=◌
-  result_blank {w} z e = rw (blank_word watched (qual_of s) w e z)
-
-  pub result_none : {w x n : ℕ} {c : Scope} → InScope s v c → n ≡ byte_at s c.head 5 → n ≡ 255
-      → (x ≡ w) × (w ≡ 0 → ⊥) → slot_in watched (qual_of s) w ≡ cell (v.variable a)
-      → handed_cell (qual_of s) (Halt 18) ≡ handed watched (program_of s) v (some a)
-  unfolding handed_cell halted amiss handed held bind_result result_in result_at read_result ◌>>=◌
-  result_none {w} in_scope is none_there told e = rw (sym in_scope.head, sym is ∙ none_there) (by (v.variable a) (cell_word (qual_of s) w _ e))
-    where
-      by : (c : Cell watched) → CellOf w c
-          → ◌≡◌ {A = Res (Option (Cell watched))} (stop wrong_kind)
-          (held c >>= λ h. bind_result watched none (kind_at v.head h.0) h.1 >>= λ r. ok (some (filled h.0 r)))
-      by empty (blank_in z) = absurd (told.1 z)
-      by (filled y m) f = refl
-
-  pub result_value : (r : Moved) {w x n : ℕ} {c : Scope} {t : List ℕ} → Ready s t → InScope s v c → n ≡ byte_at s c.head 5 → (n ≡ 255 → ⊥)
-      → (x ≡ w) × (w ≡ 0 → ⊥) → slot_in watched (qual_of s) w ≡ cell (v.variable a)
-      → ((y : Value) (m : ℕ) → slot_in watched (qual_of s) x ≡ cell (filled y m)
-      → moved_cell (qual_of s) r ≡ moved watched (program_of s) v (type_in t c.name n) (filled y m))
-      → handed_cell (qual_of s) r ≡ handed watched (program_of s) v (some a)
-  unfolding result_in result_at read_result
-  result_value r {n = n} {c} {t} ready in_scope is not255 told e rest =
-      let there : read_result here (result_in s (procedure_at s v.procedure)) ≡ some (type_in t c.name n)
-      = rw (sym in_scope.name, sym in_scope.head, sym is, ne_eqb n 255 not255) (ap some (sym (type_read ready c.name n))) in
-      handed_moved (qual_of s) r
-      ∙ ap (λ (m : Res (Cell watched)). m >>= λ d. ok (some d)) (bind_value (qual_of s) (program_of s) v (type_in t c.name n) r told e rest)
-      ∙ sym (handed_bound (type_in t c.name n) there)

@@ -4,17 +4,15 @@ ghost use Rattle.std.specs.Prelude.{◌≡◌, List, true, ℕ};
 ghost use Rattle.model.specs.Qualified.{declared};
 ghost use Rattle.model.specs.Modes.{fits};
 ghost use Rattle.index.specs.Types.{qual_in, type_in, named_as, word_as};
-ghost use Rattle.index.specs.Indexed.{Ready};
 ghost use Rattle.words.specs.Word.{low, settled_base};
 ghost use Rattle.words.specs.declared.Moved.TheVariants.{To};
-ghost use Rattle.binding.specs.Binds.{kind_in, OwnRecord, BindsFilled, BindsWord, BindsTwice, Raises, BindsActual, BindsResult};
+ghost use Rattle.binding.specs.Binds.{kind_in, BindsFilled, BindsWord, BindsTwice};
 
 use index::Index;
-use index::procedures::{Scope, instance_name};
-use index::types::{element_in, rights_as, rights_in, shape_in, type_word, type_word_as};
-use order::{elements_agree, is_amplified};
+use index::procedures::instance_name;
+use index::types::{element_in, rights_in, shape_in, type_word, type_word_as};
+use order::elements_agree;
 use rights::{has_right, is_within};
-use sheet::fields::{field, inner_of, need_of};
 use words::{
     Cell, Moved, cell_of, kind_in, low_of, name_of, object_word, read, settled_base, tag_of,
 };
@@ -67,8 +65,8 @@ pub fn bind_filled(index: &Index, name: u64, h: &[u64], q: u8, w: u64) -> Moved
     Moved::Halt(18)
 }
 
-// An integer, bound to an integer's QT: a test by itself, so that it is inlined where the rest of a binding is not.
-fn is_integer_bound(index: &Index, q: u8, w: u64) -> bool
+// An integer, and QT q an integer's: a test by itself, so that it is inlined where the rest of a binding is not.
+pub fn integer_fits(index: &Index, q: u8, w: u64) -> bool
     ensures { (name : ℕ) (h : List ℕ) → result ≡ true → BindsFilled (qual_in index.now) h (type_in index.now name q) w (To w) }
 {
     (tag_of(w) == 1) & (shape_in(type_word(index, q)) == 0)
@@ -81,7 +79,7 @@ pub fn bind_word(index: &Index, name: u64, h: &[u64], q: u8, w: u64) -> Moved
     let Cell::Filled(x) = cell_of(w) else {
         return Moved::Halt(13);
     };
-    if is_integer_bound(index, q, x) {
+    if integer_fits(index, q, x) {
         return Moved::To(x);
     }
     bind_filled(index, name, h, q, x)
@@ -100,58 +98,4 @@ pub fn bind_through(index: &Index, name: u64, h: &[u64], e: u8, q: u8, w: u64) -
         }
         Moved::Halt(k) => Moved::Halt(k),
     }
-}
-
-// A filled cell holds a record of the owner's type; owner 0 is none.
-fn is_record_of(h: &[u64], owner: u8, w: u64) -> bool
-    ensures { OwnRecord h.now owner w result }
-{
-    let head = read(h, name_of(w) as usize);
-    (tag_of(w) == 2) & (tag_of(head) == 4) & (2 <= owner) & (kind_in(head) == owner)
-}
-
-// The word of a filled cell, raised to QT inner: a record of the owner's type gets inner's rights, another value is bound to inner. ?R is never amplified.
-pub fn raise_filled(index: &Index, name: u64, h: &[u64], owner: u8, inner: u8, w: u64) -> Moved
-    ensures { Raises (qual_in index.now) h.now owner (qual_in index.now inner) (type_in index.now name inner) w result }
-{
-    if is_record_of(h, owner, w) & is_amplified(index, owner, inner) {
-        return Moved::To(object_word(name_of(w), rights_as(index, name, inner)));
-    }
-    bind_filled(index, name, h, inner, w)
-}
-
-// Actual j of a call of the procedure whose frame has scope c: bound to need, then raised to inner, which changes nothing where inner is need.
-pub fn actual_word(s: &[u8], index: &Index, h: &[u64], c: Scope, j: u8, w: u64) -> Moved
-    requires { Ready s.now index.now }
-    ensures { BindsActual s.now h.now c j w result }
-{
-    let need = need_of(s, c.start, j);
-    let inner = inner_of(s, c.start, j);
-    match bind_word(index, c.name, h, need, w) {
-        Moved::To(x) => {
-            if need == inner {
-                return Moved::To(x);
-            }
-            raise_filled(index, c.name, h, field(s, c.head, 2), inner, x)
-        }
-        Moved::Halt(k) => Moved::Halt(k),
-    }
-}
-
-// The value that a return from the frame of scope c hands over, bound to the result; 18 where there is none.
-pub fn result_word(s: &[u8], index: &Index, h: &[u64], c: Scope, w: u64) -> Moved
-    requires { Ready s.now index.now }
-    ensures { BindsResult s.now h.now c w result }
-{
-    let Cell::Filled(x) = cell_of(w) else {
-        return Moved::Halt(13);
-    };
-    let result = field(s, c.head, 5);
-    if result == 255 {
-        return Moved::Halt(18);
-    }
-    if is_integer_bound(index, result, x) {
-        return Moved::To(x);
-    }
-    bind_filled(index, c.name, h, result, x)
 }

@@ -12,8 +12,8 @@ ghost use Rattle.settling.specs.Settles.{callee_as, BoundOf};
 use index::Index;
 use index::procedures::Scope;
 use order::{movement, require};
+use places::{field, inner_of, need_of};
 use settling::{Settled, settled_by};
-use sheet::fields::{field, inner_of, need_of};
 
 // A return of variable a in the scope of a procedure, p.
 pub fn return_rule(s: &[u8], index: &Index, p: Scope, a: u8) -> u8

@@ -1,6 +1,6 @@
 -- By computation alone.
 use mathlib.Core.Path.{refl}
-use Rattle.cases.specs.Refused.{array_put, ArrayPut, integer_sized, IntegerSized, record_sized, RecordSized, array_opened, ArrayOpened, stranger_opened, StrangerOpened, nothing_kept, NothingKept, stored_unlicensed, StoredUnlicensed, two_settlings, TwoSettlings, short_settling, ShortSettling, storing_reader, StoringReader}
+use Rattle.cases.specs.Refused.{array_put, ArrayPut, integer_sized, IntegerSized, record_sized, RecordSized, array_opened, ArrayOpened, stranger_opened, StrangerOpened, nothing_kept, NothingKept, stored_unlicensed, StoredUnlicensed, two_settlings, TwoSettlings, short_settling, ShortSettling, storing_reader, StoringReader, open_let_out, OpenLetOut, open_needed, OpenNeeded, falsely_raised, FalselyRaised}
 use Rattle.cases.proofs.Computing.{computing}
 
 pub array_put_sticks : ArrayPut
@@ -42,3 +42,15 @@ short_settling_stops = record { well_formed = refl; refused = refl; on_plain = r
 pub storing_reader_stops : StoringReader
 unfolding computing storing_reader
 storing_reader_stops = record { well_formed = refl; refused = refl; on_plain = refl; on_watched = refl }
+
+pub open_let_out_refused : OpenLetOut
+unfolding computing open_let_out
+open_let_out_refused = record { well_formed = refl; refused = refl; on_plain = refl; on_watched = refl }
+
+pub open_needed_refused : OpenNeeded
+unfolding computing open_needed
+open_needed_refused = record { well_formed = refl; refused = refl; on_plain = refl; on_watched = refl }
+
+pub falsely_raised_stops : FalselyRaised
+unfolding computing falsely_raised
+falsely_raised_stops = record { well_formed = refl; refused = refl; on_plain = refl; on_watched = refl }

@@ -3,7 +3,7 @@
 use Rattle.std.specs.Prelude.{ℕ, ◌≡◌, List, [], ◌∷◌, map}
 use Rattle.model.specs.Qualified.{array, declared}
 use Rattle.provenance.specs.Location.{variable, cell}
-use Rattle.provenance.specs.Chain.{nowhere, made_in, amplified_in, bound_in, chain}
+use Rattle.provenance.specs.Chain.{nowhere, made_in, amplified_in, moved_in, chain}
 use Rattle.sheet.specs.Meaning.{program_of}
 
 -- generated sheet 1: four links
@@ -46,11 +46,11 @@ abbrev pub Chains1 : Type 0
 Chains1 =
     map (chain (program_of sheet_1) 60 2 (2 ∷ 0 ∷ []) 40 7)
     (variable 0 0 ∷ cell 0 0 ∷ variable 0 1 ∷ []) ≡
-    (bound_in 7 (variable 1 0) (declared 2 6 ∷ declared 2 6 ∷ [])
-    (bound_in 6 (variable 1 0) (declared 2 7 ∷ [])
-    (bound_in 5 (variable 1 0) (declared 2 7 ∷ [])
+    (moved_in 7 (variable 1 0) (declared 2 6 ∷ declared 2 6 ∷ [])
+    (moved_in 6 (variable 1 0) (declared 2 7 ∷ [])
+    (moved_in 5 (variable 1 0) (declared 2 7 ∷ [])
     (made_in 3)))) ∷
-    (bound_in 4 (variable 1 0) (declared 2 2 ∷ []) (made_in 3)) ∷
+    (moved_in 4 (variable 1 0) (declared 2 2 ∷ []) (made_in 3)) ∷
     nowhere ∷
     []
 
@@ -99,8 +99,8 @@ Chains2 =
     map (chain (program_of sheet_2) 60 2 (2 ∷ 0 ∷ []) 40 16)
     (variable 1 0 ∷ variable 0 0 ∷ variable 0 3 ∷ variable 0 4 ∷ variable 0 1 ∷ []) ≡
     (amplified_in 16 2 0) ∷
-    (bound_in 14 (variable 0 0) (declared 2 6 ∷ [])
-    (bound_in 5 (variable 1 0) (declared 2 6 ∷ declared 2 6 ∷ [])
+    (moved_in 14 (variable 0 0) (declared 2 6 ∷ [])
+    (moved_in 5 (variable 1 0) (declared 2 6 ∷ declared 2 6 ∷ [])
     (made_in 2))) ∷
     (made_in 15) ∷
     (made_in 12) ∷
@@ -151,8 +151,8 @@ abbrev pub Chains3 : Type 0
 Chains3 =
     map (chain (program_of sheet_3) 60 2 (2 ∷ 0 ∷ []) 40 12)
     (variable 2 0 ∷ variable 2 1 ∷ variable 0 3 ∷ variable 1 0 ∷ variable 0 0 ∷ []) ≡
-    (bound_in 12 (variable 2 0) (declared 2 7 ∷ []) (amplified_in 10 2 0)) ∷
-    (bound_in 11 (variable 2 0) (declared 2 2 ∷ []) (amplified_in 10 2 0)) ∷
+    (moved_in 12 (variable 2 0) (declared 2 7 ∷ []) (amplified_in 10 2 0)) ∷
+    (moved_in 11 (variable 2 0) (declared 2 2 ∷ []) (amplified_in 10 2 0)) ∷
     (made_in 2) ∷
     (made_in 5) ∷
     nowhere ∷
@@ -203,13 +203,13 @@ abbrev pub Chains4 : Type 0
 Chains4 =
     map (chain (program_of sheet_4) 60 2 (2 ∷ 0 ∷ []) 40 10)
     (cell 2 0 ∷ variable 0 0 ∷ variable 0 4 ∷ variable 0 3 ∷ variable 0 1 ∷ []) ≡
-    (bound_in 7 (variable 1 0) (declared 2 2 ∷ [])
-    (bound_in 6 (variable 1 0) (declared 2 7 ∷ [])
+    (moved_in 7 (variable 1 0) (declared 2 2 ∷ [])
+    (moved_in 6 (variable 1 0) (declared 2 7 ∷ [])
     (made_in 5))) ∷
-    (bound_in 8 (variable 1 0) (declared 2 6 ∷ declared 2 6 ∷ [])
-    (bound_in 6 (variable 1 0) (declared 2 7 ∷ [])
+    (moved_in 8 (variable 1 0) (declared 2 6 ∷ declared 2 6 ∷ [])
+    (moved_in 6 (variable 1 0) (declared 2 7 ∷ [])
     (made_in 5))) ∷
-    (bound_in 10 (variable 0 3) (array 2 (declared 2 2) ∷ []) (made_in 9)) ∷
+    (moved_in 10 (variable 0 3) (array 2 (declared 2 2) ∷ []) (made_in 9)) ∷
     (made_in 9) ∷
     nowhere ∷
     []
@@ -260,14 +260,14 @@ abbrev pub Chains5 : Type 0
 Chains5 =
     map (chain (program_of sheet_5) 60 2 (2 ∷ 0 ∷ []) 40 17)
     (variable 0 0 ∷ cell 0 0 ∷ variable 0 3 ∷ variable 0 1 ∷ []) ≡
-    (bound_in 17 (cell 0 0) (declared 2 6 ∷ declared 2 6 ∷ [])
-    (bound_in 14 (variable 0 0) (declared 2 6 ∷ [])
-    (bound_in 11 (variable 1 0) (declared 2 6 ∷ declared 2 6 ∷ [])
-    (bound_in 8 (variable 1 0) (declared 2 7 ∷ [])
+    (moved_in 17 (cell 0 0) (declared 2 6 ∷ declared 2 6 ∷ [])
+    (moved_in 14 (variable 0 0) (declared 2 6 ∷ [])
+    (moved_in 11 (variable 1 0) (declared 2 6 ∷ declared 2 6 ∷ [])
+    (moved_in 8 (variable 1 0) (declared 2 7 ∷ [])
     (made_in 5))))) ∷
-    (bound_in 14 (variable 0 0) (declared 2 6 ∷ [])
-    (bound_in 11 (variable 1 0) (declared 2 6 ∷ declared 2 6 ∷ [])
-    (bound_in 8 (variable 1 0) (declared 2 7 ∷ [])
+    (moved_in 14 (variable 0 0) (declared 2 6 ∷ [])
+    (moved_in 11 (variable 1 0) (declared 2 6 ∷ declared 2 6 ∷ [])
+    (moved_in 8 (variable 1 0) (declared 2 7 ∷ [])
     (made_in 5)))) ∷
     (made_in 2) ∷
     nowhere ∷
@@ -320,16 +320,16 @@ abbrev pub Chains6 : Type 0
 Chains6 =
     map (chain (program_of sheet_6) 60 2 (2 ∷ 0 ∷ []) 40 17)
     (variable 0 2 ∷ cell 0 0 ∷ variable 0 0 ∷ variable 0 4 ∷ cell 2 0 ∷ variable 0 1 ∷ []) ≡
-    (bound_in 17 (cell 0 0) (declared 2 2 ∷ declared 2 2 ∷ [])
-    (bound_in 16 (variable 0 0) (declared 2 6 ∷ [])
-    (bound_in 13 (variable 1 0) (declared 2 6 ∷ declared 2 6 ∷ [])
+    (moved_in 17 (cell 0 0) (declared 2 2 ∷ declared 2 2 ∷ [])
+    (moved_in 16 (variable 0 0) (declared 2 6 ∷ [])
+    (moved_in 13 (variable 1 0) (declared 2 6 ∷ declared 2 6 ∷ [])
     (made_in 6)))) ∷
-    (bound_in 16 (variable 0 0) (declared 2 6 ∷ [])
-    (bound_in 13 (variable 1 0) (declared 2 6 ∷ declared 2 6 ∷ [])
+    (moved_in 16 (variable 0 0) (declared 2 6 ∷ [])
+    (moved_in 13 (variable 1 0) (declared 2 6 ∷ declared 2 6 ∷ [])
     (made_in 6))) ∷
-    (bound_in 13 (variable 1 0) (declared 2 6 ∷ declared 2 6 ∷ []) (made_in 6)) ∷
-    (bound_in 14 (variable 0 3) (array 2 (declared 2 2) ∷ []) (made_in 2)) ∷
-    (bound_in 12 (variable 1 0) (declared 2 2 ∷ []) (made_in 6)) ∷
+    (moved_in 13 (variable 1 0) (declared 2 6 ∷ declared 2 6 ∷ []) (made_in 6)) ∷
+    (moved_in 14 (variable 0 3) (array 2 (declared 2 2) ∷ []) (made_in 2)) ∷
+    (moved_in 12 (variable 1 0) (declared 2 2 ∷ []) (made_in 6)) ∷
     nowhere ∷
     []
 
@@ -380,10 +380,10 @@ abbrev pub Chains7 : Type 0
 Chains7 =
     map (chain (program_of sheet_7) 60 2 (2 ∷ 0 ∷ []) 40 11)
     (variable 2 1 ∷ cell 2 0 ∷ variable 0 3 ∷ variable 0 4 ∷ variable 1 0 ∷ variable 0 0 ∷ []) ≡
-    (bound_in 11 (cell 2 0) (declared 2 2 ∷ [])
-    (bound_in 9 (variable 2 0) (declared 2 2 ∷ [])
+    (moved_in 11 (cell 2 0) (declared 2 2 ∷ [])
+    (moved_in 9 (variable 2 0) (declared 2 2 ∷ [])
     (amplified_in 8 2 0))) ∷
-    (bound_in 9 (variable 2 0) (declared 2 2 ∷ []) (amplified_in 8 2 0)) ∷
+    (moved_in 9 (variable 2 0) (declared 2 2 ∷ []) (amplified_in 8 2 0)) ∷
     (made_in 4) ∷
     (made_in 3) ∷
     (made_in 7) ∷
@@ -437,9 +437,9 @@ abbrev pub Chains8 : Type 0
 Chains8 =
     map (chain (program_of sheet_8) 60 2 (2 ∷ 0 ∷ []) 40 5)
     (variable 1 0 ∷ variable 0 3 ∷ variable 0 0 ∷ []) ≡
-    (bound_in 5 (variable 1 0) (array 2 (declared 2 2) ∷ [])
-    (bound_in 4 (variable 1 0) (array 2 (declared 2 2) ∷ [])
-    (bound_in 3 (variable 0 3) (array 2 (declared 2 2) ∷ array 2 (declared 2 2) ∷ [])
+    (moved_in 5 (variable 1 0) (array 2 (declared 2 2) ∷ [])
+    (moved_in 4 (variable 1 0) (array 2 (declared 2 2) ∷ [])
+    (moved_in 3 (variable 0 3) (array 2 (declared 2 2) ∷ array 2 (declared 2 2) ∷ [])
     (made_in 2)))) ∷
     (made_in 2) ∷
     nowhere ∷
@@ -492,9 +492,9 @@ abbrev pub Chains9 : Type 0
 Chains9 =
     map (chain (program_of sheet_9) 60 2 (2 ∷ 0 ∷ []) 40 9)
     (variable 2 0 ∷ variable 0 3 ∷ variable 0 4 ∷ variable 1 0 ∷ variable 0 0 ∷ []) ≡
-    (bound_in 9 (variable 2 0) (declared 2 6 ∷ [])
-    (bound_in 8 (variable 2 0) (declared 2 6 ∷ [])
-    (bound_in 7 (variable 1 0) (declared 2 6 ∷ declared 2 6 ∷ [])
+    (moved_in 9 (variable 2 0) (declared 2 6 ∷ [])
+    (moved_in 8 (variable 2 0) (declared 2 6 ∷ [])
+    (moved_in 7 (variable 1 0) (declared 2 6 ∷ declared 2 6 ∷ [])
     (made_in 6)))) ∷
     (made_in 3) ∷
     (made_in 2) ∷
@@ -546,14 +546,14 @@ abbrev pub Chains10 : Type 0
 Chains10 =
     map (chain (program_of sheet_10) 60 2 (2 ∷ 0 ∷ []) 40 17)
     (variable 0 2 ∷ variable 0 0 ∷ variable 0 4 ∷ variable 0 1 ∷ []) ≡
-    (bound_in 17 (variable 1 0) (declared 2 2 ∷ declared 2 2 ∷ [])
-    (bound_in 15 (variable 0 2) (declared 2 2 ∷ declared 2 2 ∷ [])
-    (bound_in 14 (variable 0 0) (declared 2 2 ∷ [])
-    (bound_in 10 (variable 1 0) (declared 2 6 ∷ declared 2 6 ∷ [])
-    (bound_in 3 (variable 1 0) (declared 2 7 ∷ [])
+    (moved_in 17 (variable 1 0) (declared 2 2 ∷ declared 2 2 ∷ [])
+    (moved_in 15 (variable 0 2) (declared 2 2 ∷ declared 2 2 ∷ [])
+    (moved_in 14 (variable 0 0) (declared 2 2 ∷ [])
+    (moved_in 10 (variable 1 0) (declared 2 6 ∷ declared 2 6 ∷ [])
+    (moved_in 3 (variable 1 0) (declared 2 7 ∷ [])
     (made_in 2)))))) ∷
-    (bound_in 10 (variable 1 0) (declared 2 6 ∷ declared 2 6 ∷ [])
-    (bound_in 3 (variable 1 0) (declared 2 7 ∷ [])
+    (moved_in 10 (variable 1 0) (declared 2 6 ∷ declared 2 6 ∷ [])
+    (moved_in 3 (variable 1 0) (declared 2 7 ∷ [])
     (made_in 2))) ∷
     (made_in 13) ∷
     nowhere ∷
@@ -606,10 +606,10 @@ abbrev pub Chains11 : Type 0
 Chains11 =
     map (chain (program_of sheet_11) 60 2 (2 ∷ 0 ∷ []) 9 11)
     (variable 0 0 ∷ variable 0 3 ∷ variable 0 1 ∷ []) ≡
-    (bound_in 7 (variable 1 0) (declared 2 6 ∷ declared 2 6 ∷ [])
-    (bound_in 6 (variable 1 0) (declared 2 7 ∷ [])
-    (bound_in 5 (variable 1 0) (declared 2 7 ∷ [])
-    (bound_in 4 (variable 1 0) (declared 2 7 ∷ [])
+    (moved_in 7 (variable 1 0) (declared 2 6 ∷ declared 2 6 ∷ [])
+    (moved_in 6 (variable 1 0) (declared 2 7 ∷ [])
+    (moved_in 5 (variable 1 0) (declared 2 7 ∷ [])
+    (moved_in 4 (variable 1 0) (declared 2 7 ∷ [])
     (made_in 3))))) ∷
     (made_in 9) ∷
     nowhere ∷
@@ -662,10 +662,10 @@ abbrev pub Chains12 : Type 0
 Chains12 =
     map (chain (program_of sheet_12) 60 2 (2 ∷ 0 ∷ []) 40 18)
     (cell 0 0 ∷ variable 0 0 ∷ []) ≡
-    (bound_in 12 (variable 1 0) (declared 2 2 ∷ [])
-    (bound_in 11 (variable 1 0) (declared 2 7 ∷ [])
-    (bound_in 7 (variable 1 0) (declared 2 7 ∷ [])
-    (bound_in 6 (variable 1 0) (declared 2 7 ∷ [])
+    (moved_in 12 (variable 1 0) (declared 2 2 ∷ [])
+    (moved_in 11 (variable 1 0) (declared 2 7 ∷ [])
+    (moved_in 7 (variable 1 0) (declared 2 7 ∷ [])
+    (moved_in 6 (variable 1 0) (declared 2 7 ∷ [])
     (made_in 5))))) ∷
     nowhere ∷
     []

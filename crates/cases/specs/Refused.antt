@@ -255,3 +255,71 @@ storing_reader =
 
 abbrev pub StoringReader : Type 0
 StoringReader = Parts storing_reader 8 112 (stopped done 13 [] 0 7) (stopped wrong_kind 7 [] 0 5)
+
+-- ---- Rules 6 and 7. Open in a result or in a need is no matter of condition 3, and the machines go on alike: the open claim excludes it.
+
+-- a result has open: 6 at the PR
+unfoldable pub open_let_out : List ℕ
+open_let_out =
+    72 ∷ 68 ∷ 1 ∷ 1 ∷ 2 ∷ 2 ∷
+    84 ∷ 89 ∷ 0 ∷ 0 ∷ 255 ∷ 255 ∷ 255 ∷ 255 ∷ 255 ∷ 255 ∷ 255 ∷ 255 ∷  -- TY type 2: no slot
+    81 ∷ 84 ∷ 2 ∷ 0 ∷ 0 ∷ 255 ∷  -- QT 0: type 2{}
+    81 ∷ 84 ∷ 2 ∷ 1 ∷ 0 ∷ 255 ∷  -- QT 1: type 2{open}
+    80 ∷ 82 ∷ 0 ∷ 0 ∷ 1 ∷ 255 ∷ 2 ∷ 0 ∷
+    86 ∷ 82 ∷ 0 ∷ 255 ∷  -- VR 0: kept
+    73 ∷ 78 ∷ 16 ∷ 0 ∷ 255 ∷ 255 ∷ 1 ∷ 0 ∷  -- IN 0: kept ← procedure 1 ()
+    73 ∷ 78 ∷ 17 ∷ 255 ∷ 255 ∷ 255 ∷ 0 ∷ 0 ∷
+    80 ∷ 82 ∷ 2 ∷ 0 ∷ 1 ∷ 1 ∷ 2 ∷ 0 ∷  -- procedure 1, of type 2: a new record, with open
+    86 ∷ 82 ∷ 1 ∷ 255 ∷
+    73 ∷ 78 ∷ 13 ∷ 0 ∷ 255 ∷ 255 ∷ 0 ∷ 0 ∷
+    73 ∷ 78 ∷ 17 ∷ 0 ∷ 255 ∷ 255 ∷ 0 ∷ 0 ∷
+    []
+
+abbrev pub OpenLetOut : Type 0
+OpenLetOut = Parts open_let_out 6 58 (stopped done 4 [] 0 1) (stopped done 4 [] 0 1)
+
+-- a need has open: 6 at the VR
+unfoldable pub open_needed : List ℕ
+open_needed =
+    72 ∷ 68 ∷ 1 ∷ 1 ∷ 1 ∷ 3 ∷
+    84 ∷ 89 ∷ 0 ∷ 0 ∷ 255 ∷ 255 ∷ 255 ∷ 255 ∷ 255 ∷ 255 ∷ 255 ∷ 255 ∷  -- TY type 2: no slot
+    81 ∷ 84 ∷ 2 ∷ 1 ∷ 0 ∷ 255 ∷  -- QT 0: type 2{open}
+    80 ∷ 82 ∷ 0 ∷ 0 ∷ 0 ∷ 255 ∷ 2 ∷ 0 ∷
+    73 ∷ 78 ∷ 16 ∷ 255 ∷ 255 ∷ 255 ∷ 1 ∷ 0 ∷  -- IN 0: procedure 1 ()
+    73 ∷ 78 ∷ 17 ∷ 255 ∷ 255 ∷ 255 ∷ 0 ∷ 0 ∷
+    80 ∷ 82 ∷ 2 ∷ 0 ∷ 1 ∷ 255 ∷ 3 ∷ 0 ∷  -- procedure 1, of type 2
+    86 ∷ 82 ∷ 0 ∷ 255 ∷  -- VR 0: made
+    73 ∷ 78 ∷ 13 ∷ 0 ∷ 255 ∷ 255 ∷ 0 ∷ 0 ∷  -- IN 0: made ← new record
+    73 ∷ 78 ∷ 16 ∷ 255 ∷ 0 ∷ 255 ∷ 2 ∷ 0 ∷  -- IN 1: procedure 2 (made)
+    73 ∷ 78 ∷ 17 ∷ 255 ∷ 255 ∷ 255 ∷ 0 ∷ 0 ∷
+    80 ∷ 82 ∷ 2 ∷ 1 ∷ 1 ∷ 255 ∷ 1 ∷ 0 ∷  -- procedure 2, of type 2
+    86 ∷ 82 ∷ 0 ∷ 0 ∷  -- VR 0: needs type 2{open}
+    73 ∷ 78 ∷ 17 ∷ 255 ∷ 255 ∷ 255 ∷ 0 ∷ 0 ∷
+    []
+
+abbrev pub OpenNeeded : Type 0
+OpenNeeded = Parts open_needed 6 92 (stopped done 6 [] 0 1) (stopped done 6 [] 0 1)
+
+-- a formal has a right inside that its need has not, of a type that is not the owner's: 7 at the VR; the watched machine binds to inner and stops with 19
+unfoldable pub falsely_raised : List ℕ
+falsely_raised =
+    72 ∷ 68 ∷ 1 ∷ 1 ∷ 2 ∷ 3 ∷
+    84 ∷ 89 ∷ 1 ∷ 0 ∷ 255 ∷ 255 ∷ 255 ∷ 255 ∷ 255 ∷ 255 ∷ 255 ∷ 255 ∷  -- TY type 2: right 1 read
+    81 ∷ 84 ∷ 2 ∷ 0 ∷ 0 ∷ 255 ∷  -- QT 0: type 2{}
+    81 ∷ 84 ∷ 2 ∷ 2 ∷ 0 ∷ 255 ∷  -- QT 1: type 2{read}
+    80 ∷ 82 ∷ 0 ∷ 0 ∷ 1 ∷ 255 ∷ 3 ∷ 0 ∷
+    86 ∷ 82 ∷ 0 ∷ 255 ∷  -- VR 0: made
+    73 ∷ 78 ∷ 16 ∷ 0 ∷ 255 ∷ 255 ∷ 1 ∷ 0 ∷  -- IN 0: made ← procedure 1 ()
+    73 ∷ 78 ∷ 16 ∷ 255 ∷ 0 ∷ 255 ∷ 2 ∷ 0 ∷  -- IN 1: procedure 2 (made)
+    73 ∷ 78 ∷ 17 ∷ 255 ∷ 255 ∷ 255 ∷ 0 ∷ 0 ∷
+    80 ∷ 82 ∷ 2 ∷ 0 ∷ 1 ∷ 0 ∷ 2 ∷ 0 ∷  -- procedure 1, of type 2: a new record
+    86 ∷ 82 ∷ 0 ∷ 255 ∷
+    73 ∷ 78 ∷ 13 ∷ 0 ∷ 255 ∷ 255 ∷ 0 ∷ 0 ∷
+    73 ∷ 78 ∷ 17 ∷ 0 ∷ 255 ∷ 255 ∷ 0 ∷ 0 ∷
+    80 ∷ 82 ∷ 0 ∷ 1 ∷ 1 ∷ 255 ∷ 1 ∷ 0 ∷  -- procedure 2, of no owner
+    86 ∷ 82 ∷ 1 ∷ 0 ∷  -- VR 0: needs type 2{}, is type 2{read} inside
+    73 ∷ 78 ∷ 17 ∷ 255 ∷ 255 ∷ 255 ∷ 0 ∷ 0 ∷
+    []
+
+abbrev pub FalselyRaised : Type 0
+FalselyRaised = Parts falsely_raised 7 102 (stopped done 6 [] 0 2) (stopped missing_right 3 [] 0 1)

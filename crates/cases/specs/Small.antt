@@ -4,24 +4,24 @@ use Rattle.std.specs.Prelude.{ℕ, Bool, true, false, List, [], ◌∷◌, repli
 use Rattle.std.proofs.Math.Option.{Option, none, some}
 use Rattle.model.specs.Modes.{plain}
 use Rattle.model.specs.Qualified.{order}
-use Rattle.model.specs.Refusal.{verdict_number, verdict_place}
 use Rattle.sheet.specs.Meaning.{qual_of}
 use Rattle.checking.specs.Check.{check}
-use Rattle.run.specs.Run.{Answer, answer}
+use Rattle.verdict_line.specs.Line.{line}
+use Rattle.answers.specs.Answer.{Answer, answer}
 use Rattle.cases.specs.Sheets.{studbook, smallest}
 
 pub data Input : Type 0 where
   -- does QT i of a sheet stand ≥ QT j?
   above : (sheet : List ℕ) → (i j : ℕ) → Input
-  -- what does check say of a sheet?
+  -- what does the checking program print for a sheet?
   checked : (sheet : List ℕ) → Input
   -- what does run say of it, with this fuel and a bench of so many words, nothing to read and no report?
   ran : (sheet : List ℕ) → (fuel bench : ℕ) → Input
 
 pub data Result : Type 0 where
   yes no : Result
-  -- 0 0 is accepted
-  refused : (number place : ℕ) → Result
+  -- the bytes of the whole output
+  printed : List ℕ → Result
   stop : (number steps : ℕ) → Result
   nothing : Result
 
@@ -35,7 +35,7 @@ stop_told (some a) = stop a.reply.number a.reply.steps
 
 abbrev pub result : Input → Result
 result (above s i j) = told (order (qual_of s i) (qual_of s j))
-result (checked s) = refused (verdict_number (check s)) (verdict_place (check s))
+result (checked s) = printed (line (check s))
 result (ran s fuel bench) = stop_told (answer plain s [] fuel (replicate bench 0) [])
 
 -- K and its number, an input, and what it comes to
@@ -62,5 +62,6 @@ cases =
     K 9 (ran smallest 1 2) (stop 11 1) ∷  -- "fuel 1, bench 2: stop 11, one step"
     K 10 (ran smallest 0 2) (stop 12 0) ∷  -- "fuel 0, bench 2: 12, none"
     K 11 (ran smallest 0 1) (stop 17 0) ∷  -- "fuel 0, bench 1: 17, none"
-    K 12 (checked []) (refused 2 0) ∷  -- "empty input, whole output: refused 2 0"
+    K 12 (checked []) (printed (114 ∷ 101 ∷ 102 ∷ 117 ∷ 115 ∷ 101 ∷ 100 ∷ 32 ∷ 50 ∷ 32 ∷ 48 ∷ 10 ∷ [])) ∷  -- "empty input, whole output: `refused 2 0`"
+    K 12 (checked smallest) (printed (97 ∷ 99 ∷ 99 ∷ 101 ∷ 112 ∷ 116 ∷ 101 ∷ 100 ∷ 32 ∷ 48 ∷ 32 ∷ 48 ∷ 10 ∷ [])) ∷  -- "An accepted sheet: `accepted 0 0`"
     []

@@ -1,29 +1,10 @@
 // Reads a sheet on standard input and writes a word, a number and a place. What is no input read to its end gets no verdict.
-mod calls;
-mod input;
 mod output;
 
-ghost use Rattle.std.specs.Prelude.{◌≡◌, length, take};
-ghost use Rattle.io.specs.Counts.{IsPrefixLen};
-ghost use Rattle.checker.specs.Input.{Held};
-ghost use Rattle.checker.specs.Said.{said};
-
-use input::{Input, read_input};
+use checked_input::put_said;
 use output::write_line;
-use verdict_line::{LINE_BYTES, put_line};
-
-// The line of the verdict on the bytes read, where they are the whole input; otherwise nothing.
-fn put_said(buffer: &[u8], input: Input, line: &mut [u8; LINE_BYTES]) -> usize
-    requires { Held 0 (length buffer.now) input }
-    ensures prefix_len { IsPrefixLen result line.new }
-    ensures line_after { take result line.new ≡ said buffer.now input }
-{
-    match input {
-        Input::Whole(n) => put_line(checking::check(&buffer[..n]), line),
-        Input::Partial(_) => 0,
-        Input::Unread => 0,
-    }
-}
+use standard_input::input::read_input;
+use verdict_line::LINE_BYTES;
 
 // A byte more than the longest sheet has: what fills it is refused whatever follows.
 fn answer() {

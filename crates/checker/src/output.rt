@@ -1,6 +1,6 @@
 // Standard output, to which one line is written.
-use crate::calls::{Answer, meant};
 use pause::pause;
+use standard_input::calls::{Answer, meant};
 
 fn cut_short() {
     io::write_all(

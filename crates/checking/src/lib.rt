@@ -5,7 +5,7 @@ ghost use Rattle.checking.specs.Check as def;
 
 use access::passes::access;
 use index::Index;
-use index::make::indexed;
+use indexing::indexed;
 use model::Verdict;
 use well_formed::well_formed;
 

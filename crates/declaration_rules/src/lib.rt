@@ -12,9 +12,9 @@ ghost use Rattle.index.specs.Indexed.{Ready};
 use index::Index;
 use index::types::{element_of, rights_of};
 use order::{equal, is_amplified, require};
+use places::{field, inner_of, need_of};
 use rights::has_right;
 use sheet::bytes::byte;
-use sheet::fields::{field, inner_of, need_of};
 
 // A qualified type without open.
 fn is_closed(index: &Index, j: u8) -> bool

@@ -3,3 +3,4 @@ pub mod Misplaced
 pub mod Procedures
 pub mod WellFormed
 pub mod Numbers
+pub mod EditionOne

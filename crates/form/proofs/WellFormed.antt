@@ -19,7 +19,7 @@ use Rattle.model.proofs.Verdicts.{left_accepted, right_accepted, each_accepted, 
 use Rattle.sheet.specs.Layout.{ty_mark, qt_mark, vr_mark, in_mark, qt_size, most_named, edition_in, types_of, quals_of, procedures_of, type_at, named_of, slots_of, slot_of, qual_at, base_of, rights_field, element_field, owner_at, formals_at, variables_field, result_at, instructions_at, bound_base_at, least_at, is_bounded, variable_at, inner_at, need_at, code_at, k_at, procedure_at, start_at, instruction_at}
 use Rattle.sheet.specs.Instructions.{Line, table, line_in, line_of}
 use Rattle.sheet.specs.Decode.{unlisted, operation_by, decode, fields_at, operation_at}
-use Rattle.sheet.specs.declared.decode.Fields.{Fields}
+use Rattle.sheet.specs.declared.fields.Fields.{Fields}
 use Rattle.sheet.specs.Meaning.{slot_in_sheet, inner_in, need_in, result_in, bound_in_sheet}
 use Rattle.sheet.proofs.Instructions.{by_line}
 use Rattle.index.specs.Indexed.{Indexed, Ready}

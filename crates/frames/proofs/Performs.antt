@@ -93,16 +93,14 @@ placed {c = c} {r = r} {p} S =
     let starts : start_of r.procedure ≡ start_at s p = rw (S.first, S.variables, S.running.variables) (omega arith) in
     record { bound = S.bound; start = starts; place = rw (starts, S.bound) (omega arith) }
 
--- the running procedure is one of the sheet's, the registers have its word, and its frame's set is what is read of the words
+-- the registers have the running procedure's word
 pub record Running {m : Mode} (s words : List ℕ) (r : Registers) (v : View m) : Type 0 where
-  pub known : v.procedure < procedures_of s
   pub placed_at : PlacedWord s v.procedure r.procedure
-  pub set_is : (z : SettledSet m) → SetIn m words r z → z ≡ v.set_held
 
 pub runs : (m : Mode) (c : Given) (s words before : List ℕ) (r : Registers) (t : State m) → c.sheet ≡ s → StandsFor m c words before r t
     → Running s words r (view (length words) (length before) t)
 runs m c s words before r (state (frame p i z vs) fs os input put) q S =
-    record { known = rw q at S.running.procedure; placed_at = rw q at (placed S); set_is = λ y Z. Z c p i z vs fs os input put before S }
+    record { placed_at = rw q at (placed S) }
 
 -- what is seen, by the sheet's map of element numbers
 pub sees : (m : Mode) (c : Given) (s words before : List ℕ) (r : Registers) (t : State m) → c.sheet ≡ s → StandsFor m c words before r t

@@ -1,6 +1,5 @@
--- What it is to copy words, to open a frame, to find the one that waits and to keep a word in it; the last three in either machine: in each the words
--- stand for the state with it.
-use Rattle.std.specs.Prelude.{ℕ, suc, pred, ◌+◌, ◌-◌, ◌<◌, ◌≡◌, Bool, true, false, List, ◌∷◌, ◌++◌, map, get_or, take, drop, set, replicate}
+-- What it is to open a frame, to find the one that waits and to keep a word in it, in either machine: the words stand for the state with it.
+use Rattle.std.specs.Prelude.{ℕ, suc, pred, ◌+◌, ◌-◌, ◌<◌, ◌≡◌, List, ◌∷◌, ◌++◌, map, take, drop, set, replicate}
 use Rattle.model.specs.Modes.{Mode, SettledSet, settled_set}
 use Rattle.model.specs.Machine.{Cell, empty, Object, Frame, frame}
 use Rattle.model.specs.declared.Operation.TheVariants.{Call}
@@ -12,15 +11,6 @@ use Rattle.index.specs.Indexed.{ProcedureWord}
 use Rattle.writers.specs.declared.Registers.{Registers}
 use Rattle.writers.specs.Memory.{Given, kept_byte, variables_in, slots, Stands}
 use Rattle.frames.specs.Fetch.{place_in}
-
--- the words with n of them copied to another place
-abbrev pub copied : (words : List ℕ) → (from to n : ℕ) → List ℕ
-copied words from to n = take to words ++ (take n (drop from words) ++ drop (to + n) words)
-
--- n words were copied and none of them is blank; or those before the first that is
-abbrev pub Copies : (words words' : List ℕ) → (from to n : ℕ) → Bool → Type 0
-Copies words words' from to n true = (words' ≡ copied words from to n) × ((j : ℕ) → j < n → get_or words (from + j) 0 ≡ 0 → ⊥)
-Copies words words' from to n false = (j : ℕ) × (j < n) × (words' ≡ copied words from to j) × (get_or words (from + j) 0 ≡ 0)
 
 -- what a call of procedure k with variables from b on, which keeps variable a, leans on: the instruction of the sheet that the registers name, a
 -- procedure of it, and variables that the running frame has

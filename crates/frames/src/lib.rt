@@ -1,19 +1,13 @@
-// Frames: opened by a call below the running one, given back by a return.
-ghost use Rattle.std.specs.Prelude.{◌≡◌, List, ℕ, ◌+◌, ◌-◌, ◌≤◌, ◌<◌, length, drop};
+// Frames: opened below the running one, and the one that waits found again and given what its call keeps.
+ghost use Rattle.std.specs.Prelude.{◌≡◌, ℕ, ◌+◌, ◌-◌, ◌≤◌, ◌<◌, length, drop};
 ghost use Rattle.model.specs.Qualified.{Qual};
-ghost use Rattle.model.specs.Modes.{Mode, plain, watched, settled_set};
-ghost use Rattle.model.specs.declared.Operation.TheVariants.{Call, Return};
+ghost use Rattle.model.specs.Modes.{Mode, watched, settled_set};
 ghost use Rattle.words.specs.Word.{back, slot_in};
 ghost use Rattle.writers.specs.Memory.{Sane, variables_in};
-ghost use Rattle.frames.specs.Performs.{Loaded, PerformsInside};
-ghost use Rattle.frames.specs.Frames.{Copies, Callable, Opened, Waits, KeptIn, SetIn, Keeps};
+ghost use Rattle.frames.specs.Frames.{Opened, Waits, KeptIn, SetIn, Keeps};
 
-use index::Index;
-use index::procedures::procedure_in;
-use words::{
-    back_kept, back_next, back_word, clear, formals_in, low_of, read, variables_in, write,
-};
-use writers::{Registers, Stepped, frame_end};
+use words::{back_kept, back_next, back_word, clear, low_of, read, variables_in, write};
+use writers::{Registers, frame_end};
 
 // The sheet from a procedure's first instruction on; nothing past its end.
 pub fn instructions_of(s: &[u8], first: usize) -> &[u8]
@@ -24,24 +18,6 @@ pub fn instructions_of(s: &[u8], first: usize) -> &[u8]
         return &s[len..len];
     }
     &s[first..len]
-}
-
-// n filled words are copied to a place below; false where one is blank.
-fn copy_filled(memory: &mut [u64], from: usize, to: usize, n: usize) -> bool
-    requires n_bound { (to + n ≤ from) × (to + n ≤ length memory.old) }
-    requires n_in_bounds { n ≤ length memory.old - from }
-    ensures { Copies memory.old memory.new from to n result }
-{
-    let mut j = 0;
-    while j < n {
-        let w = memory[from + j];
-        if w == 0 {
-            return false;
-        }
-        memory[to + j] = w;
-        j += 1;
-    }
-    true
 }
 
 // Where the running frame goes back, which waits behind a call that keeps variable a, for a frame with a set.
@@ -76,35 +52,6 @@ pub fn open(memory: &mut [u64], r: Registers, a: u8, w: u64, set: u32, v: usize,
         put: r.put,
         steps: r.steps,
     }
-}
-
-// A call of procedure k with variables from b on, which keeps variable a: 17, then 13 for a blank actual. It reads the index alone; the sheet is there for
-// the contract.
-pub fn call(
-    s: &[u8],
-    index: &Index,
-    memory: &mut [u64],
-    r: Registers,
-    a: u8,
-    b: u8,
-    k: u16,
-) -> Stepped
-    requires loaded { Loaded s.now index.now }
-    requires sane { Sane (length memory.old) r }
-    requires callable { Callable s.now r a b k }
-    ensures { PerformsInside plain s.now memory.old memory.new r result (Call a b k) }
-{
-    let w = procedure_in(index, k as usize);
-    let f = formals_in(w);
-    let v = variables_in(w) as usize;
-    let base = r.base;
-    if base - r.used < v + 2 {
-        return Stepped::Halt(17);
-    }
-    if copy_filled(memory, base + (b as usize), base - (v + 2), f as usize) {
-        return Stepped::Enter(open(memory, r, a, w, 0, v, f));
-    }
-    Stepped::Halt(13)
 }
 
 // The registers of the frame that waits, where there is one.
@@ -153,27 +100,4 @@ pub fn keep(memory: &mut [u64], b: Registers, a: u8, w: u64)
     if a < variables_in(b.procedure) {
         write(memory, b.base + (a as usize), w);
     }
-}
-
-// A return of variable a; 255 is none. Where the frame that waits keeps what is not there the definition is stuck.
-pub fn give_back(memory: &mut [u64], r: Registers, a: u8) -> Stepped
-    requires { Sane (length memory.old) r }
-    ensures { (s : List ℕ) → PerformsInside plain s memory.old memory.new r result (Return a) }
-{
-    let base = r.base;
-    let end = frame_end(r);
-    let w = read(&memory[base..end], a as usize);
-    if (w == 0) & (a != 255) {
-        return Stepped::Halt(13);
-    }
-    if memory.len() <= end + 2 {
-        return Stepped::Done;
-    }
-    let back = waiting(memory, r);
-    let kept = kept_in(memory, r);
-    if kept == 255 {
-        return Stepped::Enter(back);
-    }
-    keep(memory, back, kept, w);
-    Stepped::Enter(back)
 }

@@ -1,14 +1,11 @@
 // What the caller's host, written in C, calls: numbers and slices only.
 ghost use Rattle.std.specs.Prelude.{◌≡◌, set};
-ghost use Rattle.std.proofs.Math.Option.{some};
 ghost use Rattle.model.specs.Modes.{plain};
 ghost use Rattle.model.specs.Refusal.{verdict_number, verdict_place};
 ghost use Rattle.checking.specs.Check.{check};
-ghost use Rattle.run.specs.Run.{answer};
-ghost use Rattle.replies.specs.Words.{returned, to_c};
+ghost use Rattle.replies.specs.Words.{SaidToC};
 
-use model::Verdict;
-use replies::{put_at, put_reply};
+use replies::{put_reply, put_verdict};
 
 // The number of the refusal, 0 where the sheet is accepted; its place goes to the first word of the reply, where there is one.
 #[unsafe(no_mangle)]
@@ -16,16 +13,8 @@ pub extern "C" fn wn_check(sheet: &[u8], reply: &mut [u64]) -> u64
     ensures value { result ≡ verdict_number (check sheet.now) }
     ensures reply_after { reply.new ≡ set reply.old 0 (verdict_place (check sheet.now)) }
 {
-    match checking::check(sheet) {
-        Verdict::Accepted => {
-            put_at(reply, 0, 0);
-            0
-        }
-        Verdict::Refused(number, place) => {
-            put_at(reply, 0, place as u64);
-            number as u64
-        }
-    }
+    let v = checking::check(sheet);
+    put_verdict(reply, v)
 }
 
 // Runs a sheet on the plain machine: the number; the reply has the rest.
@@ -38,9 +27,8 @@ pub extern "C" fn wn_run(
     report: &mut [u32],
     reply: &mut [u64],
 ) -> u64
-    ensures { to_c reply.old (answer plain sheet.now reads.now fuel bench.old report.old) ≡ some (returned result reply.new bench.new report.new) }
+    ensures { SaidToC plain sheet reads fuel bench report reply result }
 {
     let r = run::run(sheet, reads, fuel, bench, report);
-    put_reply(reply, r);
-    r.number
+    put_reply(reply, r)
 }

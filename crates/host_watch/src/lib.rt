@@ -1,9 +1,6 @@
 // The watched machine for a host written in C, in a library of its own: there the flag that tells the machines apart is a constant.
-ghost use Rattle.std.specs.Prelude.{◌≡◌};
-ghost use Rattle.std.proofs.Math.Option.{some};
 ghost use Rattle.model.specs.Modes.{watched};
-ghost use Rattle.run.specs.Run.{answer};
-ghost use Rattle.replies.specs.Words.{returned, to_c};
+ghost use Rattle.replies.specs.Words.{SaidToC};
 
 use replies::put_reply;
 
@@ -17,9 +14,8 @@ pub extern "C" fn wn_watch(
     report: &mut [u32],
     reply: &mut [u64],
 ) -> u64
-    ensures { to_c reply.old (answer watched sheet.now reads.now fuel bench.old report.old) ≡ some (returned result reply.new bench.new report.new) }
+    ensures { SaidToC watched sheet reads fuel bench report reply result }
 {
     let r = run::watch(sheet, reads, fuel, bench, report);
-    put_reply(reply, r);
-    r.number
+    put_reply(reply, r)
 }

@@ -2,5 +2,4 @@ pub mod Trees
 pub mod Uses
 pub mod Reading
 pub mod Bounds
-pub mod Filling
 pub mod Ready

@@ -79,7 +79,6 @@ module _ (s t : List ℕ) (x : Indexed s t) (q : quals_of s ≤ 64) where
   unfolding qual_in qual_of
   ready p =
       record {
-        few = p;
         types = λ j. same_tree (suc j) j;
         uses_told = told_uses t all_told;
         places = λ k l. x.places k l (omega arith);

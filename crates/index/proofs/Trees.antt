@@ -197,18 +197,13 @@ module _ (t : List ℕ) where
 
   -- the number in an array's word stands for its element; one that does not fall is read as 255, which means an integer
   pub element_said : (j : ℕ) → shape_of (word_in t j) ≡ 1 → ElementIn t j (element_below (word_in t j) j)
-  element_said j b = record { means = sym (element_array j b); falls = go (element_below (word_in t j) j) (falls (word_in t j) j) }
-    where
-      go : (e : ℕ) → (e < j) ⊎ (e ≡ 255) → j ≤ e → qual_in t e ≡ integer
-      go e (inl h) k = absurd (omega arith)
-      go e (inr h) k = rw h (none_qual 255 (omega arith))
+  element_said j b = record { means = sym (element_array j b) }
 
   -- and 255 stands for the element of any other type
   pub element_unsaid : (j : ℕ) → (shape_of (word_in t j) ≡ 1 → ⊥) → ElementIn t j 255
   element_unsaid j h =
       record {
         means = none_qual 255 (omega arith) ∙ sym (element_none j h);
-        falls = λ k. none_qual 255 (omega arith);
       }
 
 -- how far the numbers of elements can fall from type j on; nothing is left where there is no such type

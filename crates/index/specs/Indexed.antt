@@ -36,7 +36,6 @@ pub record TypesFilled (s old new : List ℕ) : Type 0 where
   pub types : (j : ℕ) → j < quals_of s → j < 64 → TypeWord s j (get_or new j 0)
   pub uses_told : (j : ℕ) → j < quals_of s → j < 64 → UseTold new j (get_or new j 0)
   pub others : (k : ℕ) → quals_of s ≤ k → get_or new k 0 ≡ get_or old k 0
-  pub above : (k : ℕ) → 64 ≤ k → get_or new k 0 ≡ get_or old k 0
 
 -- the words of the procedures were, with the place where the last one ends, and none before them changed
 pub record ProceduresFilled (s old new : List ℕ) : Type 0 where
@@ -54,7 +53,6 @@ pub record Indexed (s t : List ℕ) : Type 0 where
 
 -- the index of a sheet that has no more of them than there is room for: all that stands above well-formedness leans on this alone
 pub record Ready (s t : List ℕ) : Type 0 where
-  pub few : procedures_of s ≤ 64
   pub types : (j : ℕ) → qual_in t j ≡ qual_of s j
   pub uses_told : UsesTold t
   pub places : (k : ℕ) → k ≤ procedures_of s → place_of (procedure_in t k) ≡ procedure_at s k

@@ -1,6 +1,6 @@
 -- The qualified types as the words of an index have them: rights in bits 0 to 31, the base in 32 to 39, whether it is ?R in 40, the number of the element in
 -- 41 to 48, whether it uses ?R in 49, the others 0.
-use Rattle.std.specs.Prelude.{ℕ, zero, suc, ◌+◌, ◌-◌, ◌*◌, ◌/◌, ◌%◌, ◌^◌, ◌≤◌, ◌≡◌, List, Bool, cond, eqb, ltb, leb, get_or}
+use Rattle.std.specs.Prelude.{ℕ, zero, suc, ◌+◌, ◌-◌, ◌*◌, ◌/◌, ◌%◌, ◌^◌, ◌≡◌, List, Bool, cond, eqb, ltb, leb, get_or}
 use Rattle.model.specs.Rights.{Rights}
 use Rattle.model.specs.Qualified.{Qual, integer, array, declared, generic, element}
 use Rattle.model.specs.Generic.{read, uses}
@@ -74,7 +74,6 @@ UseTold t j w = uses_of w ≡ use_in t j w
 abbrev pub UsesTold : List ℕ → Type 0
 UsesTold t = (j : ℕ) → uses_of (word_in t j) ≡ uses (qual_in t j)
 
--- a number that stands for the element of type j: it means the element, and where it is not below j, the integer type
+-- a number that stands for the element of type j
 pub record ElementIn (t : List ℕ) (j e : ℕ) : Type 0 where
   pub means : qual_in t e ≡ element (qual_in t j)
-  pub falls : j ≤ e → qual_in t e ≡ integer

@@ -10,8 +10,8 @@ ghost use Rattle.index.specs.Indexed.{PlacedWord};
 ghost use Rattle.index.specs.Scope.{bound_of_procedure, Bounded, ScopeOf};
 
 use crate::Index;
+use places::field;
 use sheet::edition::rights_at;
-use sheet::fields::field;
 use words::{bound_in, first_in, variables_in};
 
 // A procedure as types are read in it: where its PR and its VRs stand, and the word of what ?R is.

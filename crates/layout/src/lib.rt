@@ -10,6 +10,7 @@ use index::Index;
 use index::procedures::{place_in, place_of, procedure_in, start_in};
 use limits::Limits;
 use model::Verdict;
+use places::{instruction_from, type_at};
 use reader::left_after;
 use records::{
     bound_record, head_record, header, instruction_record, qual_record, type_record,
@@ -17,7 +18,6 @@ use records::{
 };
 use sheet::bytes::{byte, word};
 use sheet::edition::rights_size;
-use sheet::places::{instruction_from, type_at};
 
 // The types, in a sheet whose rights take so many bytes.
 fn types_pass(s: &[u8], size: u8, t: u8) -> Verdict

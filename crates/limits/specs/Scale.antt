@@ -6,7 +6,7 @@ use Rattle.std.proofs.Math.Option.{Option, none, some}
 use Rattle.model.specs.Rights.{within, has, none_above, open_right, array_rights}
 use Rattle.model.specs.Refusal.{all}
 use Rattle.sheet.specs.Instructions.{Operand, variable, variable_or_none, first_actual, unused, Constant, any_number, instruction_number, slot_number, procedure_number, no_number, Home, anywhere, owned, Line, line, line_of}
-use Rattle.sheet.specs.declared.decode.Fields.{Fields}
+use Rattle.sheet.specs.declared.fields.Fields.{Fields}
 use Rattle.limits.specs.declared.Limits.{Limits}
 
 -- f holds of each number below n

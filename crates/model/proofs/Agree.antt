@@ -15,7 +15,7 @@ use Rattle.model.proofs.Rights.{within_refl}
 use Rattle.model.specs.Outcome.{Stop, Res, ok, stop, ◌>>=◌, ◌>>◌, ensure, found}
 use Rattle.model.specs.Modes.{plain, watched, Kind, demand, licence, is_of, fits, bind, bind_element, bind_result, settle_set, is_record_of, raise_if, raise}
 use Rattle.model.specs.Machine.{Value, word, object, Cell, Head, array_head, record_head, kind_of_head, kind_at, View, held, as_integer, array_head_of, record_head_of, array_at, record_at, slot_there}
-use Rattle.model.specs.Claim.{RegularStop}
+use Rattle.model.specs.Condition3.{RegularStop}
 use Rattle.model.proofs.Read.{Moves}
 use Rattle.model.proofs.Allowed.{Owned, Raised, amplified, unchanged}
 use Rattle.model.proofs.Fits.{fits_move, amplified_owned, not_object, array_element, array_not_integer, array_not_record, owned_type, owned_not_integer, owned_not_array, owned_kind, owned_record, new_record_fits}

@@ -5,14 +5,16 @@ use mathlib.Core.Bool.{Bool, true, false, false≢true, not, ◌&&◌, ◌||◌,
 use mathlib.Core.List.{List, [], ◌∷◌, ◌++◌}
 use mathlib.Core.Option.{Option, none, some}
 use native.Mathlib.Nat.{zero-add}
+use native.Mathlib.Omega.{arith}
 use lib.Dec.{eqb, leb, ltb}
 use borrow.Author.Tests.{lt-ltb, leb-true, eqb-true, not_true}
 use Rattle.model.specs.Rights.{Rights, within, has, none_above, record_rights, open_right, fetch_right, store_right, size_right, array_rights}
-use Rattle.model.specs.Qualified.{Qual, base, rights, element, is_integer, is_array, is_generic, same, alike, covers}
+use Rattle.model.specs.Qualified.{Qual, integer, array, declared, generic, base, rights, element, is_integer, is_array, is_generic, same, alike, covers}
 use Rattle.model.specs.Generic.{Bound, least, own, instance, read, read_result, uses, settled, some_uses, is_settled, is_enough}
 use Rattle.model.specs.Program.{Program, Record, type_record, qual_record, procedure_record, variable_record, instruction_record}
 use Rattle.model.specs.Refusal.{unsettled, short_set, type_mismatch, insufficient_rights, open_exposed, false_raise, Test, test, Tests, tests, failure, verdict, span}
-use Rattle.model.specs.Rules.{optional, moves, owned_by, integer_rule, integers_rule, new_array_rule, new_record_rule, fetch_rule, store_rule, size_rule, get_slot_rule, set_slot_rule, return_rule, keeps, kept_rule, closed, closed_result, amplifies, agrees, formal_rule, local_rule, declaration_rule, optional_variable, called, found_by, settling_rule, passing_rule, call_rule, closed_rule, typed, typed_slot, rule, type_rules, qual_rules, variable_rule, variable_rules, instruction_rules, head_rules, procedure_rules, access_rules}
+use Rattle.model.specs.Rules.{optional, moves, owned_by, integer_rule, integers_rule, new_array_rule, new_record_rule, fetch_rule, store_rule, size_rule, get_slot_rule, set_slot_rule, return_rule, keeps, kept_rule, closed, closed_result, amplifies, agrees, formal_rule, local_rule, declaration_rule, optional_variable, called, found_by, settling_rule, passing_rule, call_rule, closed_rule, variable_type, slot_type, rule, type_rules, qual_rules, variable_rule, variable_rules, instruction_rules, head_rules, procedure_rules, access_rules}
+use Rattle.model.specs.Condition3.{Closed, OpenDeclared}
 use Rattle.model.specs.declared.Verdict.TheVariants.{Accepted}
 use Rattle.model.specs.declared.Operation.{Operation}
 use Rattle.model.specs.declared.Operation.TheVariants.{Set, Add, Subtract, Less, JumpZero, Bind, Take, Put, NewArray, Fetch, Store, Size, NewRecord, GetSlot, SetSlot, Call, Return}
@@ -32,10 +34,6 @@ pub record Owned (o : ℕ) (q : Qual) : Type 0 where
 pub data Raised (o : ℕ) (need inner : Qual) : Type 0 where
   amplified : amplifies o need ≡ true → amplifies o inner ≡ true → Raised o need inner
   unchanged : need ≡ inner → Raised o need inner
-
--- open is not among the rights
-abbrev pub Closed : Qual → Type 0
-Closed q = has open_right (rights q) ≡ false
 
 -- a kept variable and the result of the procedure called
 abbrev pub Kept : (ℕ → Qual) → Option ℕ → Option Qual → Type 0
@@ -216,7 +214,7 @@ module _ (y : Bound) (z : Rights) (good : Good y z) where
 module _ (g : Program) (p k : ℕ) (z : Rights) (good : Good (g.bound p) z) (b : ℕ) where
   -- a type of procedure k, as the rule of the call reads it, and as the frame that the call opens does
   abbrev settled_to : Qual
-  settled_to = settled (g.bound k) (found_by (typed g p) (called g k) b)
+  settled_to = settled (g.bound k) (found_by (variable_type g p) (called g k) b)
 
   abbrev passed : Qual → Qual
   passed q = read settled_to (read (own (g.bound k)) q)
@@ -225,11 +223,11 @@ module _ (g : Program) (p k : ℕ) (z : Rights) (good : Good (g.bound p) z) (b :
   opened = in_set g k (set_by g (typed_in g p z) b k)
 
   passed_ruled : (q : Qual) → read (own (g.bound p)) (passed q) ≡ passed q
-  unfolding typed
+  unfolding variable_type
   passed_ruled = call_check (g.bound p) z good (g.bound k) (g.formals k) (g.need k) (λ j. g.inner p (b + j))
 
   passed_framed : (q : Qual) → read (instance (g.bound p) z) (passed q) ≡ read opened q
-  unfolding typed
+  unfolding variable_type
   passed_framed = call_frame (g.bound p) z good (g.bound k) (g.formals k) (g.need k) (λ j. g.inner p (b + j))
 
   into_called : (q d : Qual) → failure (moves (read (own (g.bound p)) q) (passed d)) ≡ 0 → Moves (read (instance (g.bound p) z) q) (read opened d)
@@ -239,25 +237,25 @@ module _ (g : Program) (p k : ℕ) (z : Rights) (good : Good (g.bound p) z) (b :
   from_called q d h = rw (← passed_framed q) (moved (g.bound p) z good (passed q) d (rw (passed_ruled q) h))
 
   kept_fact :
-      (a : Option ℕ) (r : Option Qual) → keeps (optional_variable (typed g p) a) (read_result (own (g.bound k)) r) ≡ true →
-      failure (kept_rule (optional_variable (typed g p) a) (read_result settled_to (read_result (own (g.bound k)) r))) ≡ 0 →
+      (a : Option ℕ) (r : Option Qual) → keeps (optional_variable (variable_type g p) a) (read_result (own (g.bound k)) r) ≡ true →
+      failure (kept_rule (optional_variable (variable_type g p) a) (read_result settled_to (read_result (own (g.bound k)) r))) ≡ 0 →
       Kept (typed_in g p z) a (read_result opened r)
-  unfolding keeps kept_rule optional_variable read_result typed
+  unfolding keeps kept_rule optional_variable read_result variable_type
   kept_fact none none h m = tt
   kept_fact none (some r) h m = tt
   kept_fact (some a) none h m = false≢true h
   kept_fact (some a) (some r) h m = from_called r (g.inner p a) m
 
-  call_fact : has open_right (least (g.bound k)) ≡ false → (a : ℕ) → failure (call_rule (typed g p) (called g k) a b) ≡ 0 → Called g (typed_in g p z) a b k
-  unfolding call_rule settling_rule passing_rule typed
+  call_fact : has open_right (least (g.bound k)) ≡ false → (a : ℕ) → failure (call_rule (variable_type g p) (called g k) a b) ≡ 0 → Called g (typed_in g p z) a b k
+  unfolding call_rule settling_rule passing_rule variable_type
   call_fact c a h =
-      let found = found_by (typed g p) (called g k) b in
-      let actual : ℕ → List Test = λ j. moves (typed g p (b + j)) (passed (g.need k j)) in
+      let found = found_by (variable_type g p) (called g k) b in
+      let actual : ℕ → List Test = λ j. moves (variable_type g p (b + j)) (passed (g.need k j)) in
       let result = read_result (own (g.bound k)) (g.result k) in
-      let kept = kept_rule (optional_variable (typed g p) (optional a)) (read_result settled_to result) in
+      let kept = kept_rule (optional_variable (variable_type g p) (optional a)) (read_result settled_to result) in
       let x = passed_test unsettled (is_settled (g.bound k) (some_uses (called g k).need 0 (g.formals k)) found) _ h in
       let y = passed_test short_set (is_enough (g.bound k) found) _ x.1 in
-      let w = passed_test type_mismatch (keeps (optional_variable (typed g p) (optional a)) result) _ y.1 in
+      let w = passed_test type_mismatch (keeps (optional_variable (variable_type g p) (optional a)) result) _ y.1 in
       let v = sym (failure_append (span actual 0 (g.formals k)) kept) ∙ w.1 in
       let enough = is_enough_frame (g.bound p) z good (g.bound k) (g.formals k) (g.need k) (λ j. g.inner p (b + j)) y.0 in
       record {
@@ -273,7 +271,7 @@ module _ (g : Program) (f : Formed g) (p i : ℕ) (lp : p < g.procedures) (z : R
   shut = f.bound_closed p lp
 
   rule_fact : (op : Operation) → FormedAt g p i op → failure (rule g p op) ≡ 0 → Allowed g p z op
-  unfolding rule typed typed_slot
+  unfolding rule variable_type slot_type
   rule_fact (Set a k) l h = one_fact (g.bound p) z good (g.inner p a) h
   rule_fact (Add a b c) l h = three_fact (g.bound p) z good (g.inner p a) (g.inner p b) (g.inner p c) h
   rule_fact (Subtract a b c) l h = three_fact (g.bound p) z good (g.inner p a) (g.inner p b) (g.inner p c) h
@@ -308,12 +306,19 @@ closed_fact : (q : Qual) → closed q ≡ true → Closed q
 unfolding closed
 closed_fact q h = not_true (has open_right (rights q)) h
 
-inner_fact : (o : ℕ) (inner : Qual) → (amplifies o inner || closed inner) ≡ true → has open_right (rights inner) ≡ true → amplifies o inner ≡ true
-inner_fact o inner h k = go (amplifies o inner) h
+amplified_base : (o : ℕ) (q : Qual) → amplifies o q ≡ true → (2 ≤ o) × (base q ≡ o)
+unfolding amplifies base
+amplified_base o integer h = absurd (false≢true h)
+amplified_base o (array r e) h = absurd (false≢true h)
+amplified_base o (declared t r) h = let x = both_true (leb 2 o) (eqb t o) h in (leb-true 2 o x.0, eqb-true t o x.1)
+amplified_base o (generic t l) h = absurd (false≢true h)
+
+inner_fact : (o : ℕ) (inner : Qual) → (amplifies o inner || closed inner) ≡ true → has open_right (rights inner) ≡ true → (2 ≤ o) × (base inner ≡ o)
+inner_fact o inner h k = go (amplifies o inner) refl h
   where
-    go : (b : Bool) → (b || closed inner) ≡ true → b ≡ true
-    go true x = refl
-    go false x = absurd (false≢true (sym (closed_fact inner x) ∙ k))
+    go : (b : Bool) → amplifies o inner ≡ b → (b || closed inner) ≡ true → (2 ≤ o) × (base inner ≡ o)
+    go true e x = amplified_base o inner e
+    go false e x = absurd (false≢true (sym (closed_fact inner x) ∙ k))
 
 -- rules 6 and 7 of a variable: 7 for a formal alone
 formal_fact : (o : ℕ) (need inner : Qual) → failure (formal_rule o need inner) ≡ 0 → (closed need ≡ true) × ((amplifies o inner || closed inner) ≡ true) × (agrees o need inner ≡ true)
@@ -344,12 +349,8 @@ pub record Facts (g : Program) : Type 0 where
   -- in every frame of the procedure
   pub allowed : (p i : ℕ) → p < g.procedures → i < g.instructions p → (z : Rights) → Good (g.bound p) z → Allowed g p z (g.operation p i)
   pub formal : (p x : ℕ) → p < g.procedures → x < g.variables p → x < g.formals p → Raised (g.owner p) (g.need p x) (g.inner p x)
-  -- rule 6: open stands only in an inner type of the owner
-  pub variable : (p x : ℕ) → p < g.procedures → x < g.variables p → has open_right (rights (g.inner p x)) ≡ true → amplifies (g.owner p) (g.inner p x) ≡ true
-  pub need_closed : (p x : ℕ) → p < g.procedures → x < g.variables p → x < g.formals p → Closed (g.need p x)
-  pub result_closed : (p : ℕ) (q : Qual) → p < g.procedures → g.result p ≡ some q → Closed q
-  pub element_closed : (j : ℕ) → j < g.quals → Closed (element (g.qual j))
-  pub slot_closed : (t k : ℕ) → t < g.types → k < g.slots (2 + t) → Closed (g.slot (2 + t) k)
+  -- rule 6
+  pub declarations : OpenDeclared g
 
 split : (xs ys : List Tests) → verdict (xs ++ ys) ≡ Accepted → (verdict xs ≡ Accepted) × (verdict ys ≡ Accepted)
 split xs ys h =
@@ -369,14 +370,17 @@ facts at g f h =
       allowed = λ p i hp hi z good.
           rule_fact g f p i hp z good (g.operation p i) (f.operations p i hp hi) (accepted_tests (at (instruction_record p i)) _ (at_each (instruction_rules at g p) (g.instructions p) (body p hp).1 i hi));
       formal = λ p x hp hx hf. agrees_fact (g.owner p) (g.need p x) (g.inner p x) (formal_part p x hp hx hf).2;
-      variable = λ p x hp hx.
-          inner_fact (g.owner p) (g.inner p x) (open_fact (g.owner p) (g.formals p) x (g.need p x) (g.inner p x) (declaration p x hp hx));
-      need_closed = λ p x hp hx hf. closed_fact (g.need p x) (formal_part p x hp hx hf).0;
-      result_closed = λ p q hp e. result_fact (g.result p) q (one_test (at (procedure_record p)) _ (parts p hp).0) e;
-      element_closed = λ j hj. closed_fact (element (g.qual j)) (one_test (at (qual_record j)) _ (at_each (qual_rules at g) g.quals rest.0 j hj));
-      slot_closed = λ t k ht hk.
-          let z : failure (closed_rule (g.slot (2 + t) k)) ≡ 0 = rw zero-add at (passed_span (λ (k : ℕ). closed_rule (g.slot (2 + t) k)) (g.slots (2 + t)) 0 (slots t ht) k hk) in
-          closed_fact (g.slot (2 + t) k) (passed_test open_exposed (closed (g.slot (2 + t) k)) [] z).0;
+      declarations =
+          record {
+            needs = λ p x hp hf. let l = f.formals p hp in closed_fact (g.need p x) (formal_part p x hp (omega arith) hf).0;
+            results = λ p q hp e. result_fact (g.result p) q (one_test (at (procedure_record p)) _ (parts p hp).0) e;
+            slots = λ t k ht hk.
+                let z : failure (closed_rule (g.slot (2 + t) k)) ≡ 0 = rw zero-add at (passed_span (λ (k : ℕ). closed_rule (g.slot (2 + t) k)) (g.slots (2 + t)) 0 (slots t ht) k hk) in
+                closed_fact (g.slot (2 + t) k) (passed_test open_exposed (closed (g.slot (2 + t) k)) [] z).0;
+            elements = λ j hj. closed_fact (element (g.qual j)) (one_test (at (qual_record j)) _ (at_each (qual_rules at g) g.quals rest.0 j hj));
+            inners = λ p x hp hx.
+                inner_fact (g.owner p) (g.inner p x) (open_fact (g.owner p) (g.formals p) x (g.need p x) (g.inner p x) (declaration p x hp hx));
+          };
     }
   where
     whole :

@@ -21,7 +21,7 @@ both a b p q = rw (p, q)
 
 -- ---- bases
 
-alike_base : (s q : Qual) → alike s q ≡ true → base s ≡ base q
+pub alike_base : (s q : Qual) → alike s q ≡ true → base s ≡ base q
 unfolding alike base
 alike_base integer integer h = refl
 alike_base (array r e) (array s f) h = refl
@@ -55,7 +55,7 @@ array_base (declared t r) h = absurd (false≢true h)
 array_base (generic t l) h = absurd (false≢true h)
 
 -- a declared type's number is 2 or more
-record_base : (t b : ℕ) → leb 2 t && eqb b t ≡ true → (2 ≤ t) × (b ≡ t)
+pub record_base : (t b : ℕ) → leb 2 t && eqb b t ≡ true → (2 ≤ t) × (b ≡ t)
 record_base t b h = let z = both_true (leb 2 t) (eqb b t) h in (leb-true 2 t z.0, eqb-true b t z.1)
 
 -- ---- a type that is alike

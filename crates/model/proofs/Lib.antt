@@ -7,6 +7,7 @@ pub mod Read
 pub mod Settling
 pub mod Allowed
 pub mod Fits
+pub mod Unsettled
 pub mod Relate
 pub mod Table
 pub mod Agree
@@ -24,3 +25,4 @@ pub mod Inside
 pub mod Same
 pub mod SameRules
 pub mod Numbers
+pub mod Exhibits

@@ -12,7 +12,7 @@ use Rattle.model.specs.Qualified.{Qual}
 use Rattle.model.specs.Generic.{read}
 use Rattle.model.specs.Program.{Program, Record, type_record, variable_record, instruction_record}
 use Rattle.model.specs.Refusal.{refusal_number, between, Gives, Test, test, Tests, tests, failure, refuse, verdict, span, each}
-use Rattle.model.specs.Rules.{moves, integer_rule, integers_rule, new_array_rule, new_record_rule, fetch_rule, store_rule, size_rule, get_slot_rule, set_slot_rule, return_rule, kept_rule, formal_rule, local_rule, declaration_rule, Callee, settling_rule, passing_rule, call_rule, closed_rule, typed, called, rule, type_rules, qual_rules, variable_rule, variable_rules, instruction_rules, head_rules, procedure_rules, access_rules}
+use Rattle.model.specs.Rules.{moves, integer_rule, integers_rule, new_array_rule, new_record_rule, fetch_rule, store_rule, size_rule, get_slot_rule, set_slot_rule, return_rule, kept_rule, formal_rule, local_rule, declaration_rule, Callee, settling_rule, passing_rule, call_rule, closed_rule, variable_type, called, rule, type_rules, qual_rules, variable_rule, variable_rules, instruction_rules, head_rules, procedure_rules, access_rules}
 use Rattle.model.specs.declared.Verdict.{Verdict}
 use Rattle.model.specs.declared.Operation.{Operation}
 use Rattle.model.specs.declared.Operation.TheVariants.{Set, Add, Subtract, Less, JumpZero, Bind, Take, Put, NewArray, Fetch, Store, Size, NewRecord, GetSlot, SetSlot, Call, Return}
@@ -161,7 +161,7 @@ module _ (g : Program) where
   rule_range p (NewRecord a) = refl
   rule_range p (GetSlot a b k) = refl
   rule_range p (SetSlot a b k) = refl
-  rule_range p (Call a b k) = passing_range (typed g p) (called g k) _ a b
+  rule_range p (Call a b k) = passing_range (variable_type g p) (called g k) _ a b
   rule_range p (Return a) = returns_range _ _
 
 module _ (at : Record → ℕ) (g : Program) where

@@ -2,9 +2,10 @@
 use mathlib.Core.Path.{◌≡◌, refl}
 use mathlib.Core.Bool.{Bool, true, false, ◌&&◌, cond}
 use lib.Dec.{eqb}
-use Rattle.model.specs.Rights.{has, store_right}
-use Rattle.model.specs.Qualified.{Qual, integer, array, declared, generic, same, alike, covers, order}
+use Rattle.model.specs.Rights.{within, has, store_right}
+use Rattle.model.specs.Qualified.{Qual, integer, array, declared, generic, rights, is_generic, same, alike, covers, order}
 use Rattle.model.specs.OutsideIn.{same_from_outside, order_from_outside}
+use Rattle.model.proofs.Rights.{within_refl}
 
 either_first : (a b : Bool) → a && b ≡ b && a
 either_first true true = refl
@@ -32,13 +33,22 @@ same_as_from_outside (generic t l) (array s f) = refl
 same_as_from_outside (generic t l) (declared u s) = refl
 
 pub order_as_from_outside : (a b : Qual) → order a b ≡ order_from_outside a b
-unfolding order order_from_outside alike
+unfolding order order_from_outside alike covers is_generic rights
+order_as_from_outside integer integer = within_refl 0
 order_as_from_outside (array r e) (array s f) =
     rw (same_as_from_outside e f, order_as_from_outside e f)
-    (either_first (cond (has store_right s) (same_from_outside e f) (order_from_outside e f)) (covers (array r e) (array s f)))
+    (either_first (cond (has store_right s) (same_from_outside e f) (order_from_outside e f)) (within s r))
+order_as_from_outside (declared t r) (declared u s) = refl
+order_as_from_outside (generic t l) (generic u m) = either_first (eqb t u && eqb l m) true
+order_as_from_outside (generic t l) (declared u s) = refl
+order_as_from_outside (declared t r) (generic u m) = either_first (eqb t u) false
+order_as_from_outside integer (array s f) = refl
+order_as_from_outside integer (declared u s) = refl
+order_as_from_outside integer (generic u m) = refl
 order_as_from_outside (array r e) integer = refl
 order_as_from_outside (array r e) (declared u s) = refl
 order_as_from_outside (array r e) (generic u m) = refl
-order_as_from_outside integer b = refl
-order_as_from_outside (declared t r) b = refl
-order_as_from_outside (generic t l) b = refl
+order_as_from_outside (declared t r) integer = refl
+order_as_from_outside (declared t r) (array s f) = refl
+order_as_from_outside (generic t l) integer = refl
+order_as_from_outside (generic t l) (array s f) = refl

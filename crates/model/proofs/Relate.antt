@@ -14,7 +14,7 @@ use Rattle.model.specs.Rules.{optional}
 use Rattle.model.specs.declared.Operation.TheVariants.{NewArray, NewRecord, Call}
 use Rattle.model.specs.Modes.{plain, watched, fits}
 use Rattle.model.specs.Machine.{Value, Cell, empty, filled, Object, array_of, record_of, Frame, frame, State, state, Head, cells_of, kind_at, object_units, frame_units, caller_place, Next, go, finished}
-use Rattle.model.specs.Claim.{heads}
+use Rattle.model.specs.Condition3.{heads}
 use Rattle.model.proofs.Read.{Good}
 use Rattle.model.proofs.Allowed.{Kept, in_set, typed_in}
 

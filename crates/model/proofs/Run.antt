@@ -15,7 +15,7 @@ use Rattle.model.specs.Outcome.{Stop, done, fuel_spent, memory_full, Res}
 use Rattle.model.specs.Modes.{plain, watched}
 use Rattle.model.specs.Machine.{empty, Object, State, Next}
 use Rattle.model.specs.Run.{End, stopped, stuck_at, words_put, end_in, Snapshot, snapshot, shot, finished_shot, Moment, running, over, next_moment, end_of, left_by, advance, opened, start, trace, run, state_after, written}
-use Rattle.model.specs.Claim.{heads, RegularStop, Regular, Typed, Condition3}
+use Rattle.model.specs.Condition3.{heads, RegularStop, Regular, Typed, Condition3}
 use Rattle.model.proofs.Formed.{Formed}
 use Rattle.model.proofs.Read.{Good}
 use Rattle.model.proofs.Allowed.{facts, typed_in}

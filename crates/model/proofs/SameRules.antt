@@ -11,8 +11,8 @@ use Rattle.model.specs.Program.{Program, Record, type_record, qual_record, proce
 use Rattle.model.specs.Qualified.{Qual, element}
 use Rattle.model.specs.Generic.{own, read}
 use Rattle.model.specs.Refusal.{open_exposed, Test, test, Tests, tests, refuse, verdict, span, each}
-use Rattle.model.specs.Rules.{optional, moves, closed_result, formal_rule, local_rule, declaration_rule, optional_variable, settling_rule, passing_rule, call_rule, closed_rule, typed, typed_slot, called, rule, type_rules, qual_rules, variable_rule, variable_rules, instruction_rules, head_rules, procedure_rules, access_rules}
-use Rattle.model.specs.Same.{Same, SameQuals, Alike, both_accepted, at_record}
+use Rattle.model.specs.Rules.{optional, moves, closed_result, formal_rule, local_rule, declaration_rule, optional_variable, settling_rule, passing_rule, call_rule, closed_rule, variable_type, slot_type, called, rule, type_rules, qual_rules, variable_rule, variable_rules, instruction_rules, head_rules, procedure_rules, access_rules}
+use Rattle.model.specs.Same.{Same, SameQuals, SameVerdict, both_accepted, at_record}
 use Rattle.model.specs.declared.Verdict.{Verdict}
 use Rattle.model.specs.declared.Operation.{Operation}
 use Rattle.model.specs.declared.Operation.TheVariants.{Set, Add, Subtract, Less, JumpZero, Bind, Take, Put, NewArray, Fetch, Store, Size, NewRecord, GetSlot, SetSlot, Call, Return}
@@ -27,12 +27,12 @@ module _ (at at' : Record → ℕ) where
     no_more : Matched [] []
     matched : (r : Record) {ts ts' : List Test} {more more' : List Tests} → ts ≡ ts' → Matched more more' → Matched (tests (at r) ts ∷ more) (tests (at' r) ts' ∷ more')
 
-  refuse_alike : (n : ℕ) (r : Record) {v v' : Verdict} → Alike at at' v v' → Alike at at' (refuse n (at r) v) (refuse n (at' r) v')
+  refuse_alike : (n : ℕ) (r : Record) {v v' : Verdict} → SameVerdict at at' v v' → SameVerdict at at' (refuse n (at r) v) (refuse n (at' r) v')
   unfolding refuse
   refuse_alike zero r a = a
   refuse_alike (suc n) r a = at_record (suc n) r
 
-  verdict_alike : {xs xs' : List Tests} → Matched xs xs' → Alike at at' (verdict xs) (verdict xs')
+  verdict_alike : {xs xs' : List Tests} → Matched xs xs' → SameVerdict at at' (verdict xs) (verdict xs')
   unfolding verdict
   verdict_alike no_more = both_accepted
   verdict_alike (matched r e m) = rw e (refuse_alike _ r (verdict_alike m))
@@ -60,15 +60,15 @@ module _ {g h : Program} (formed : Formed g) (operands : Operands g) (same : Sam
   module _ (p : ℕ) (l : p < g.procedures) where
     -- ---- An instruction
 
-    same_typed : (x : ℕ) → x < g.variables p → typed g p x ≡ typed h p x
-    unfolding typed
+    same_typed : (x : ℕ) → x < g.variables p → variable_type g p x ≡ variable_type h p x
+    unfolding variable_type
     same_typed x n = λ i. read (own (same.bound p l i)) (same.inner p x l n i)
 
-    same_slot : (k : ℕ) → 2 ≤ g.owner p → g.owner p < 2 + g.types → k < g.slots (g.owner p) → typed_slot g p k ≡ typed_slot h p k
-    unfolding typed_slot
+    same_slot : (k : ℕ) → 2 ≤ g.owner p → g.owner p < 2 + g.types → k < g.slots (g.owner p) → slot_type g p k ≡ slot_type h p k
+    unfolding slot_type
     same_slot k o t n = rw (same.slot (g.owner p) k o t n, same.bound p l, same.owner p l)
 
-    same_optional : (a : Option ℕ) → BelowOrNone g p a → optional_variable (typed g p) a ≡ optional_variable (typed h p) a
+    same_optional : (a : Option ℕ) → BelowOrNone g p a → optional_variable (variable_type g p) a ≡ optional_variable (variable_type h p) a
     unfolding optional_variable
     same_optional none b = refl
     same_optional (some a) b = ap some (same_typed a b)
@@ -76,10 +76,10 @@ module _ {g h : Program} (formed : Formed g) (operands : Operands g) (same : Sam
     -- where ?R of procedure k stands for the same
     same_passing :
         (a b k : ℕ) → k < g.procedures → OperandsAt g p (Call a b k) → (ρ : Qual) →
-        passing_rule (typed g p) (called g k) ρ a b ≡ passing_rule (typed h p) (called h k) ρ a b
+        passing_rule (variable_type g p) (called g k) ρ a b ≡ passing_rule (variable_type h p) (called h k) ρ a b
     unfolding passing_rule
     same_passing a b k q x ρ =
-        let actuals : each (g.formals k) (λ j. moves (typed g p (b + j)) (read ρ ((called g k).need j))) ≡ each (h.formals k) (λ j. moves (typed h p (b + j)) (read ρ ((called h k).need j))) =
+        let actuals : each (g.formals k) (λ j. moves (variable_type g p (b + j)) (read ρ ((called g k).need j))) ≡ each (h.formals k) (λ j. moves (variable_type h p (b + j)) (read ρ ((called h k).need j))) =
         same_each (same.formals k q) (λ j n. ap₂ moves (same_typed (b + j) (x.1 j n)) (ap (read ρ) (same_need same k q j n))) in
         rw (same_optional (optional a) x.0, actuals, same.bound k q, same.result k q)
 
@@ -101,7 +101,7 @@ module _ {g h : Program} (formed : Formed g) (operands : Operands g) (same : Sam
     same_rule i (GetSlot a b k) f x = rw (same_slot k f.0 x.2 f.1, same.owner p l, same_typed a x.0, same_typed b x.1)
     same_rule i (SetSlot a b k) f x = rw (same_slot k f.0 x.2 f.1, same.owner p l, same_typed a x.0, same_typed b x.1)
     same_rule i (Call a b k) f x =
-        rw (same_passing a b k f.0 x _, same_found same k f.0 (typed g p) (typed h p) b (λ j n. same_typed (b + j) (x.1 j n)), same_uses same k f.0, same.bound k f.0)
+        rw (same_passing a b k f.0 x _, same_found same k f.0 (variable_type g p) (variable_type h p) b (λ j n. same_typed (b + j) (x.1 j n)), same_uses same k f.0, same.bound k f.0)
     same_rule i (Return a) f x = rw (same_optional (optional a) x, same.bound p l, same.result p l)
 
     same_instruction : (i : ℕ) → i < g.instructions p → rule g p (g.operation p i) ≡ rule h p (h.operation p i)
@@ -129,7 +129,7 @@ module _ {g h : Program} (formed : Formed g) (operands : Operands g) (same : Sam
         (matched_each at at' (same.variables p l) (λ x n. matched (variable_record p x) (same_variable p l x n) no_more))
         (matched_each at at' (same.instructions p l) (λ i n. matched (instruction_record p i) (same_instruction p l i n) no_more)))
 
-    pub same_rules : Alike at at' (verdict (access_rules at g)) (verdict (access_rules at' h))
+    pub same_rules : SameVerdict at at' (verdict (access_rules at g)) (verdict (access_rules at' h))
     unfolding access_rules type_rules qual_rules
     same_rules =
         verdict_alike at at'

@@ -11,7 +11,7 @@ use Rattle.model.specs.Qualified.{Qual}
 use Rattle.model.specs.Program.{Program}
 use Rattle.model.specs.Modes.{plain, watched, fits}
 use Rattle.model.specs.Machine.{object, Cell, empty, filled, Object, Frame, frame, State, state, Head, head_of, cell_of, kind_of_head, object_units, frame_units, find, caller_place, first_of, view, Effect, plan, given_back, apply, step}
-use Rattle.model.specs.Claim.{heads}
+use Rattle.model.specs.Condition3.{heads}
 use Rattle.model.proofs.Allowed.{typed_in}
 use Rattle.model.proofs.Relate.{Fit, fit, Granted, CellRel, values, row_get, row_set, row_length, row_blank, row_more, ObjectRel, arrays, records, Objects, Live, Stack, bottom, waits, StateRel, states, NextRel, nexts, ends, live_up, objects_up, stack_up, objects_units, stack_units, stack_place}
 use Rattle.model.proofs.Table.{seen, objects_more, objects_update, grows_append, grows_update, found_new}

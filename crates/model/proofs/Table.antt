@@ -12,7 +12,7 @@ use Rattle.model.specs.Qualified.{Qual}
 use Rattle.model.specs.Program.{Program}
 use Rattle.model.specs.Modes.{plain, watched, fits}
 use Rattle.model.specs.Machine.{word, object, Cell, Object, array_of, record_of, Head, array_head, record_head, no_head, head_of, cell_of, cells_of, with_cells, kind_of_head, object_units, find, update}
-use Rattle.model.specs.Claim.{heads}
+use Rattle.model.specs.Condition3.{heads}
 use Rattle.model.proofs.Relate.{fit, CellRel, ObjectRel, arrays, records, Objects, objects_nil, objects_cons, Grows, row_get, row_set, row_length, object_length}
 
 -- ---- What is found

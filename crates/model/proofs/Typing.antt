@@ -12,7 +12,7 @@ use Rattle.model.specs.Program.{Program}
 use Rattle.model.specs.Modes.{plain, watched}
 use Rattle.model.specs.Machine.{Cell, empty, Object, array_of, record_of, Frame, frame, State, Head}
 use Rattle.model.specs.Run.{snapshot, shot}
-use Rattle.model.specs.Claim.{heads, Proper, Typed}
+use Rattle.model.specs.Condition3.{heads, Proper, Typed}
 use Rattle.model.proofs.Relate.{fit, granted, CellRel, blanks, values, row_get, ObjectRel, arrays, records, Objects, objects_nil, objects_cons, Live, Stack, bottom, waits, StateRel, states}
 
 module _ {g : Program} {h : ℕ → Head watched} where

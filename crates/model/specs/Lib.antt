@@ -11,4 +11,5 @@ pub mod Machine
 pub mod Run
 pub mod Inside
 pub mod Same
-pub mod Claim
+pub mod Condition3
+pub mod Exhibits

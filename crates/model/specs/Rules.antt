@@ -149,12 +149,12 @@ closed_rule q = test open_exposed (closed q) ∷ []
 
 module _ (g : Program) where
   -- variable x of procedure p, which reads ?R with its own bound
-  unfoldable pub typed : (p x : ℕ) → Qual
-  typed p x = read (own (g.bound p)) (g.inner p x)
+  unfoldable pub variable_type : (p x : ℕ) → Qual
+  variable_type p x = read (own (g.bound p)) (g.inner p x)
 
   -- slot k of its owner's type; ?R is in no slot (5), so that it is there unread too
-  unfoldable pub typed_slot : (p k : ℕ) → Qual
-  typed_slot p k = read (own (g.bound p)) (g.slot (g.owner p) k)
+  unfoldable pub slot_type : (p k : ℕ) → Qual
+  slot_type p k = read (own (g.bound p)) (g.slot (g.owner p) k)
 
   abbrev pub called : (k : ℕ) → Callee
   called k =
@@ -167,23 +167,23 @@ module _ (g : Program) where
 
   -- one line a code
   unfoldable pub rule : (p : ℕ) → Operation → List Test
-  rule p (Set a k) = integer_rule (typed p a)
-  rule p (Add a b c) = integers_rule (typed p a) (typed p b) (typed p c)
-  rule p (Subtract a b c) = integers_rule (typed p a) (typed p b) (typed p c)
-  rule p (Less a b c) = integers_rule (typed p a) (typed p b) (typed p c)
-  rule p (JumpZero a k) = integer_rule (typed p a)
-  rule p (Bind a b) = moves (typed p b) (typed p a)
-  rule p (Take a) = integer_rule (typed p a)
-  rule p (Put a) = integer_rule (typed p a)
-  rule p (NewArray a b) = new_array_rule (typed p a) (typed p b)
-  rule p (Fetch a b c) = fetch_rule (typed p a) (typed p b) (typed p c)
-  rule p (Store a b c) = store_rule (typed p a) (typed p b) (typed p c)
-  rule p (Size a b) = size_rule (typed p a) (typed p b)
-  rule p (NewRecord a) = new_record_rule (g.owner p) (g.named (g.owner p)) (typed p a)
-  rule p (GetSlot a b k) = get_slot_rule (g.owner p) (typed p a) (typed p b) (typed_slot p k)
-  rule p (SetSlot a b k) = set_slot_rule (g.owner p) (typed p a) (typed p b) (typed_slot p k)
-  rule p (Call a b k) = call_rule (typed p) (called k) a b
-  rule p (Return a) = return_rule (optional_variable (typed p) (optional a)) (read_result (own (g.bound p)) (g.result p))
+  rule p (Set a k) = integer_rule (variable_type p a)
+  rule p (Add a b c) = integers_rule (variable_type p a) (variable_type p b) (variable_type p c)
+  rule p (Subtract a b c) = integers_rule (variable_type p a) (variable_type p b) (variable_type p c)
+  rule p (Less a b c) = integers_rule (variable_type p a) (variable_type p b) (variable_type p c)
+  rule p (JumpZero a k) = integer_rule (variable_type p a)
+  rule p (Bind a b) = moves (variable_type p b) (variable_type p a)
+  rule p (Take a) = integer_rule (variable_type p a)
+  rule p (Put a) = integer_rule (variable_type p a)
+  rule p (NewArray a b) = new_array_rule (variable_type p a) (variable_type p b)
+  rule p (Fetch a b c) = fetch_rule (variable_type p a) (variable_type p b) (variable_type p c)
+  rule p (Store a b c) = store_rule (variable_type p a) (variable_type p b) (variable_type p c)
+  rule p (Size a b) = size_rule (variable_type p a) (variable_type p b)
+  rule p (NewRecord a) = new_record_rule (g.owner p) (g.named (g.owner p)) (variable_type p a)
+  rule p (GetSlot a b k) = get_slot_rule (g.owner p) (variable_type p a) (variable_type p b) (slot_type p k)
+  rule p (SetSlot a b k) = set_slot_rule (g.owner p) (variable_type p a) (variable_type p b) (slot_type p k)
+  rule p (Call a b k) = call_rule (variable_type p) (called k) a b
+  rule p (Return a) = return_rule (optional_variable (variable_type p) (optional a)) (read_result (own (g.bound p)) (g.result p))
 
   -- 6 and 7 of a variable, as its record has it
   unfoldable pub variable_rule : (p x : ℕ) → List Test

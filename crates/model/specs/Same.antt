@@ -27,6 +27,6 @@ pub record SameQuals (g h : Program) : Type 0 where
   pub qual : (j : ℕ) → j < g.quals → g.qual j ≡ h.qual j
 
 -- the same verdict but for the place: refused with the same number for the same record, wherever it starts
-pub data Alike (at at' : Record → ℕ) : Verdict → Verdict → Type 0 where
-  both_accepted : Alike at at' Accepted Accepted
-  at_record : (n : ℕ) (r : Record) → Alike at at' (Refused n (at r)) (Refused n (at' r))
+pub data SameVerdict (at at' : Record → ℕ) : Verdict → Verdict → Type 0 where
+  both_accepted : SameVerdict at at' Accepted Accepted
+  at_record : (n : ℕ) (r : Record) → SameVerdict at at' (Refused n (at r)) (Refused n (at' r))

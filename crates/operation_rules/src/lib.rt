@@ -10,10 +10,9 @@ use index::Index;
 use index::procedures::Scope;
 use index::types::{element_of, is_array, is_generic, is_integer, rights_as};
 use order::{is_owned, movement, require};
+use places::{field, inner_of, slot_of, type_at};
 use rights::{has_none_above, has_right, is_within};
 use sheet::bytes::byte;
-use sheet::fields::{field, inner_of, slot_of};
-use sheet::places::type_at;
 
 pub fn integer_rule(s: &[u8], index: &Index, p: Scope, a: u8) -> u8
     requires { Ready s.now index.now }

@@ -1,13 +1,15 @@
 // The order of the qualified types of an index: equality, ≥ and movements, by their numbers. Each side reads ?R as its name has it, so that one number may
 // stand for two types.
-ghost use Rattle.std.specs.Prelude.{◌≡◌, Bool, true, cond, ◌&&◌, eqb, List, ℕ};
+ghost use Rattle.std.specs.Prelude.{◌≡◌, true, cond, ◌&&◌, eqb};
 ghost use Rattle.model.specs.Rights.{within};
-ghost use Rattle.model.specs.Qualified.{same, order, elements};
+ghost use Rattle.model.specs.Qualified.{same, elements};
 ghost use Rattle.model.specs.Refusal.{failure};
 ghost use Rattle.model.specs.Rules.{moves, owned_by, amplifies};
-ghost use Rattle.index.specs.Types.{word_in, shape_of, rights_of, element_below, qual_in, type_in, word_as, UsesTold};
-ghost use Rattle.order.specs.Words.{same_heads, alike_heads, covered_heads, type_of, ElementThere};
+ghost use Rattle.index.specs.Types.{shape_of, rights_of, qual_in, type_in, word_as, UsesTold};
+ghost use Rattle.equality.specs.Words.{type_of, ElementThere};
+ghost use Rattle.order.specs.Words.{alike_heads, covered_heads};
 
+use equality::{element_word, equal_in};
 use index::Index;
 use index::types::{
     element_in, element_number, rights_by, rights_in, shape_in, type_word, type_word_as, uses_name,
@@ -27,49 +29,6 @@ pub fn is_amplified(index: &Index, owner: u8, j: u8) -> bool
     ensures { result ≡ amplifies owner (qual_in index.now j) }
 {
     (2 <= owner) & (shape_in(type_word(index, j)) == (owner as u16))
-}
-
-// Same shape and same rights, which an integer does not have, of the types of two words: all there is to ask but for two arrays.
-fn is_same_head(v: u64, w: u64) -> bool
-    ensures { result ≡ same_heads v w }
-{
-    let b = shape_in(v);
-    (b == shape_in(w)) & ((b == 0) | (rights_in(v) == rights_in(w)))
-}
-
-// Two arrays with the same rights: shape and rights stand side by side in their words, so that they are compared at once.
-fn is_same_array(v: u64, w: u64) -> bool
-    ensures { result ≡ (eqb (shape_of v) 1 && same_heads v w) }
-{
-    (shape_in(v) == 1) & (v % 2199023255552 == w % 2199023255552)
-}
-
-// The word of an array's element, by the number in the array's own word, w. That number falls; one that does not is read as an integer.
-fn element_word(index: &Index, w: u64, j: u8) -> u64
-    requires { ElementThere w j }
-    ensures { result ≡ word_in index.now (element_below w j) }
-{
-    let e = element_number(w);
-    if e < j {
-        return index[e as usize];
-    }
-    0
-}
-
-// Equal all the way down, from the inside out (document 02, S-2): the elements answer first, and only then are shape and rights around them compared. The
-// way down asks no more than whether there is a level below. v and w are the words of the two types, i and j their numbers. By & and not by a branch, so that
-// the compiler makes a loop of it, which takes no stack.
-fn equal_in(index: &Index, m: u64, i: u8, v: u64, n: u64, j: u8, w: u64) -> bool
-    requires { ElementThere v i × ElementThere w j }
-    ensures { result ≡ same (type_of index.now m i v) (type_of index.now n j w) }
-{
-    if shape_in(v) == 1 {
-        let e = element_word(index, v, i);
-        let f = element_word(index, w, j);
-        return equal_in(index, m, element_number(v), e, n, element_number(w), f)
-            & is_same_array(v, w);
-    }
-    is_same_head(word_read(m, v), word_read(n, w))
 }
 
 // Equal shapes, or ?R and a type of its base: all there is to ask but of the elements of two arrays. v and w are the words of two types, as they are read.
@@ -210,12 +169,4 @@ pub fn movement(index: &Index, m: u64, i: u8, n: u64, j: u8) -> u8
         return movement_of_words(index, m, i, n, i);
     }
     movement_of_words(index, m, i, n, j)
-}
-
-// QT i ≥ QT j.
-pub fn is_above(index: &Index, m: u64, i: u8, n: u64, j: u8) -> bool
-    requires { UsesTold index.now }
-    ensures { result ≡ order (type_in index.now m i) (type_in index.now n j) }
-{
-    movement(index, m, i, n, j) == 0
 }

@@ -1,3 +1,2 @@
 // The plain machine: one instruction inside the lent memory.
-pub mod arms; // each operation: what it asks for, done
 pub mod step; // one instruction

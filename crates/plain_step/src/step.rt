@@ -6,14 +6,12 @@ ghost use Rattle.writers.specs.Memory.{Sane};
 ghost use Rattle.frames.specs.Performs.{Loaded, Performs};
 ghost use Rattle.frames.specs.Fetch.{Fetchable, CodeOf, place_in};
 
-use crate::arms::{
-    add, bind, fetch, get_slot, jump_zero, less, new_array, new_record, put, set, set_slot, size,
-    store, subtract, take,
-};
-use frames::{call, give_back};
+use fast_decoder::operation_whole;
 use index::Index;
 use model::Operation;
-use sheet::fetch::operation_whole;
+use plain_calls::{call, give_back};
+use plain_objects::{fetch, get_slot, new_array, new_record, set_slot, size, store};
+use plain_values::{add, bind, jump_zero, less, put, set, subtract, take};
 use writers::{Registers, Stepped};
 
 // The instruction is read from the running procedure's part of the sheet. Nothing with a branch stands between the operation and its match: the compiler

@@ -14,9 +14,10 @@ use Rattle.model.specs.Qualified.{Qual, integer, array, declared, generic, right
 use Rattle.model.specs.Generic.{read}
 use Rattle.model.specs.Program.{Program}
 use Rattle.model.specs.Rules.{amplifies}
-use Rattle.model.specs.Modes.{watched, Kind, integer_kind, array_kind, record_kind, no_kind, is_record_of}
-use Rattle.model.specs.Machine.{Value, Cell, filled, Object, cells_of, object_units, find, View}
-use Rattle.provenance.specs.Claim.{Carries}
+use Rattle.model.specs.Outcome.{ok, ◌>>=◌, ◌>>◌, ensure}
+use Rattle.model.specs.Modes.{watched, Kind, integer_kind, array_kind, record_kind, no_kind, bind, is_record_of}
+use Rattle.model.specs.Machine.{Value, Cell, filled, Object, cells_of, object_units, find, View, declared_as, kind_of}
+use Rattle.provenance.specs.Traces.{Carries, AllHave, bind_each}
 use Rattle.model.proofs.Verdicts.{both_true}
 use Rattle.model.proofs.Rights.{within_has}
 use Rattle.model.proofs.Comes.{Grants}
@@ -41,25 +42,47 @@ pub carried_as : {x y : Value} {i : ℕ} {d : Cell watched} {r : Rights} → Car
 carried_as {i} {r} h e = let f = filled_is (sym e ∙ h.holds) in (f.0, rw f.1 h.has_right)
 
 -- a cell that is bound to a type: what it was before
-pub moved_from :
-    {g : Program} {v : View watched} {q : Qual} {c d : Cell watched} {y : Value} {s : Rights} → Moved watched g v q c d → d ≡ filled y s →
-    (h : Rights) × (c ≡ filled y h) × (within (rights q) h ≡ true) × (s ≡ rights q)
-moved_from m e =
-    let f = filled_is (sym m.target ∙ e) in
-    (m.had, rw (← f.0) m.source, m.grants.1, sym f.1 ∙ m.grants.2)
+pub moved_source :
+    {g : Program} {v : View watched} {q : Qual} {c d : Cell watched} {x : Value} {r : Rights} → Moved watched g v q c d → d ≡ filled x r →
+    (h : Rights) × (c ≡ filled x h) × Grants watched q (kind_of watched g v x) h r
+moved_source {g} {v} {q} m e =
+    let f = filled_is (sym m.target ∙ e) in (
+      m.had,
+      rw (← f.0) m.source,
+      rw (f.0, f.1) at m.grants,
+    )
 
-module _ {g : Program} {v : View watched} {x : Value} {i : ℕ} where
-  pub moved_back : {q : Qual} {c d : Cell watched} → Moved watched g v q c d → Carries x i d → (has i (rights q) ≡ true) × Carries x i c
-  moved_back {q} m h =
-      let e = carried_as h m.target in
-      let w = granted_back i q _ m.had m.gets m.grants e.1 in
-      (w.0, record { carried = m.had; holds = rw (← e.0) m.source; has_right = w.1 })
+-- an integer carries no right
+pub given_none : {g : Program} {v : View watched} {x : Value} {i : ℕ} (a : ℕ) {d : Cell watched} → Given watched g v a d → Carries x i d → ⊥
+given_none {g} {v} {x} {i} a m h =
+    let w = moved_source m.1 h.holds in
+    let f = filled_is w.1 in
+    let z = granted_back i (declared_as watched g v a) _ w.0 h.carried w.2 h.has_right in
+    has_none i (rw (← f.1) at z.1)
 
-  -- an integer carries no right
-  pub given_none : (a : ℕ) {d : Cell watched} → Given watched g v a d → Carries x i d → ⊥
-  given_none a m h =
-      let c = (moved_back m.1 h).1 in
-      has_none i (carried_as c refl).1
+-- ---- Through declared types, one after the other
+
+-- what each binding grants
+abbrev pub Granted : List Qual → Kind watched → (had gets : Rights) → Type 0
+Granted [] k had gets = had ≡ gets
+Granted (q ∷ qs) k had gets = (between : Rights) × Grants watched q k had between × Granted qs k between gets
+
+pub bind_granted : (q : Qual) (k : Kind watched) (had gets : Rights) → Grants watched q k had gets → bind watched q k had ≡ ok gets
+unfolding bind ensure ◌>>◌
+bind_granted q k had gets e = rw (e.0, e.1, e.2)
+
+pub each_granted : (qs : List Qual) (k : Kind watched) (had gets : Rights) → Granted qs k had gets → bind_each qs k had ≡ ok gets
+unfolding bind_each ◌>>=◌
+each_granted [] k had gets e = ap ok e
+each_granted (q ∷ qs) k had gets e = rw (bind_granted q k had e.0 e.1) (each_granted qs k e.0 gets e.2)
+
+-- what they all grant, the value carried
+pub all_granted : (i : ℕ) (qs : List Qual) (k : Kind watched) (had gets : Rights) → Granted qs k had gets → has i gets ≡ true → AllHave i qs × (has i had ≡ true)
+all_granted i [] k had gets e h = (tt, rw e h)
+all_granted i (q ∷ qs) k had gets e h =
+    let w = all_granted i qs k e.0 gets e.2 h in
+    let u = granted_back i q k had e.0 e.1 w.1 in
+    ((u.0, w.0), u.1)
 
 -- ---- Amplification
 

@@ -13,7 +13,7 @@ use Rattle.model.specs.Modes.{watched}
 use Rattle.model.specs.Machine.{Value, Cell, empty, Object, array_of, record_of, Frame, frame, cells_of, with_cells, find, update, cell_of}
 use Rattle.model.specs.Run.{Snapshot, snapshot}
 use Rattle.provenance.specs.Location.{Location, variable, cell, same_location, variables_at, content}
-use Rattle.provenance.specs.Claim.{Carries}
+use Rattle.provenance.specs.Traces.{Carries}
 use Rattle.model.proofs.Verdicts.{both_true}
 use Rattle.model.proofs.Table.{with_length}
 
@@ -23,9 +23,9 @@ pub blank_carries : {x : Value} {i : ℕ} {A : Type 0} → Carries x i empty →
 blank_carries c = let h = c.holds in let n : ◌≡◌ {A = Bool} false true = cc in absurd (false≢true n)
 
 -- in a row, a cell that is written, and the others
-set_there : {x : Value} {i : ℕ} (cs : List (Cell watched)) (a : ℕ) (c : Cell watched) → Carries x i (get_or (set cs a c) a empty) → Carries x i c
+set_there : {x : Value} {i : ℕ} (cs : List (Cell watched)) (a : ℕ) (c : Cell watched) → Carries x i (get_or (set cs a c) a empty) → get_or (set cs a c) a empty ≡ c
 set_there [] a c h = blank_carries h
-set_there (d ∷ cs) zero c h = h
+set_there (d ∷ cs) zero c h = refl
 set_there (d ∷ cs) (suc a) c h = set_there cs a c h
 
 set_away : (cs : List (Cell watched)) (a y : ℕ) (c : Cell watched) → (y ≡ a → ⊥) → get_or (set cs a c) y empty ≡ get_or cs y empty
@@ -64,7 +64,7 @@ apart a b c d h p q = false≢true (sym h ∙ rw (eq-eqb a b p, eq-eqb c d q))
 
 -- l gets c; where there is no such location, nothing
 pub record Written (s t : Snapshot watched) (l : Location) (c : Cell watched) : Type 0 where
-  pub there : {x : Value} {i : ℕ} → Carries x i (content t l) → Carries x i c
+  pub there : {x : Value} {i : ℕ} → Carries x i (content t l) → content t l ≡ c
   pub elsewhere : (m : Location) → same_location m l ≡ false → content t m ≡ content s m
 
 -- ---- Frames
@@ -86,8 +86,10 @@ pub variable_written :
 unfolding content variables_at same_location
 variable_written p i j z vs fs os us a c same = record { there = at; elsewhere = away }
   where
-    at : {x : Value} {r : ℕ} → Carries x r (get_or (variables_at (frame p j z (set vs a c) ∷ fs) (length fs)) a empty) → Carries x r c
-    at h = set_there vs a c (rw (top_variables p j z (set vs a c) fs) at h)
+    at :
+        {x : Value} {r : ℕ} → Carries x r (get_or (variables_at (frame p j z (set vs a c) ∷ fs) (length fs)) a empty) →
+        get_or (variables_at (frame p j z (set vs a c) ∷ fs) (length fs)) a empty ≡ c
+    at h = rw (top_variables p j z (set vs a c) fs) (set_there vs a c (rw (top_variables p j z (set vs a c) fs) at h))
 
     here_away : (b : Bool) (d y : ℕ) → b && eqb y a ≡ false → get_or (cond b (set vs a c) (variables_at fs d)) y empty ≡ get_or (cond b vs (variables_at fs d)) y empty
     here_away true d y n = set_away vs a y c (eqb-false y a n)
@@ -123,18 +125,21 @@ blank_made (x ∷ os) o e (suc b) k =
     go false y z h = h
 
 update_there :
-    {x : Value} {i : ℕ} (os : List (Object watched)) (a j : ℕ) (c : Cell watched) → Carries x i (cell_of (find (update os a j c) a) j) → Carries x i c
+    {x : Value} {i : ℕ} (os : List (Object watched)) (a j : ℕ) (c : Cell watched) → Carries x i (cell_of (find (update os a j c) a) j) →
+    cell_of (find (update os a j c) a) j ≡ c
 unfolding find update
 update_there [] a j c h = blank_carries h
-update_there (o ∷ os) zero j c h = set_there (cells_of o) j c (rw (cells_with o (set (cells_of o) j c)) at h)
+update_there (o ∷ os) zero j c h =
+    rw (cells_with o (set (cells_of o) j c)) (set_there (cells_of o) j c (rw (cells_with o (set (cells_of o) j c)) at h))
 update_there {x} {i} (o ∷ os) (suc a) j c h =
     go (ltb a (length (cells_of o))) refl (update os (a - length (cells_of o)) j c) (update_there os (a - length (cells_of o)) j c) h
   where
     go :
-        (t : Bool) → ltb a (length (cells_of o)) ≡ t → (us : List (Object watched)) → (Carries x i (cell_of (find us (a - length (cells_of o))) j) → Carries x i c) →
-        Carries x i (cell_of (find (cond t (o ∷ os) (o ∷ us)) (suc a)) j) → Carries x i c
+        (t : Bool) → ltb a (length (cells_of o)) ≡ t → (us : List (Object watched)) →
+        (Carries x i (cell_of (find us (a - length (cells_of o))) j) → cell_of (find us (a - length (cells_of o))) j ≡ c) →
+        Carries x i (cell_of (find (cond t (o ∷ os) (o ∷ us)) (suc a)) j) → cell_of (find (cond t (o ∷ os) (o ∷ us)) (suc a)) j ≡ c
     go true e us k f = blank_carries (rw e at f)
-    go false e us k f = k (rw e at f)
+    go false e us k f = rw e (k (rw e at f))
 
 update_away :
     (os : List (Object watched)) (a j : ℕ) (c : Cell watched) (b k : ℕ) → (b ≡ a → k ≡ j → ⊥) → cell_of (find (update os a j c) b) k ≡ cell_of (find os b) k

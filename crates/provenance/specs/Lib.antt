@@ -1,4 +1,5 @@
 pub mod Location
+pub mod Movement
 pub mod Origin
 pub mod Chain
-pub mod Claim
+pub mod Traces

@@ -1,8 +1,12 @@
 -- Where a run keeps a value (document 02, S-4: "place"; ours is location, for a place is where a refusal or a stop is).
-use Rattle.std.specs.Prelude.{ℕ, Bool, false, ◌&&◌, cond, List, [], ◌∷◌, eqb, length, get_or}
+use Rattle.std.specs.Prelude.{ℕ, suc, ◌-◌, ◌≡◌, Bool, false, ◌&&◌, cond, List, [], ◌∷◌, eqb, length, get_or, take}
+use Rattle.std.proofs.Math.Option.{some}
+use Rattle.std.proofs.Math.ListN.{get_elem?}
+use Rattle.model.specs.Rights.{Rights}
 use Rattle.model.specs.Modes.{watched}
-use Rattle.model.specs.Machine.{Cell, empty, Frame, frame, find, cell_of}
+use Rattle.model.specs.Machine.{Cell, empty, Object, cells_of, object_units, Frame, frame, State, state, find, cell_of}
 use Rattle.model.specs.Run.{Snapshot, snapshot}
+use Rattle.model.specs.Condition3.{frames, objects}
 
 -- variable x of the frame that stands on `depth` others, main's on none; cell or slot i of an object by its name
 pub data Location : Type 0 where
@@ -23,3 +27,17 @@ variables_at (frame p i z vs ∷ fs) d = cond (eqb d (length fs)) vs (variables_
 unfoldable pub content : Snapshot watched → Location → Cell watched
 content (snapshot fs os) (variable d x) = get_or (variables_at fs d) x empty
 content (snapshot fs os) (cell a i) = cell_of (find os a) i
+
+-- the frames below the running one
+abbrev pub depth_of : State watched → ℕ
+depth_of (state f fs os input put) = length fs
+
+-- condition 3's "filled variable, cell and slot" (`Typed` of model's Condition3): each is a location. Frame j stands on the frames behind it, and the name of
+-- object j is the units of the objects before it
+pub record Located (s : Snapshot watched) : Type 0 where
+  pub variables :
+      (j p i : ℕ) (z : Rights) (vs : List (Cell watched)) → get_elem? (frames s) j ≡ some (frame p i z vs) →
+      (x : ℕ) → content s (variable (length (frames s) - suc j) x) ≡ get_or vs x empty
+  pub cells :
+      (j : ℕ) (o : Object watched) → get_elem? (objects s) j ≡ some o →
+      (x : ℕ) → content s (cell (object_units (take j (objects s))) x) ≡ get_or (cells_of o) x empty

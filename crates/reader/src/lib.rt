@@ -3,7 +3,7 @@
 ghost use Rattle.std.specs.Prelude.{◌≡◌};
 ghost use Rattle.sheet.specs.Reader.{record_bytes, past_at, left_at};
 
-use sheet::records::{left_at, past_at, record_at};
+use record_parts::{left_at, past_at, record_at};
 
 #[derive(Drop)]
 pub struct Reader<'a> {

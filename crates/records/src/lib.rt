@@ -6,16 +6,16 @@ ghost use Rattle.sheet.specs.Layout.{rights_size, edition_in, qual_at};
 ghost use Rattle.limits.specs.Scale.{below_or_none, type_scale};
 ghost use Rattle.form.specs.WellFormed.{record_tests, header_tests, type_tests, qual_tests, head_tests, bound_tests, variable_tests, instruction_tests_at};
 
+use fast_decoder::fields_whole;
+use instruction_limits::instruction_scale;
 use limits::{
-    Limits, below_or_none, bound_scale, header_scale, instruction_scale, procedure_scale,
-    qual_scale, variable_scale,
+    Limits, below_or_none, bound_scale, header_scale, procedure_scale, qual_scale, variable_scale,
 };
 use model::Verdict;
+use places::{is_bounded, qual_from, type_at, variable_at};
 use reader::first_record;
 use sheet::bytes::{byte, marked, whole, word};
 use sheet::edition::{rights_at, rights_size};
-use sheet::fetch::fields_whole;
-use sheet::places::{is_bounded, qual_from, type_at, variable_at};
 use sheet::quals::qual_whole;
 
 // A record of a size under its mark: 2, 3 or 5, in this order.

@@ -1,83 +1,17 @@
 // A run of any bytes: check them, then a machine in the lent memory.
-ghost use Rattle.std.specs.Prelude.{◌≡◌, ◌≤◌, length};
-ghost use Rattle.std.proofs.Math.Option.{some};
 ghost use Rattle.model.specs.Modes.{plain, watched};
-ghost use Rattle.model.specs.declared.Verdict.TheVariants.{Accepted};
-ghost use Rattle.frames.specs.Performs.{Loaded};
-ghost use Rattle.run_by_frames.specs.Turn.{mode_of, NeverStuck};
-ghost use Rattle.run.specs.Run.{answered, refused, stopped_at, end, answer_by, answer};
+ghost use Rattle.answers.specs.Answer.{Answers};
 
+use answers::{Reply, refusal};
 use checking::check_indexed;
-use index::Index;
-use index::make::indexed;
+use indexing::indexed;
+use lent_run::run_lent;
 use model::Verdict;
-use run_by_frames::Ended;
-use run_by_frames::run::run_in;
 use well_formed::well_formed;
-use words::clear;
 
-// What a run says: the number and place of a refusal; or the number of the stop, steps, words put, procedure and instruction.
-#[derive(Drop)]
-pub struct Reply {
-    pub number: u64,
-    pub place: u64,
-    pub steps: u64,
-    pub put: u64,
-    pub procedure: u64,
-    pub instruction: u64,
-}
-
-fn refusal(number: u8, place: usize) -> Reply
-    ensures { result ≡ refused number place }
-{
-    Reply {
-        number: number as u64,
-        place: place as u64,
-        steps: 0,
-        put: 0,
-        procedure: 0,
-        instruction: 0,
-    }
-}
-
-fn stop(e: Ended) -> Reply
-    ensures { result ≡ stopped_at e.number e.steps e.put e.procedure e.instruction }
-{
-    Reply {
-        number: e.number,
-        place: 0,
-        steps: e.steps,
-        put: e.put as u64,
-        procedure: e.procedure as u64,
-        instruction: e.instruction as u64,
-    }
-}
-
-// The run of a sheet that is not refused: 10 and nothing touched, or the machine's stop. Each library sees the flag as a constant.
-fn run_lent(
-    sheet: &[u8],
-    index: &Index,
-    input: &[u32],
-    fuel: u64,
-    memory: &mut [u64],
-    output: &mut [u32],
-    watch: bool,
-) -> Reply
-    requires loaded { Loaded sheet.now index.now }
-    requires never_stuck { length memory.old ≤ 65536 → NeverStuck (end (mode_of watch) sheet.now input.now fuel memory.old output.old) }
-    ensures { answer_by (mode_of watch) sheet.now input.now fuel memory.old output.old Accepted ≡ some (answered result memory.new output.new) }
-{
-    if 65536 < memory.len() {
-        return refusal(10, 0);
-    }
-    let e = run_in(sheet, index, input, fuel, memory, output, watch);
-    clear(memory);
-    stop(e)
-}
-
-// Refuses with 1 to 10 and touches neither memory nor output, or runs and stops with 11 to 17.
+// Refuses with 1 to 10, 20 or 21 and touches neither memory nor output, or runs and stops with 11 to 17.
 pub fn run(sheet: &[u8], input: &[u32], fuel: u64, memory: &mut [u64], output: &mut [u32]) -> Reply
-    ensures { answer plain sheet.now input.now fuel memory.old output.old ≡ some (answered result memory.new output.new) }
+    ensures { Answers plain sheet input fuel memory output result }
 {
     let index = indexed(sheet);
     match check_indexed(sheet, &index) {
@@ -94,7 +28,7 @@ pub fn watch(
     memory: &mut [u64],
     output: &mut [u32],
 ) -> Reply
-    ensures { answer watched sheet.now input.now fuel memory.old output.old ≡ some (answered result memory.new output.new) }
+    ensures { Answers watched sheet input fuel memory output result }
 {
     let index = indexed(sheet);
     match well_formed(sheet, &index) {

@@ -1,7 +1,7 @@
 -- What the code answers of settling (document 02, S-1), in the definition's words.
-use Rattle.std.specs.Prelude.{ℕ, ◌/◌, ◌%◌, ◌^◌, ◌≡◌, Bool, true, false, not, List, [], ◌∷◌}
+use Rattle.std.specs.Prelude.{ℕ, ◌+◌, ◌/◌, ◌%◌, ◌^◌, ◌≡◌, Bool, true, false, not, List, [], ◌∷◌}
 use Rattle.model.specs.Qualified.{Qual, is_array}
-use Rattle.model.specs.Generic.{Bound, no_bound, at_least, own, uses, settles, first_or, settled, all_same, some_uses, is_settled, is_enough}
+use Rattle.model.specs.Generic.{Bound, no_bound, at_least, own, uses, settles, settlings, first_or, settled, all_same, some_uses, is_settled, is_enough}
 use Rattle.model.specs.Rules.{Callee, found_by}
 use Rattle.sheet.specs.Layout.{formals_at}
 use Rattle.index.specs.Types.{named_as, qual_in, type_in}
@@ -48,6 +48,12 @@ pub record FoundIs (ρ : Qual) (found : List Qual) (used : Bool) (x : Found) : T
   pub some_is : x.some ≡ not (is_nil found)
   pub alike_is : x.alike ≡ all_same (first_or ρ found) found
   pub name_is : named_as x.name ≡ first_or ρ found
+
+-- what all actuals of a call with variables from b on, in scope c, settle for the procedure of scope `to`: where none settles, its least set is taken
+abbrev pub FoundByCall : (s : List ℕ) → (to c : Scope) → (b : ℕ) → Found → Type 0
+FoundByCall s to c b x =
+    FoundIs (named_as (least_name to.name)) (settlings (formals_at s to.head) (need_as s to) (λ j. inner_as s c (b + j)))
+    (some_uses (need_as s to) 0 (formals_at s to.head)) x
 
 -- a procedure with a bound, as it is called, by the scope in which it reads ?R itself
 abbrev pub callee_as : List ℕ → Bound → Scope → Callee

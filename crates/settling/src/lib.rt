@@ -1,22 +1,21 @@
 // What a call settles ?R of the procedure called to (document 02, S-1). Check and the watched machine ask it of the declared types of the actuals, each as
 // its caller reads ?R.
-ghost use Rattle.std.specs.Prelude.{◌≡◌, ℕ, ◌+◌, Bool, false, ◌||◌, List, ◌++◌};
+ghost use Rattle.std.specs.Prelude.{◌≡◌, ◌+◌, Bool, false, ◌||◌, List, ◌++◌};
 ghost use Rattle.model.specs.Rights.{less_open};
 ghost use Rattle.model.specs.Qualified.{Qual, is_array, same};
-ghost use Rattle.model.specs.Generic.{Bound, settlings, some_uses};
-ghost use Rattle.sheet.specs.Layout.{formals_at};
+ghost use Rattle.model.specs.Generic.{Bound};
 ghost use Rattle.index.specs.Types.{named_as, type_in};
 ghost use Rattle.index.specs.Indexed.{Ready};
 ghost use Rattle.index.specs.Scope.{inner_as, need_as};
-ghost use Rattle.settling.specs.Settles.{settles_as, uses_as, SettlesIs, Innermost, FoundIs, least_name, callee_as, Settling, BoundOf};
+ghost use Rattle.settling.specs.Settles.{settles_as, uses_as, SettlesIs, Innermost, FoundIs, FoundByCall, least_name, callee_as, Settling, BoundOf};
 
 use index::Index;
 use index::procedures::{Scope, instance_name};
 use index::types::{
     element_number, element_of, name_rights, rights_in, shape_in, type_word, type_word_as,
 };
+use places::{field, need_of};
 use rights::is_within;
-use sheet::fields::{field, need_of};
 
 // What one actual settles: its need does not use ?R; it does, and nothing is settled; what a name has.
 #[derive(Drop)]
@@ -153,7 +152,7 @@ fn least_name(name: u64) -> u64
 // All actuals.
 fn found_by(s: &[u8], index: &Index, to: Scope, c: Scope, b: u8) -> Found
     requires { Ready s.now index.now }
-    ensures { FoundIs (named_as (least_name to.name)) (settlings (formals_at s.now to.head) (need_as s.now to) (λ j. inner_as s.now c (b + j))) (some_uses (need_as s.now to) 0 (formals_at s.now to.head)) result }
+    ensures { FoundByCall s.now to c b result }
 {
     let f = field(s, to.head, 3);
     let mut x = Found {

@@ -4,7 +4,7 @@ use Rattle.std.proofs.Math.Option.{Option, none, some}
 use Rattle.sheet.specs.Bytes.{byte_at}
 use Rattle.sheet.specs.Layout.{code_at, k_at}
 use Rattle.sheet.specs.Instructions.{Line, line, line_of}
-use Rattle.sheet.specs.declared.decode.Fields.{Fields}
+use Rattle.sheet.specs.declared.fields.Fields.{Fields}
 use Rattle.model.specs.declared.Operation.{Operation}
 use Rattle.model.specs.declared.Operation.TheVariants.{Return}
 use Rattle.model.specs.declared.Instruction.{Instruction}

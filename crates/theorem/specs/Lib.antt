@@ -1,2 +1,2 @@
-pub mod Condition3
+pub mod Claim
 pub mod Provenance

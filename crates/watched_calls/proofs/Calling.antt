@@ -50,7 +50,7 @@ use Rattle.frames.specs.Frames.{Callable, Opened}
 use Rattle.frames.proofs.Kept.{kept_here}
 use Rattle.frames.proofs.Performs.{sees}
 use Rattle.frames.proofs.Returning.{planned_as}
-use Rattle.watched_calls.specs.Calls.{ScopeHere, cells_at, before, Bound, Binds, entering, Enters}
+use Rattle.watched_calls.specs.Calls.{ScopeHere, cells_at, before, BindsFirst, Binds, entering, Enters}
 use Rattle.watched_calls.proofs.Laws.{in_scope, stopped_as, performs_exactly}
 
 -- ---- one actual after another
@@ -68,8 +68,8 @@ before_one cs d (ok ds) = ap (λ (l : List (Cell watched)). ok l) (sym (append_a
 before_one cs d (stop x) = refl
 before_one cs d stuck = refl
 
-pub bound_none : (s words : List ℕ) (r : Registers) (k b : ℕ) (z : Rights) (at n : ℕ) → Bound s words words r k b z at 0 n
-bound_none s words r k b z at n =
+pub binds_none : (s words : List ℕ) (r : Registers) (k b : ℕ) (z : Rights) (at n : ℕ) → BindsFirst s words words r k b z at 0 n
+binds_none s words r k b z at n =
     let e : 0 + n ≡ n = omega arith in
     record {
       gap = record { long = refl; objects = refl; frames = refl };
@@ -77,7 +77,7 @@ bound_none s words r k b z at n =
       planned = λ v S. rw e (before_none (actuals watched (program_of s) v k b z 0 n));
     }
 
-module _ {s words words' : List ℕ} {r : Registers} {k b : ℕ} {z : Rights} {at j n : ℕ} (B : Bound s words words' r k b z at j n) where
+module _ {s words words' : List ℕ} {r : Registers} {k b : ℕ} {z : Rights} {at j n : ℕ} (B : BindsFirst s words words' r k b z at j n) where
   sees_still : (v : View watched) → SeesIn watched (qual_of s) v words r → SeesIn watched (qual_of s) v words' r
   sees_still v S =
       subst (λ (h : List ℕ). Sees watched (qual_of s) v (frame_part r words') h) (sym B.gap.objects)
@@ -95,18 +95,18 @@ module _ {s words words' : List ℕ} {r : Registers} {k b : ℕ} {z : Rights} {a
         rw left at (B.planned v S) in
         p ∙ rw (is v (sees_still v S))
 
-    pub bound_stop : {x : ℕ} → m ≡ Mv.Halt x → (v : View watched) → SeesIn watched (qual_of s) v words r → actuals watched (program_of s) v k b z 0 (j + n) ≡ halted watched x
+    pub binds_stop : {x : ℕ} → m ≡ Mv.Halt x → (v : View watched) → SeesIn watched (qual_of s) v words r → actuals watched (program_of s) v k b z 0 (j + n) ≡ halted watched x
     unfolding moved_cell before
-    bound_stop {x} e v S =
+    binds_stop {x} e v S =
         let p : actuals watched (program_of s) v k b z 0 (j + n)
         ≡ before (cells_at s words' at j) (moved_cell (qual_of s) m >>= λ c. (actuals watched (program_of s) v k b z (suc j) n' >>= λ ds. ok (c ∷ ds))) =
         rw left (next_planned v S) in
         p ∙ rw (e, halted_then watched x, halted_then watched x)
 
-    pub bound_more : {w : ℕ} → m ≡ Mv.To w → IsCell w → r.used ≤ at + j → at + j < r.base → r.base ≤ length words
-        → Bound s words (set words' (at + j) w) r k b z at (j + 1) n'
+    pub binds_more : {w : ℕ} → m ≡ Mv.To w → IsCell w → r.used ≤ at + j → at + j < r.base → r.base ≤ length words
+        → BindsFirst s words (set words' (at + j) w) r k b z at (j + 1) n'
     unfolding moved_cell ◌>>=◌
-    bound_more {w} e is_cell low high fits =
+    binds_more {w} e is_cell low high fits =
         let Q = qual_of s in
         let long = B.gap.long in
         let l : length (drop at words') ≡ length words' - at = length-drop at words' in
@@ -135,14 +135,14 @@ module _ {s words words' : List ℕ} {r : Registers} {k b : ℕ} {z : Rights} {a
         }
 
 -- all of them
-pub bound_done : {s words words' : List ℕ} {r : Registers} {k b : ℕ} {z : Rights} {at j n f : ℕ} → Bound s words words' r k b z at j n → j ≡ f → n ≡ 0
-    → Bound s words words' r k b z at f 0
-bound_done B e z = rw (← e, ← z) B
+pub binds_done : {s words words' : List ℕ} {r : Registers} {k b : ℕ} {z : Rights} {at j n f : ℕ} → BindsFirst s words words' r k b z at j n → j ≡ f → n ≡ 0
+    → BindsFirst s words words' r k b z at f 0
+binds_done B e z = rw (← e, ← z) B
 
-bound_all : {s words words' : List ℕ} {r : Registers} {k b : ℕ} {z : Rights} {at f : ℕ} → Bound s words words' r k b z at f 0
+binds_all : {s words words' : List ℕ} {r : Registers} {k b : ℕ} {z : Rights} {at f : ℕ} → BindsFirst s words words' r k b z at f 0
     → (v : View watched) → SeesIn watched (qual_of s) v words r → actuals watched (program_of s) v k b z 0 f ≡ ok (cells_at s words' at f)
 unfolding actuals before ◌>>=◌
-bound_all {s} {words} {words'} {r} {k} {b} {z} {at} {f} B v S =
+binds_all {s} {words} {words'} {r} {k} {b} {z} {at} {f} B v S =
     let e : f + 0 ≡ f = omega arith in
     rw e at (B.planned v S) ∙ ap (λ (l : List (Cell watched)). ok l) (append-nil (cells_at s words' at f))
 
@@ -198,10 +198,10 @@ module _ (g : Program) (v : View watched) (k b : ℕ) (z : Rights) where
   unfolding entering ensure ◌>>◌
   entering_full h = rw (lt-leb (g.variables k + 2) v.room h)
 
-  entering_bound : g.variables k + 2 ≤ v.room → (x : Res (List (Cell watched))) → actuals watched g v k b z 0 (g.formals k) ≡ x
+  entering_done : g.variables k + 2 ≤ v.room → (x : Res (List (Cell watched))) → actuals watched g v k b z 0 (g.formals k) ≡ x
       → entering g v k b z ≡ (x >>= λ cs. ok (M.call k z cs))
   unfolding entering ensure ◌>>◌
-  entering_bound h x e = rw (le-leb (g.variables k + 2) v.room h, e)
+  entering_done h x e = rw (le-leb (g.variables k + 2) v.room h, e)
 
 module _ (s words : List ℕ) (r : Registers) (a b k w : ℕ) (z : Rights) (C : ProcedureWord s k w) (v : ℕ) (many : v ≡ variables_of w) where
   variables_are : (program_of s).variables k ≡ v
@@ -223,7 +223,7 @@ module _ (s words : List ℕ) (r : Registers) (a b k w : ℕ) (z : Rights) (C : 
         → entering (program_of s) v' k b z ≡ (x >>= λ cs. ok (M.call k z cs))
     entering_is v' free x e =
         let n = variables_are in
-        entering_bound (program_of s) v' k b z (omega arith) x (ap (λ (j : ℕ). actuals watched (program_of s) v' k b z 0 j) formals_are ∙ e)
+        entering_done (program_of s) v' k b z (omega arith) x (ap (λ (j : ℕ). actuals watched (program_of s) v' k b z 0 j) formals_are ∙ e)
 
     pub enter_stops : (words' : List ℕ) (x : ℕ) → Binds s words words' r k b z (r.base - (v + 2)) f (N.Halt x) → Enters s words words' r a b k z (Halt x)
     enter_stops words' x stops c t out same known kept S =
@@ -232,7 +232,7 @@ module _ (s words : List ℕ) (r : Registers) (a b k w : ℕ) (z : Rights) (C : 
         (entering_is seen (room_is watched c words out r t S) (halted watched x) (stops.1 seen (sees watched c s words out r t same S))
         ∙ halted_then watched x (λ cs. ok (M.call k z cs)))
 
-    pub enter_goes : (words' words'' : List ℕ) (q : Registers) (set : ℕ) → Bound s words words' r k b z (r.base - (v + 2)) f 0
+    pub enter_goes : (words' words'' : List ℕ) (q : Registers) (set : ℕ) → BindsFirst s words words' r k b z (r.base - (v + 2)) f 0
         → set ≡ z → Opened watched words' words'' r q a w set v f → Enters s words words'' r a b k z (Enter q)
     unfolding ◌>>=◌ apply
     enter_goes words' words'' q set B is_set P c (state (frame p i y vs) fs os left put) out same known kept S =
@@ -240,7 +240,7 @@ module _ (s words : List ℕ) (r : Registers) (a b k w : ℕ) (z : Rights) (C : 
         let seen = view (length words) (length out) t in
         let cs = cells_at s words' (r.base - (v + 2)) f in
         let is : entering (program_of s) seen k b z ≡ ok (M.call k z cs) =
-        entering_is seen (room_is watched c words out r t S) (ok cs) (bound_all B seen (sees watched c s words out r t same S)) in
+        entering_is seen (room_is watched c words out r t S) (ok cs) (binds_all B seen (sees watched c s words out r t same S)) in
         rw (is, variables_are, formals_are, ← is_set)
         (P c k p i y vs cs fs os left put out (gap_kept S words' B.gap) (rw same kept) (rw same known) (rw same C) many (rw same B.cells))
 

@@ -1,38 +1,30 @@
--- What a call and a return of the watched machine ask for, and what the code answers there.
+-- What a call of the watched machine asks for, and what the code answers there.
 use Rattle.std.specs.Prelude.{ℕ, ◌+◌, ◌≤◌, ◌<◌, ◌≡◌, List, ◌++◌, map, leb, length, take, drop}
-use Rattle.std.proofs.Math.Option.{Option, none}
 use Rattle.model.specs.Rights.{Rights}
-use Rattle.model.specs.Qualified.{Qual}
 use Rattle.model.specs.Program.{Program}
-use Rattle.model.specs.Rules.{optional}
 use Rattle.model.specs.Outcome.{memory_full, Res, ok, ensure, ◌>>=◌, ◌>>◌}
-use Rattle.model.specs.Modes.{watched, demand}
-use Rattle.model.specs.Machine.{Cell, Object, Frame, State, View, view, Effect, call, operation_in, actual, actuals, handed, returns_well}
+use Rattle.model.specs.Modes.{watched}
+use Rattle.model.specs.Machine.{Cell, Object, Frame, State, View, view, Effect, call, operation_in, actual, actuals}
 use Rattle.sheet.specs.Layout.{procedures_of}
 use Rattle.sheet.specs.Meaning.{qual_of, program_of}
 use Rattle.index.specs.declared.procedures.Scope.{Scope}
 use Rattle.words.specs.Word.{cell, slot_in, as_cell, formals_of, variables_of}
-use Rattle.words.specs.Answers.{halted, IsCell, MovedOk}
+use Rattle.words.specs.Answers.{halted, MovedOk}
 use Rattle.words.specs.declared.Number.{Number}
 use Rattle.words.specs.declared.Number.TheVariants as N
 use Rattle.words.specs.declared.Moved.{Moved}
-use Rattle.words.specs.declared.Moved.TheVariants as M
-use Rattle.binding.specs.Binds.{FrameScope, InScope, moved_cell, handed_cell}
+use Rattle.binding.specs.Binds.{FrameScope, moved_cell}
 use Rattle.writers.specs.declared.Registers.{Registers}
 use Rattle.writers.specs.declared.Stepped.{Stepped}
 use Rattle.writers.specs.Memory.{Given, kept_byte, Stands, StandsFor, SeesIn, GapOnly}
 use Rattle.writers.specs.Steps.{After}
 use Rattle.frames.specs.Performs.{performed}
-use Rattle.watched_calls.specs.declared.Handed.{Handed}
-use Rattle.watched_calls.specs.declared.Handed.TheVariants as H
 
 -- p is the scope of the running frame, in every run of the sheet that these words stand in
 abbrev pub ScopeHere : (s words : List ℕ) → Registers → Scope → Type 0
 ScopeHere s words r p =
     (c : Given) (k i : ℕ) (z : Rights) (vs : List (Cell watched)) (fs : List (Frame watched)) (os : List (Object watched)) (input put out : List ℕ) →
     c.sheet ≡ s → Stands watched c words out r k i z vs fs os input put → FrameScope s k z p
-
--- ---- a call
 
 -- the answer is actual j of a call with variables from b on, of a procedure whose frame has scope c, in every view that sees these words
 abbrev pub ActualIn : (s words : List ℕ) → Registers → Scope → (b j : ℕ) → Moved → Type 0
@@ -50,7 +42,7 @@ unfoldable pub before : List (Cell watched) → Res (List (Cell watched)) → Re
 before cs r = r >>= λ ds. ok (cs ++ ds)
 
 -- the first j actuals of a call of procedure k with variables from b on, in a frame with set z, were bound and stand at a place in the gap; n are still to come
-pub record Bound (s words words' : List ℕ) (r : Registers) (k b : ℕ) (z : Rights) (at j n : ℕ) : Type 0 where
+pub record BindsFirst (s words words' : List ℕ) (r : Registers) (k b : ℕ) (z : Rights) (at j n : ℕ) : Type 0 where
   pub gap : GapOnly words words' r
   pub cells : map (slot_in watched (qual_of s)) (take j (drop at words')) ≡ map cell (cells_at s words' at j)
   pub planned : (v : View watched) → SeesIn watched (qual_of s) v words r
@@ -58,7 +50,7 @@ pub record Bound (s words words' : List ℕ) (r : Registers) (k b : ℕ) (z : Ri
 
 -- all f of them were; or the first that was not is the stop, and those before it left words in the gap alone
 abbrev pub Binds : (s words words' : List ℕ) → Registers → (k b : ℕ) → (z : Rights) → (at f : ℕ) → Number → Type 0
-Binds s words words' r k b z at f (N.Is n) = Bound s words words' r k b z at f 0
+Binds s words words' r k b z at f (N.Is n) = BindsFirst s words words' r k b z at f 0
 Binds s words words' r k b z at f (N.Halt x) =
     GapOnly words words' r × ((v : View watched) → SeesIn watched (qual_of s) v words r → actuals watched (program_of s) v k b z 0 f ≡ halted watched x)
 
@@ -80,28 +72,3 @@ Enters s words words' r a b k z o =
     (c : Given) (t : State watched) (out : List ℕ) → c.sheet ≡ s → k < procedures_of s → a ≡ kept_byte (operation_in (program_of s) t) →
     StandsFor watched c words out r t →
     After watched c words' out out r t o (performed s t (entering (program_of s) (view (length words) (length out) t) k b z))
-
--- ---- a return
-
--- what is handed over: variable a, or nothing, as the procedure's result demands
-unfoldable pub hands : Program → View watched → ℕ → Res (Option (Cell watched))
-hands g v a = do
-  demand watched (returns_well (optional a) (g.result v.procedure))
-  handed watched g v (optional a)
-
-unfoldable pub handed_as : (ℕ → Qual) → Handed → Res (Option (Cell watched))
-handed_as qual H.Nothing = ok none
-handed_as qual (H.Is w) = handed_cell qual (M.To w)
-handed_as qual (H.Halt k) = handed_cell qual (M.Halt k)
-
--- a word that is handed over is a cell's
-abbrev pub HandedOk : Handed → Type 0
-HandedOk H.Nothing = Unit {0}
-HandedOk (H.Is w) = IsCell w
-HandedOk (H.Halt k) = Unit {0}
-
--- the answer is that, in every view that sees these words while the frame of scope p runs
-abbrev pub HandsOver : (s words : List ℕ) → Registers → Scope → (a : ℕ) → Handed → Type 0
-HandsOver s words r p a h =
-    HandedOk h
-    × ((v : View watched) → InScope s v p → SeesIn watched (qual_of s) v words r → handed_as (qual_of s) h ≡ hands (program_of s) v a)

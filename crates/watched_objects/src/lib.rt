@@ -1,31 +1,21 @@
-// The operations of the watched machine on arrays and records: what each asks for (crate watched_plan), done (crate writers). p is the scope of the running
-// frame.
-ghost use Rattle.std.specs.Prelude.{List, ℕ, ◌-◌, ◌<◌, length, ◌≡◌, false};
-ghost use Rattle.model.specs.Qualified.{is_generic};
+// The operations of the watched machine on the cells of arrays and records: what each asks for (crates watched_array_plan and
+// watched_record_plan), done (crate writers). p is the scope of the running frame.
+ghost use Rattle.std.specs.Prelude.{List, ℕ, ◌<◌, length};
 ghost use Rattle.model.specs.Modes.{watched};
 ghost use Rattle.model.specs.declared.Operation.TheVariants as Op;
-ghost use Rattle.index.specs.Types.{named_as};
 ghost use Rattle.index.specs.Indexed.{Ready};
-ghost use Rattle.words.specs.declared.Number.TheVariants.{Is};
-ghost use Rattle.watched_plan.specs.Plans.{PlansNumber, PlansMoved, PlansStored, PlansStore};
+ghost use Rattle.watched_value_plan.specs.Plans.{PlansNumber, PlansMoved, PlansStored, PlansStore};
 ghost use Rattle.form.specs.Named.{Named};
 ghost use Rattle.writers.specs.Memory.{Sane, variables_in, frame_part, object_part};
 ghost use Rattle.frames.specs.Performs.{PerformsInside};
 ghost use Rattle.watched_calls.specs.Calls.{ScopeHere};
-ghost use Rattle.watched_objects.specs.Objects.{array_for, record_for, DoesInside};
 
 use index::Index;
 use index::procedures::Scope;
-use index::types::{name_base, name_rights};
-use sheet::bytes::byte;
-use sheet::fields::field;
-use sheet::places::type_at;
-use watched_plan::{
-    array_made_as, declared_element, declared_rights, fetch_guarded, get_guarded, record_made_as,
-    set_slot_guarded, size_guarded, sized, store_guarded,
-};
-use words::{Moved, Number, Stored, array_word, object_word, record_word};
-use writers::{Registers, Stepped, allot, frame_end, give_moved, give_number, store_cell};
+use watched_array_plan::{fetch_guarded, size_guarded, store_guarded};
+use watched_record_plan::{get_guarded, set_slot_guarded};
+use words::{Moved, Number, Stored};
+use writers::{Registers, Stepped, frame_end, give_moved, give_number, store_cell};
 
 // What is read of the running frame's part of the memory and of the objects' part.
 fn fetch_in(
@@ -114,82 +104,6 @@ fn set_in(
     set_slot_guarded(s, index, p, &memory[base..end], &memory[..used], a, b, k)
 }
 
-// A new array of n cells, where there is room for it, bound to variable a.
-fn give_array(
-    s: &[u8],
-    index: &Index,
-    p: Scope,
-    memory: &mut [u64],
-    r: Registers,
-    a: u8,
-    n: Number,
-) -> Stepped
-    requires ready { Ready s.now index.now }
-    requires sane { Sane (length memory.old) r }
-    requires next_bound { r.next < 1000 }
-    requires a_bound { a < variables_in r }
-    ensures { is_generic (named_as p.name) ≡ false → DoesInside s.now memory.old memory.new r result (array_for s.now p r a n) }
-{
-    match n {
-        Number::Is(x) => {
-            if (x as usize) < r.base - r.used {
-                return make_array(s, index, p, memory, r, a, x);
-            }
-            Stepped::Halt(17)
-        }
-        Number::Halt(k) => Stepped::Halt(k),
-    }
-}
-
-// The same where there is room.
-fn make_array(
-    s: &[u8],
-    index: &Index,
-    p: Scope,
-    memory: &mut [u64],
-    r: Registers,
-    a: u8,
-    n: u32,
-) -> Stepped
-    requires ready { Ready s.now index.now }
-    requires sane { Sane (length memory.old) r }
-    requires next_bound { r.next < 1000 }
-    requires a_bound { a < variables_in r }
-    requires n_bound { n < r.base - r.used }
-    ensures { is_generic (named_as p.name) ≡ false → DoesInside s.now memory.old memory.new r result (array_for s.now p r a (Is n)) }
-{
-    let stop = array_made_as(s, index, p, a);
-    if stop == 0 {
-        let element = declared_element(s, index, p, a);
-        let head = array_word(n, element, name_base(p.name), name_rights(p.name));
-        let name = object_word(r.used as u32, declared_rights(s, index, p, a));
-        return Stepped::Enter(allot(memory, r, a, head, n, name));
-    }
-    Stepped::Halt(stop)
-}
-
-pub fn new_array(
-    s: &[u8],
-    index: &Index,
-    p: Scope,
-    memory: &mut [u64],
-    r: Registers,
-    a: u8,
-    b: u8,
-) -> Stepped
-    requires ready { Ready s.now index.now }
-    requires sane { Sane (length memory.old) r }
-    requires next_bound { r.next < 1000 }
-    requires named { Named (variables_in r) (Op.NewArray a b) }
-    requires scope_here { ScopeHere s.now memory.old r p }
-    ensures { PerformsInside watched s.now memory.old memory.new r result (Op.NewArray a b) }
-{
-    let base = r.base;
-    let end = frame_end(r);
-    let n = sized(s, index, p, &memory[base..end], a, b);
-    give_array(s, index, p, memory, r, a, n)
-}
-
 pub fn fetch(
     s: &[u8],
     index: &Index,
@@ -239,54 +153,6 @@ pub fn size(
 {
     let n = size_in(s, index, p, memory, r, a, b);
     give_number(memory, r, a, n)
-}
-
-// A new record of the owner's type, of n slots, where there is room for it, bound to variable a.
-fn make_record(
-    s: &[u8],
-    index: &Index,
-    p: Scope,
-    memory: &mut [u64],
-    r: Registers,
-    a: u8,
-    n: u32,
-) -> Stepped
-    requires ready { Ready s.now index.now }
-    requires sane { Sane (length memory.old) r }
-    requires next_bound { r.next < 1000 }
-    requires a_bound { a < variables_in r }
-    requires n_bound { n < r.base - r.used }
-    ensures { DoesInside s.now memory.old memory.new r result (record_for s.now p r a n) }
-{
-    let stop = record_made_as(s, index, p, a);
-    if stop == 0 {
-        let head = record_word(n, field(s, p.head, 2));
-        let name = object_word(r.used as u32, declared_rights(s, index, p, a));
-        return Stepped::Enter(allot(memory, r, a, head, n, name));
-    }
-    Stepped::Halt(stop)
-}
-
-pub fn new_record(
-    s: &[u8],
-    index: &Index,
-    p: Scope,
-    memory: &mut [u64],
-    r: Registers,
-    a: u8,
-) -> Stepped
-    requires ready { Ready s.now index.now }
-    requires sane { Sane (length memory.old) r }
-    requires next_bound { r.next < 1000 }
-    requires named { Named (variables_in r) (Op.NewRecord a) }
-    requires scope_here { ScopeHere s.now memory.old r p }
-    ensures { PerformsInside watched s.now memory.old memory.new r result (Op.NewRecord a) }
-{
-    let n = byte(s, type_at(field(s, p.head, 2)), 3) as u32;
-    if (n as usize) < r.base - r.used {
-        return make_record(s, index, p, memory, r, a, n);
-    }
-    Stepped::Halt(17)
 }
 
 pub fn get_slot(

@@ -7,12 +7,14 @@ ghost use Rattle.frames.specs.Performs.{Loaded, Performs};
 ghost use Rattle.frames.specs.Fetch.{Fetchable, CodeOf, place_in};
 ghost use Rattle.watched_calls.specs.Calls.{ScopeHere};
 
+use fast_decoder::operation_whole;
 use index::Index;
 use index::procedures::Scope;
 use model::Operation;
-use sheet::fetch::operation_whole;
-use watched_calls::{call, give_back};
-use watched_objects::{fetch, get_slot, new_array, new_record, set_slot, size, store};
+use watched_allocation::{new_array, new_record};
+use watched_calls::call;
+use watched_objects::{fetch, get_slot, set_slot, size, store};
+use watched_returns::give_back;
 use watched_values::{add, bind, jump_zero, less, put, set, subtract, take};
 use writers::{Registers, Stepped};
 

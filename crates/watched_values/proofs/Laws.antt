@@ -21,7 +21,7 @@ use Rattle.sheet.specs.Meaning.{program_of}
 use Rattle.index.specs.declared.procedures.Scope.{Scope}
 use Rattle.words.specs.Answers.{halted, given}
 use Rattle.binding.specs.Binds.{InScope}
-use Rattle.watched_plan.proofs.Laws.{gives_integer, gives_misfit}
+use Rattle.watched_value_plan.proofs.Laws.{gives_integer, gives_misfit}
 use Rattle.writers.specs.declared.Registers.{Registers}
 use Rattle.writers.specs.declared.Stepped.{Stepped}
 use Rattle.writers.specs.Memory.{Given}

@@ -1,10 +1,10 @@
-// The operations of the watched machine on values, on input and on output: what each asks for (crate watched_plan), done (crate writers). p is the scope of
+// The operations of the watched machine on values, on input and on output: what each asks for (crate watched_value_plan), done (crate writers). p is the scope of
 // the running frame.
 ghost use Rattle.std.specs.Prelude.{List, ℕ, ◌<◌, length};
 ghost use Rattle.model.specs.Modes.{watched};
 ghost use Rattle.model.specs.declared.Operation.TheVariants as Op;
 ghost use Rattle.index.specs.Indexed.{Ready};
-ghost use Rattle.watched_plan.specs.Plans.{PlansMoved};
+ghost use Rattle.watched_value_plan.specs.Plans.{PlansMoved};
 ghost use Rattle.form.specs.Named.{Named};
 ghost use Rattle.writers.specs.Memory.{Sane, variables_in, frame_part, object_part};
 ghost use Rattle.frames.specs.Performs.{Performs, PerformsInside};
@@ -12,7 +12,7 @@ ghost use Rattle.watched_calls.specs.Calls.{ScopeHere};
 
 use index::Index;
 use index::procedures::Scope;
-use watched_plan::{
+use watched_value_plan::{
     add_guarded, bind_guarded, integer_in, less_guarded, set_guarded, subtract_guarded,
     takes_integer,
 };

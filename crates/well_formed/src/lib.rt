@@ -1,21 +1,19 @@
 // Well-formedness, refusals 1 to 5: the layout, then the pass for calls, with where ?R may not stand and the limits of a call that wait for the procedure
 // called.
-pub mod uses; // where ?R may not stand
-
 ghost use Rattle.std.specs.Prelude.{◌≡◌, [], ◌∷◌};
 ghost use Rattle.model.specs.Refusal.{verdict, failure, tests, each};
 ghost use Rattle.sheet.specs.Layout.{procedures_of, variables_field, instructions_at, start_from};
 ghost use Rattle.index.specs.Indexed.{Indexed, Ready};
 ghost use Rattle.form.specs.WellFormed.{call_tests_at, call_tests, procedure_calls_at, procedure_calls, calls_tests, form_tests};
 
-use crate::uses::{head_use, slot_uses, variable_uses};
 use index::Index;
 use index::procedures::{place_in, procedure_in, start_in};
 use layout::layout;
 use limits::actuals_scale;
 use model::Verdict;
+use name_uses::{head_use, slot_uses, variable_uses};
+use places::{instruction_from, is_bounded};
 use sheet::bytes::{byte, word};
-use sheet::places::{instruction_from, is_bounded};
 use words::formals_in;
 
 // The number of the refusal of the IN at a place, in a procedure with v variables; 0 where there is none.

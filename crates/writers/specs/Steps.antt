@@ -1,20 +1,16 @@
 -- What a step of the code gives, against what the definition gives.
-use Rattle.std.specs.Prelude.{ℕ, zero, suc, ◌+◌, ◌<◌, ◌≡◌, List, ◌∷◌, ◌++◌, map, leb, ltb, length, drop, set, replicate}
+use Rattle.std.specs.Prelude.{ℕ, zero, suc, ◌≡◌, List, ltb}
 use Rattle.std.proofs.Math.Option.{Option}
-use Rattle.std.proofs.Math.ListN as list
-use Rattle.model.specs.Outcome.{Stop, stop_number, input_ended, output_full, memory_full, Res, ok, stop, stuck, ensure, found, ◌>>=◌, ◌>>◌}
-use Rattle.model.specs.Rights.{array_rights, record_rights}
-use Rattle.model.specs.Qualified.{Qual, element}
-use Rattle.model.specs.Modes.{Mode, SettledSet, carried, element_info, type_info, array_kind, record_kind, bind}
-use Rattle.model.specs.Machine.{word, empty, filled, frame, State, state, Next, go, finished, Effect, put, take, jump, skip, new_array, new_record, apply}
+use Rattle.model.specs.Outcome.{Stop, stop_number, input_ended, output_full, Res, ok, stop, stuck, ensure, found, ◌>>=◌, ◌>>◌}
+use Rattle.model.specs.Modes.{Mode, SettledSet, carried}
+use Rattle.model.specs.Machine.{word, filled, frame, State, state, Next, go, finished, Effect, put, take, jump, skip, apply}
 use Rattle.sheet.specs.Meaning.{program_of}
-use Rattle.words.specs.Word.{cell, slot_in}
 use Rattle.words.specs.Answers.{number_as}
 use Rattle.words.specs.declared.Number.{Number}
 use Rattle.writers.specs.declared.Registers.{Registers}
 use Rattle.writers.specs.declared.Stepped.{Stepped}
 use Rattle.writers.specs.declared.Stepped.TheVariants.{Go, Enter, Halt, Done}
-use Rattle.writers.specs.Memory.{Given, StandsFor, variables_in}
+use Rattle.writers.specs.Memory.{Given, StandsFor}
 
 -- the registers of the same frame, moved on
 abbrev pub onward : Registers → (next used taken put : ℕ) → Registers
@@ -70,15 +66,6 @@ Does m c words words' before output r o e =
     (t : State m) → StandsFor m c words before r t →
     After m c words' before output r t o (e >>= λ x. ok (apply (program_of c.sheet) t x))
 
--- the words after an object was allotted: its head and n blank cells after the other objects, its name in variable a; the rest is as it was
-pub record Allotted (m : Mode) (qual : ℕ → Qual) (words words' : List ℕ) (r : Registers) (a head n name : ℕ) : Type 0 where
-  pub named : a < variables_in r
-  pub long : length words' ≡ length words
-  pub objects : list.take (r.used + (n + 1)) (map (slot_in m qual) words')
-      ≡ list.take r.used (map (slot_in m qual) words) ++ (slot_in m qual head ∷ replicate n (cell empty))
-  pub frame : drop r.base (map (slot_in m qual) words')
-      ≡ set (drop r.base (map (slot_in m qual) words)) a (slot_in m qual name)
-
 -- ---- effects that lean on a number, as the definition plans them
 
 -- "if a is zero go to instruction k"
@@ -95,18 +82,3 @@ put_effect m free n = number_as m n >>= λ x. (ensure output_full (ltb 0 free) >
 
 unfoldable pub take_effect : (m : Mode) → ℕ → Option ℕ → Res (Effect m)
 take_effect m a next = found input_ended next >>= λ n. ok (take a (filled (word n) (carried m 0)))
-
--- a new array of n cells for variable a of type q, where so many units are free
-unfoldable pub array_effect : (m : Mode) → (room a : ℕ) → Qual → Number → Res (Effect m)
-array_effect m room a q n = do
-  x ← number_as m n
-  ensure memory_full (leb (suc x) room)
-  k ← bind m q (array_kind (element_info m (element q))) (carried m array_rights)
-  ok (new_array a (element_info m (element q)) x k)
-
--- a new record of type t, which names so many rights, for the same
-unfoldable pub record_effect : (m : Mode) → (room a : ℕ) → Qual → (t named slots : ℕ) → Res (Effect m)
-record_effect m room a q t named slots = do
-  ensure memory_full (leb (suc slots) room)
-  k ← bind m q (record_kind (type_info m t)) (carried m (record_rights named))
-  ok (new_record a (type_info m t) slots k)

@@ -4,7 +4,6 @@ use crate::explain::Refused;
 use crate::located::Located;
 use crate::paint::Paint;
 use crate::source::Source;
-use crate::why::Told;
 use crate::words::words;
 use reference::Stop;
 
@@ -26,8 +25,6 @@ pub struct Stopped<'a> {
     pub instruction: Option<usize>,
     pub at: Located,
     pub reason: Vec<String>,
-    /// The chain that is asked for.
-    pub why: Option<Box<Told>>,
 }
 
 impl Answer<'_> {

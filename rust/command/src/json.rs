@@ -14,14 +14,39 @@ impl Object {
         Object { said }
     }
 
-    fn add(mut self, key: &str, value: &str) -> Self {
-        let comma = if self.said.len() > 1 { "," } else { "" };
-        self.said += &format!("{comma}{}:{value}", text(key));
+    /// Adds a key, whose value comes next.
+    fn key(mut self, key: &str) -> Self {
+        if self.said.len() > 1 {
+            self.said.push(',');
+        }
+        quote(key, &mut self.said);
+        self.said.push(':');
         self
     }
 
+    fn add(self, key: &str, value: &str) -> Self {
+        let mut object = self.key(key);
+        object.said += value;
+        object
+    }
+
+    fn list(self, key: &str, values: impl Iterator<Item = String>) -> Self {
+        let mut object = self.key(key);
+        object.said.push('[');
+        for (number, value) in values.enumerate() {
+            if number > 0 {
+                object.said.push(',');
+            }
+            object.said += &value;
+        }
+        object.said.push(']');
+        object
+    }
+
     pub fn text(self, key: &str, value: &str) -> Self {
-        self.add(key, &text(value))
+        let mut object = self.key(key);
+        quote(value, &mut object.said);
+        object
     }
 
     pub fn number(self, key: &str, value: u64) -> Self {
@@ -33,19 +58,26 @@ impl Object {
     }
 
     pub fn numbers(self, key: &str, values: &[u32]) -> Self {
-        self.add(key, &list(values.iter().map(u32::to_string)))
+        self.list(key, values.iter().map(u32::to_string))
     }
 
     pub fn texts(self, key: &str, values: &[String]) -> Self {
-        self.add(key, &list(values.iter().map(|value| text(value))))
+        let quoted = values.iter().map(|value| {
+            let mut said = String::new();
+            quote(value, &mut said);
+            said
+        });
+        self.list(key, quoted)
     }
 
     pub fn objects(self, key: &str, values: impl Iterator<Item = Object>) -> Self {
-        self.add(key, &list(values.map(Object::said)))
+        self.list(key, values.map(Object::said))
     }
 
-    pub fn object(self, key: &str, value: Object) -> Self {
-        self.add(key, &value.said())
+    /// All up to the value of a last key: that is written apart, and the
+    /// closing brace after it.
+    pub fn up_to(self, key: &str) -> String {
+        self.key(key).said
     }
 
     pub fn said(self) -> String {
@@ -53,27 +85,16 @@ impl Object {
     }
 }
 
-fn list(values: impl Iterator<Item = String>) -> String {
-    let mut said = String::from("[");
-    for value in values {
-        if said.len() > 1 {
-            said.push(',');
-        }
-        said += &value;
-    }
-    said + "]"
-}
-
-/// A string of JSON. It may be shown on a terminal, and what ends a line where
-/// a reader takes JSON for a script, 2028 and 2029, is hidden too.
-fn text(value: &str) -> String {
-    let mut said = String::from("\"");
+/// Adds a string of JSON. It may be shown on a terminal, and what ends a line
+/// where a reader takes JSON for a script, 2028 and 2029, is hidden too.
+fn quote(value: &str, said: &mut String) {
+    said.push('"');
     for character in value.chars() {
         match character {
             '"' | '\\' => said.extend(['\\', character]),
-            '\n' => said += "\\n",
-            '\r' => said += "\\r",
-            '\t' => said += "\\t",
+            '\n' => *said += "\\n",
+            '\r' => *said += "\\r",
+            '\t' => *said += "\\t",
             hidden if is_hidden(hidden) => {
                 for unit in hidden.encode_utf16(&mut [0; 2]) {
                     // Writing to a string cannot fail.
@@ -83,7 +104,7 @@ fn text(value: &str) -> String {
             plain => said.push(plain),
         }
     }
-    said + "\""
+    said.push('"');
 }
 
 #[cfg(test)]
@@ -97,10 +118,10 @@ mod tests {
             .text("a\"b", "c\\d\n\u{1b}\u{7f}é\u{2028}")
             .numbers("none", &[])
             .texts("two", &[String::from("x"), String::from("\t")])
-            .objects("objects", [inner()].into_iter())
-            .object("object", inner());
-        let expected = r#"{"a\"b":"c\\d\n\u001b\u007fé\u2028","none":[],"two":["x","\t"],"objects":[{"n":1,"yes":true}],"object":{"n":1,"yes":true}}"#;
+            .objects("objects", [inner()].into_iter());
+        let expected = r#"{"a\"b":"c\\d\n\u001b\u007fé\u2028","none":[],"two":["x","\t"],"objects":[{"n":1,"yes":true}]}"#;
         assert_eq!(said.said(), expected);
+        assert_eq!(inner().up_to("last"), r#"{"n":1,"yes":true,"last":"#);
         assert_eq!(Object::new().said(), "{}");
     }
 

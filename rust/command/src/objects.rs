@@ -7,7 +7,6 @@ use crate::json::Object;
 use crate::located::Located;
 use crate::options::Form;
 use crate::source::Source;
-use crate::why;
 use crate::words;
 use std::ffi::OsStr;
 
@@ -18,21 +17,20 @@ pub fn of_answer(
     source: &Source,
     answer: &Answer,
     with_words: bool,
-) -> String {
+) -> Object {
     let object = Object::new().text("file", &path.to_string_lossy());
     let object = match machine {
         Some(machine) => object.text("machine", machine),
         None => object,
     };
-    let object = match answer {
+    match answer {
         Answer::Accepted => {
             let object = object.text("verdict", "accepted");
             object.number("number", 0).number("place", 0)
         }
         Answer::Refused(told) => refused(object, source, told),
         Answer::Stopped(ended) => stopped(object, source, ended, with_words),
-    };
-    object.said()
+    }
 }
 
 /// A file, of a sheet or of the reads, with what is wrong in it.
@@ -86,11 +84,7 @@ fn stopped(object: Object, source: &Source, ended: &Stopped, with_words: bool) -
     object = instruction(object, Some(&ended.procedure), ended.instruction);
     object = object.number("place", ended.at.place as u64);
     object = line(object, source, &ended.at);
-    object = reason(object, &ended.reason);
-    match &ended.why {
-        Some(told) => object.object("why", why::object(told, source)),
-        None => object,
-    }
+    reason(object, &ended.reason)
 }
 
 /// The number with its word and its meaning.

@@ -75,6 +75,8 @@ pub struct Why {
     pub question: Question,
     /// After so many steps; None at the stop.
     pub after: Option<u64>,
+    /// Whether all links of a long chain are told.
+    pub all: bool,
 }
 
 /// The most words of a report that are lent.
@@ -246,9 +248,10 @@ fn run(given: &Given) -> Result<Run, Failure> {
 /// the rights.
 fn why(given: &Given, watch: bool) -> Result<Option<Why>, Failure> {
     let Some(value) = given.value("--why") else {
-        return match given.has("--after") {
-            true => given.misuse("--after needs --why"),
-            false => Ok(None),
+        let mut others = ["--after", "--all"].into_iter();
+        return match others.find(|option| given.has(option)) {
+            Some(option) => given.misuse(format!("{option} needs --why")),
+            None => Ok(None),
         };
     };
     if !watch {
@@ -260,5 +263,10 @@ fn why(given: &Given, watch: bool) -> Result<Option<Why>, Failure> {
         true => Some(given.number("--after", 0, u64::MAX)?),
         false => None,
     };
-    Ok(Some(Why { question, after }))
+    let all = given.has("--all");
+    Ok(Some(Why {
+        question,
+        after,
+        all,
+    }))
 }

@@ -62,42 +62,35 @@ fn one(
     if options.trace && matches!(outcome, Outcome::Stopped { .. }) {
         trace(&source, &lent, options.watch, outcome, &report, output)?;
     }
-    let told = chain(options, file, &source, &lent, outcome, &report)?;
+    let asked = asked(options, file, &source, &lent, outcome, &report)?;
+    let told = asked.as_ref().map(|asked| progress::shown(|| asked.told()));
+    let told = told.transpose()?;
     if let Some(told) = told.as_ref().filter(|_| is_full) {
-        write!(output, "{}", told.said())?;
+        told.write(output)?;
     }
     hand_over(options, outcome, &report, output)?;
     // What is told of a stop may take long to find.
     if options.sheets.manner != Manner::Quiet {
-        let answer = answer(&source, &lent, options.watch, outcome, &report, told)?;
-        tell(options, file, &source, &answer, output)?;
+        let answer = answer(&source, &lent, options.watch, outcome, &report)?;
+        tell(options, file, &source, &answer, told.as_ref(), output)?;
     }
     Ok(status(outcome, options.expect_done))
 }
 
-/// Where the right came from that is asked for; None where none is, or
-/// nothing was run.
-fn chain(
-    options: &options::Run,
-    file: &SheetFile,
-    source: &Source,
-    lent: &Lent,
+/// The run with what is asked of it; None where nothing is, or nothing was
+/// run.
+fn asked<'a>(
+    options: &'a options::Run,
+    file: &'a SheetFile,
+    source: &'a Source,
+    lent: &'a Lent,
     outcome: Outcome,
-    report: &[u32],
-) -> Result<Option<Told>, Failure> {
-    let Some(why) = &options.why else {
-        return Ok(None);
-    };
-    let path = &file.path;
-    let asked = Asked {
-        path,
-        source,
-        lent,
-        why,
-        outcome,
-        report,
-    };
-    progress::shown(|| asked.told())
+    report: &'a [u32],
+) -> Result<Option<Asked<'a>>, Failure> {
+    let why = options.why.as_ref();
+    let why = why.filter(|_| matches!(outcome, Outcome::Stopped { .. }));
+    let asked = why.map(|why| Asked::new(&file.path, source, lent, why, outcome, report));
+    asked.transpose()
 }
 
 /// Prints what is said of a file after its words.
@@ -106,13 +99,21 @@ fn tell(
     file: &SheetFile,
     source: &Source,
     answer: &Answer,
+    told: Option<&Told>,
     output: &mut Output,
 ) -> Result<(), Failure> {
     if options.sheets.manner == Manner::Json {
         let machine = Some(if options.watch { "watched" } else { "plain" });
         let with_words = options.words.is_none();
         let object = objects::of_answer(&file.path, machine, source, answer, with_words);
-        writeln!(output, "{object}")?;
+        match told {
+            None => writeln!(output, "{}", object.said())?,
+            Some(told) => {
+                write!(output, "{}", object.up_to("why"))?;
+                told.write_json(output)?;
+                writeln!(output, "}}")?;
+            }
+        }
     } else {
         let paint = options.sheets.color.output();
         write!(output, "{}", answer.said(source, paint))?;
@@ -162,7 +163,6 @@ fn answer<'a>(
     watch: bool,
     outcome: Outcome,
     report: &'a [u32],
-    why: Option<Told>,
 ) -> Result<Answer<'a>, Failure> {
     match outcome {
         Outcome::Refused { number, place } => {
@@ -186,7 +186,6 @@ fn answer<'a>(
                 instruction: told.is_instruction.then_some(place.instruction),
                 at: Located::new(source, told.place, &told.parts),
                 reason: told.reason,
-                why: why.map(Box::new),
             }))
         }
     }

@@ -66,7 +66,7 @@ pub fn check(sheets: &Sheets, output: &mut Output) -> Result<u8, Failure> {
         };
         if sheets.manner == Manner::Json {
             let object = objects::of_answer(&file.path, None, &source, &answer, true);
-            writeln!(output, "{object}")?;
+            writeln!(output, "{}", object.said())?;
             return Ok(status);
         }
         if sheets.files.len() > 1 {

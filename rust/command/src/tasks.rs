@@ -154,6 +154,10 @@ pub const OF_RUNS: &[Known] = &[
         "N",
         &["with --why: after N steps, as --trace counts them; else at the stop"],
     ),
+    alone(
+        &["--all"],
+        &["with --why: tells also the links between the first and the last ten"],
+    ),
     valued(
         &["--words"],
         "OUT",

@@ -1,10 +1,14 @@
 //! Where a right came from, as --why tells it: each kind of link, each error,
-//! and chains of generated runs held against those of the second engine.
+//! long chains, and chains of generated runs held against those of the second
+//! engine.
 
 mod common;
 
 #[path = "why/generated.rs"]
 mod generated;
+
+#[path = "why/long.rs"]
+mod long;
 
 use common::{folder, status, stderr, stdout, wennathig, written};
 use std::fs;
@@ -184,10 +188,11 @@ fn what_cannot_be_answered_is_told() {
 
 #[test]
 fn a_question_that_is_none_is_misuse() {
-    let cases: [(&[&str], &str); 9] = [
+    let cases: [(&[&str], &str); 10] = [
         (&["run", "--why", "seen.read"], "--why needs --watch"),
         (&["run", "--after", "3"], "--after needs --why"),
         (&["watch", "--after", "3"], "--after needs --why"),
+        (&["watch", "--all"], "--all needs --why"),
         (&["watch", "--why", "seen"], "--why needs PLACE.RIGHT, such as seen.read or main:drafts[0].read, found seen"),
         (&["watch", "--why", "a\x1b.read"], "--why needs PLACE.RIGHT, such as seen.read or main:drafts[0].read, found a\\u{1b}.read"),
         (&["watch", "--why", "object 0.read"], "--why needs a cell or a slot of object 0, such as object 0[0].read"),

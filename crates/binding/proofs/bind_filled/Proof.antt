@@ -6,7 +6,7 @@ use Rattle.model.specs.Modes.{watched}
 use Rattle.index.specs.Types.{shape_of, qual_in}
 use Rattle.words.specs.Word.{payload}
 use Rattle.words.proofs.Laws.{slot_integer}
-use Rattle.binding.proofs.Laws.{integer_there, integer_elsewhere, bind_integer, bind_no_integer, rights_there, object_misfits, object_without, object_bound}
+use Rattle.binding.proofs.Laws.{integer_there, integer_elsewhere, bind_integer, bind_no_integer, rights_there, object_misfits, object_without, object_moves}
 use Rattle.binding.proofs.bind_filled.Statement.{statement}
 use Rattle.binding.proofs.bind_filled.Tie as tie
 
@@ -58,7 +58,7 @@ returns-3 c =
     let name-of2 = c.before.name-of2 in
     record {
       fine = λ k q. rw (object-word.ensures k q);
-      moves = λ g v x m heads e. object_bound (qual_in args.index.now) args.h.now _ _ g v x m heads e (λ z. first-test.false (tag_of.ensures ∙ z)) name_of.ensures read.ensures object-fits.ensures third-test.true (rights_there _ _ _ _ object-fits.ensures third-test.true rights-in.ensures type_word_as.ensures) low_of.ensures is_Within.ensures _ fourth-test.true name-of2.ensures (object-word.ensures watched (qual_in args.index.now));
+      moves = λ g v x m heads e. object_moves (qual_in args.index.now) args.h.now _ _ g v x m heads e (λ z. first-test.false (tag_of.ensures ∙ z)) name_of.ensures read.ensures object-fits.ensures third-test.true (rights_there _ _ _ _ object-fits.ensures third-test.true rights-in.ensures type_word_as.ensures) low_of.ensures is_Within.ensures _ fourth-test.true name-of2.ensures (object-word.ensures watched (qual_in args.index.now));
     }
 
 returns-4 : tie.Need-returns-4

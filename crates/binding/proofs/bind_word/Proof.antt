@@ -17,13 +17,13 @@ returns c =
 returns-2 : tie.Need-returns-2
 returns-2 c =
     let x = c.before.before.before.x in
-    let is-integer-bound = c.before.is-integer-bound in
+    let integer-fits = c.before.integer-fits in
     let args = c.before.before.before.before.before.before.before.args in
     let if1 = c.if1 in
     let cell_of = c.before.before.before.before.before.cell_of in
     let known = x in
-    let bound = is-integer-bound.ensures args.name args.h.now if1.true in
-    record { fine = bound.fine; moves = λ g v d heads e. bind_value _ g v _ _ (told_filled cell_of.ensures known.given.1) e (λ y m. bound.moves g v y m heads) }
+    let binds = integer-fits.ensures args.name args.h.now if1.true in
+    record { fine = binds.fine; moves = λ g v d heads e. bind_value _ g v _ _ (told_filled cell_of.ensures known.given.1) e (λ y m. binds.moves g v y m heads) }
 
 returns-3 : tie.Need-returns-3
 returns-3 c =

@@ -21,7 +21,7 @@ returns c s ready =
       c.is-amplified2.ensures,
       ← ready.types a.need,
       ← ready.types a.inner,
-      sym c.before.before.is-amplified.ensures ∙ c.before.if1.true,
+      sym c.before.before.is_amplified.ensures ∙ c.before.if1.true,
     )
 
 returns-2 : tie.Need-returns-2
@@ -35,7 +35,7 @@ returns-2 c s ready =
       name_is,
       same_unread s 2 0 a.need a.inner,
       ← ready.types a.inner,
-      sym c.before.before.is-amplified.ensures ∙ c.before.if1.false,
+      sym c.before.before.is_amplified.ensures ∙ c.before.if1.false,
     )
 
 pub agree-spec : {M : Type 1} → statement M

@@ -15,7 +15,7 @@ returns c s ready =
       c.before.require.ensures,
       c.before.before.agree.ensures s ready,
       c.before.before.before.is-closed2.ensures,
-      d.is-amplified.ensures,
+      d.is_amplified.ensures,
       d.before.is-closed.ensures,
       ready.types a.need,
       ready.types a.inner,

@@ -3,7 +3,9 @@ use Rattle.host.proofs.wn_run.Statement.{statement}
 use Rattle.host.proofs.wn_run.Tie as tie
 
 returns : tie.Need-returns
-returns c = rw (c.before.before.before.before.before.before.before.before.run.ensures, ← c.before.before.put-reply.ensures)
+returns c =
+    let put = c.before.before.put-reply.ensures in
+    rw (c.before.before.before.before.before.before.before.before.run.ensures, put.0, ← put.1)
 
 pub wn-run-spec : {M : Type 1} → statement M
 wn-run-spec =

@@ -3,7 +3,9 @@ use Rattle.host_watch.proofs.wn_watch.Statement.{statement}
 use Rattle.host_watch.proofs.wn_watch.Tie as tie
 
 returns : tie.Need-returns
-returns c = rw (c.before.before.before.before.before.before.before.before.watch.ensures, ← c.before.before.put-reply.ensures)
+returns c =
+    let put = c.before.before.put-reply.ensures in
+    rw (c.before.before.before.before.before.before.before.before.watch.ensures, put.0, ← put.1)
 
 pub wn-watch-spec : {M : Type 1} → statement M
 wn-watch-spec =

@@ -28,7 +28,7 @@ use denote.Triple.Statement.{Contract, Triple}
 use denote.Triple.Table.{entered, cited}
 use denote.Exit.{yes}
 use Rattle.model.specs.Modes.{plain as plain-mode}
-use Rattle.lent_step.specs.Counts.{Steppable, TurnIs, after_turn}
+use Rattle.counting.specs.Counts.{Steppable, TurnIs, after_turn}
 use Rattle.writers.specs.declared.Registers.{Registers}
 use Rattle.writers.specs.declared.Stepped.{Stepped}
 use Rattle.writers.specs.contracts.Registers as T

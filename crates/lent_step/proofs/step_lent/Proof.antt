@@ -28,7 +28,7 @@ use denote.Triple.Statement.{Contract, Triple}
 use denote.Triple.Table.{entered, cited}
 use denote.Exit.{yes}
 use Rattle.model.specs.Modes.{plain as plain-mode}
-use Rattle.lent_step.specs.Counts.{Steppable, TurnIs, after_turn}
+use Rattle.counting.specs.Counts.{Steppable, TurnIs, after_turn}
 use Rattle.writers.specs.declared.Registers.{Registers}
 use Rattle.writers.specs.declared.Stepped.{Stepped}
 use Rattle.writers.specs.contracts.Registers as T
@@ -55,10 +55,10 @@ use Rattle.lent_step.specs.contracts.step_counted as callee
 use Rattle.lent_step.proofs.step_counted.Symbol as callee-def
 use Rattle.lent_step.proofs.step_counted.Symbol.{name as #callee}
 use Rattle.lent_step.proofs.step_counted.Met as callee-thm
-use Rattle.lent_step.specs.contracts.after_step as after
-use Rattle.lent_step.proofs.after_step.Symbol as after-def
-use Rattle.lent_step.proofs.after_step.Symbol.{name as #after}
-use Rattle.lent_step.proofs.after_step.Met as after-thm
+use Rattle.counting.specs.contracts.after_step as after
+use Rattle.counting.proofs.after_step.Symbol as after-def
+use Rattle.counting.proofs.after_step.Symbol.{name as #after}
+use Rattle.counting.proofs.after_step.Met as after-thm
 use Rattle.lent_step.specs.contracts.step_lent.Key.{name as #me}
 use Rattle.lent_step.specs.contracts.step_lent as me
 use Rattle.lent_step.proofs.step_lent.Statement as stated
@@ -223,4 +223,4 @@ step-lent-spec 𝓤 𝓛 𝓜 𝓡 =
     (tables 𝓤 𝓛.H 𝓜 𝓡 code_of.env).C (tables 𝓤 𝓛.H 𝓜 𝓡 code_of.env).Λ #me code_of.function (code_of.unfolded 𝓤 𝓛.H 𝓜 𝓡)
     (meets 𝓛 𝓜.mem 𝓡.run (tables_of 𝓤 𝓛.H 𝓜 (tables 𝓤 𝓛.H 𝓜 𝓡 code_of.env))
     (cited 𝓤 𝓛.H (Callee 𝓛 𝓜.mem 𝓡.run) 𝓜 𝓡 code_of.env #callee callee-def.routine code_of.calls-lent-step::step-counted (callee-thm.met 𝓤 𝓛 𝓜 𝓡))
-    (cited 𝓤 𝓛.H (After 𝓛 𝓜.mem 𝓡.run) 𝓜 𝓡 code_of.env #after after-def.routine code_of.calls-lent-step::after-step (after-thm.met 𝓤 𝓛 𝓜 𝓡)))
+    (cited 𝓤 𝓛.H (After 𝓛 𝓜.mem 𝓡.run) 𝓜 𝓡 code_of.env #after after-def.routine code_of.calls-counting::after-step (after-thm.met 𝓤 𝓛 𝓜 𝓡)))

@@ -11,12 +11,13 @@ use Rattle.index.proofs.types.rights_in.Reads as rights-in-reads
 use Rattle.index.proofs.types.shape_in.Reads as shape-in-reads
 use Rattle.index.proofs.types.word_read.Reads as word-read-reads
 use Rattle.rights.proofs.has_right.Reads as has-right-reads
-use Rattle.order.proofs.element_word.Reads as element-word-reads
-use Rattle.order.proofs.equal_in.Reads as equal-in-reads
+use Rattle.equality.proofs.element_word.Reads as element-word-reads
+use Rattle.equality.proofs.equal_in.Reads as equal-in-reads
 use Rattle.order.proofs.is_alike_head.Reads as is-alike-head-reads
 use Rattle.order.proofs.is_array_above.Reads as is-array-above-reads
 use Rattle.order.proofs.is_covered.Reads as is-covered-reads
-use Rattle.order.proofs.Laws.{order_arrays, order_others, type_of_element, element_there_below, levels, levels_fall}
+use Rattle.equality.proofs.Laws.{type_of_element, element_there_below, levels, levels_fall}
+use Rattle.order.proofs.Laws.{order_arrays, order_others}
 use Rattle.order.proofs.agree_in.Reads as agree-in
 use Rattle.order.proofs.agree_in.Kinds as agree-in-kinds
 use Rattle.order.proofs.+agree_in.Lts-agree_in as agree-in-lts

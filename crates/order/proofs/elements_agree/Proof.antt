@@ -5,7 +5,7 @@ use borrow.Author.Rules.{rules}
 use borrow.Author.Tests.{eqb-true}
 use Rattle.model.proofs.Order.{elements_refl}
 use Rattle.model.proofs.Verdicts.{both_true}
-use Rattle.order.proofs.Laws.{type_of_lem, element_there}
+use Rattle.equality.proofs.Laws.{type_of_lem, element_there}
 use Rattle.order.proofs.elements_agree.Statement.{statement}
 use Rattle.order.proofs.elements_agree.Tie as tie
 

@@ -1,5 +1,4 @@
 -- Two arrays, or `moves_others`: the two tests of a movement, each on the words of the two types.
-use mathlib.Core.Path.{sym, ◌∙◌}
 use lib.Dec.{eqb}
 use borrow.Author.Rules.{rules}
 use borrow.Author.Tests.{eqb-true}

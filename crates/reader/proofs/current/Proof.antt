@@ -40,10 +40,10 @@ use Rattle.reader.specs.declared.Reader.{Reader}
 use Rattle.reader.proofs.Apart.{Row, passed, Own, apart}
 use Rattle.reader.specs.contracts.Reader as T
 use Rattle.reader.proofs.Reader.TheLaws as T'
-use Rattle.sheet.specs.contracts.records.record_at as record_at
-use Rattle.sheet.proofs.records.record_at.Symbol as record-at-def
-use Rattle.sheet.proofs.records.record_at.Symbol.{name as #sheet·record_at}
-use Rattle.sheet.proofs.records.record_at.Met as record-at-thm
+use Rattle.record_parts.specs.contracts.record_at as record_at
+use Rattle.record_parts.proofs.record_at.Symbol as record-at-def
+use Rattle.record_parts.proofs.record_at.Symbol.{name as #record_at}
+use Rattle.record_parts.proofs.record_at.Met as record-at-thm
 use Rattle.reader.specs.contracts.current.Key.{name as #reader·current}
 use Rattle.reader.specs.contracts.current as current
 use Rattle.reader.proofs.current.Statement as stated
@@ -85,7 +85,7 @@ module _ {M : Type 1} {𝓤 : Ura M} (𝓛 : Logic 𝓤) (mem : Memory → SProp
       suffices ! _ (ends_at 𝓛 current.ended stayed (current.clauses 𝓛 mem run) (((κ, tt), (q, tt), tt, (d, tt), (mach ∷ [], tt)), tt) u r (tt, tt) (tt, tt)) $ says ! e $
       move ! (1 ∷ []) $ frame ! $ nothing ! $ move ! (2 ∷ 0 ∷ []) $ fjoin ! $ frame ! $ done !
 
-  module _ (C : Calls 𝓤 H) (Λ : Loops 𝓤 H) (fm : FmC 𝓤 H 𝓛.laws C) (known : Triple 𝓤 (C #sheet·record_at) (RecordAt 𝓛 mem run)) where
+  module _ (C : Calls 𝓤 H) (Λ : Loops 𝓤 H) (fm : FmC 𝓤 H 𝓛.laws C) (known : Triple 𝓤 (C #record_at) (RecordAt 𝓛 mem run)) where
     walk : Holds (has_ty (T'.mir (named 0)) mach) × WT mach → ent 𝓤 (on_entry 𝓛 current.signature (κ, tt) (q, tt) (d, tt) (mach ∷ [], tt)) (WpFn 𝓤 H C Λ code.function (mach ∷ []) Post)
     walk wt =
         qed 𝓛 (raw (on_entry 𝓛 current.signature (κ, tt) (q, tt) (d, tt) (mach ∷ [], tt)) ∷ []) ∵ enter ! C Λ code.function (mach ∷ []) _ $
@@ -105,13 +105,13 @@ module _ {M : Type 1} {𝓤 : Ura M} (𝓛 : Logic 𝓤) (mem : Memory → SProp
 module _ {M : Type 1} {𝓤 : Ura M} (𝓛 : Logic 𝓤) (mem : Memory → SProp 𝓤) (run : Routine → Fun 𝓤) where
   open 𝓛 use {H}
 
-  current-walks : (C : Calls 𝓤 H) (Λ : Loops 𝓤 H) → FmC 𝓤 H 𝓛.laws C → Triple 𝓤 (C #sheet·record_at) (RecordAt 𝓛 mem run)
+  current-walks : (C : Calls 𝓤 H) (Λ : Loops 𝓤 H) → FmC 𝓤 H 𝓛.laws C → Triple 𝓤 (C #record_at) (RecordAt 𝓛 mem run)
       → Walks 𝓛 current.ended stayed (WpFn 𝓤 H C Λ code.function) (current.clauses 𝓛 mem run)
   current-walks C Λ fm known = walked 𝓛 current.ended stayed (current.clauses 𝓛 mem run) (WpFn 𝓤 H C Λ code.function) (λ κs. (LL.vals (T.the_type (named_lft 1 0 tt κs)) (T'.the_laws (named_lft 1 0 tt κs)), tt)) (λ κs. (LL.tells (T.the_type (named_lft 1 0 tt κs)) (T'.the_laws (named_lft 1 0 tt κs)), tt))
       (λ κs qs bounds a g are. via 𝓤 _ (fst∗ 𝓤 _ (emp 𝓤)) (walk 𝓛 mem run κs.0 qs.0 a.0 C Λ fm known ((LL.lawful (T.the_type (named_lft 1 0 tt κs)) (T'.the_laws (named_lft 1 0 tt κs)) 𝓛).typed a.0 _ are.0).0))
 
 current-meets : {M : Type 1} {𝓤 : Ura M} (𝓛 : Logic 𝓤) (mem : Memory → SProp 𝓤) (run : Routine → Fun 𝓤) (𝓣 : Tables 𝓤 𝓛.H)
-    → Triple 𝓤 (𝓣.C #sheet·record_at) (RecordAt 𝓛 mem run)
+    → Triple 𝓤 (𝓣.C #record_at) (RecordAt 𝓛 mem run)
     → Meets 𝓛 current.signature (WpFn 𝓤 𝓛.H 𝓣.C 𝓣.Λ code.function) (current.spec 𝓛 mem run)
 current-meets {𝓤 = 𝓤} 𝓛 mem run 𝓣 known-record-at = walk_Meets 𝓛 current.ended stayed (Goes-none 𝓛 1 Row yes (λ κs x f. refl), tt) (current.clauses 𝓛 mem run) (WpFn 𝓤 𝓛.H 𝓣.C 𝓣.Λ code.function) (WpFn-mono 𝓤 𝓛.H 𝓛.laws 𝓣 code.function)
     (current-walks 𝓛 mem run 𝓣.C 𝓣.Λ (fm_of 𝓤 𝓛.H 𝓛.laws 𝓣) known-record-at)
@@ -122,4 +122,4 @@ current-spec 𝓤 𝓛 𝓜 𝓡 =
     entered 𝓤 𝓛.H (triple_of 𝓛 current.signature (current.spec 𝓛 𝓜.mem 𝓡.run))
     (tables 𝓤 𝓛.H 𝓜 𝓡 code.env).C (tables 𝓤 𝓛.H 𝓜 𝓡 code.env).Λ #reader·current code.function (code.unfolded 𝓤 𝓛.H 𝓜 𝓡)
     (current-meets 𝓛 𝓜.mem 𝓡.run (tables_of 𝓤 𝓛.H 𝓜 (tables 𝓤 𝓛.H 𝓜 𝓡 code.env))
-    (cited 𝓤 𝓛.H (RecordAt 𝓛 𝓜.mem 𝓡.run) 𝓜 𝓡 code.env #sheet·record_at record-at-def.routine code.calls-sheet::records::record_at (record-at-thm.met 𝓤 𝓛 𝓜 𝓡)))
+    (cited 𝓤 𝓛.H (RecordAt 𝓛 𝓜.mem 𝓡.run) 𝓜 𝓡 code.env #record_at record-at-def.routine code.calls-record-parts::record_at (record-at-thm.met 𝓤 𝓛 𝓜 𝓡)))

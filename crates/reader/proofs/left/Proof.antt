@@ -40,10 +40,10 @@ use Rattle.reader.specs.declared.Reader.{Reader}
 use Rattle.reader.proofs.Apart.{Row, passed, Own, apart}
 use Rattle.reader.specs.contracts.Reader as T
 use Rattle.reader.proofs.Reader.TheLaws as T'
-use Rattle.sheet.specs.contracts.records.left_at as left_at
-use Rattle.sheet.proofs.records.left_at.Symbol as left-at-def
-use Rattle.sheet.proofs.records.left_at.Symbol.{name as #sheet·left-at}
-use Rattle.sheet.proofs.records.left_at.Met as left-at-thm
+use Rattle.record_parts.specs.contracts.left_at as left_at
+use Rattle.record_parts.proofs.left_at.Symbol as left-at-def
+use Rattle.record_parts.proofs.left_at.Symbol.{name as #left-at}
+use Rattle.record_parts.proofs.left_at.Met as left-at-thm
 use Rattle.reader.specs.contracts.left.Key.{name as #reader·left}
 use Rattle.reader.specs.contracts.left as left
 use Rattle.reader.proofs.left.Statement as stated
@@ -85,7 +85,7 @@ module _ {M : Type 1} {𝓤 : Ura M} (𝓛 : Logic 𝓤) (mem : Memory → SProp
       suffices ! _ (ends_at 𝓛 left.ended stayed (left.clauses 𝓛 mem run) (((κ, tt), (q, tt), tt, (d, tt), (mach ∷ [], tt)), tt) u r (tt, tt) (tt, tt)) $ says ! e $
       move ! (1 ∷ []) $ frame ! $ nothing ! $ move ! (2 ∷ 0 ∷ []) $ fjoin ! $ frame ! $ done !
 
-  module _ (C : Calls 𝓤 H) (Λ : Loops 𝓤 H) (fm : FmC 𝓤 H 𝓛.laws C) (known : Triple 𝓤 (C #sheet·left-at) (LeftAt 𝓛 mem run)) where
+  module _ (C : Calls 𝓤 H) (Λ : Loops 𝓤 H) (fm : FmC 𝓤 H 𝓛.laws C) (known : Triple 𝓤 (C #left-at) (LeftAt 𝓛 mem run)) where
     walk : Holds (has_ty (T'.mir (named 0)) mach) × WT mach → ent 𝓤 (on_entry 𝓛 left.signature (κ, tt) (q, tt) (d, tt) (mach ∷ [], tt)) (WpFn 𝓤 H C Λ code.function (mach ∷ []) Post)
     walk wt =
         qed 𝓛 (raw (on_entry 𝓛 left.signature (κ, tt) (q, tt) (d, tt) (mach ∷ [], tt)) ∷ []) ∵ enter ! C Λ code.function (mach ∷ []) _ $
@@ -105,13 +105,13 @@ module _ {M : Type 1} {𝓤 : Ura M} (𝓛 : Logic 𝓤) (mem : Memory → SProp
 module _ {M : Type 1} {𝓤 : Ura M} (𝓛 : Logic 𝓤) (mem : Memory → SProp 𝓤) (run : Routine → Fun 𝓤) where
   open 𝓛 use {H}
 
-  left-walks : (C : Calls 𝓤 H) (Λ : Loops 𝓤 H) → FmC 𝓤 H 𝓛.laws C → Triple 𝓤 (C #sheet·left-at) (LeftAt 𝓛 mem run)
+  left-walks : (C : Calls 𝓤 H) (Λ : Loops 𝓤 H) → FmC 𝓤 H 𝓛.laws C → Triple 𝓤 (C #left-at) (LeftAt 𝓛 mem run)
       → Walks 𝓛 left.ended stayed (WpFn 𝓤 H C Λ code.function) (left.clauses 𝓛 mem run)
   left-walks C Λ fm known = walked 𝓛 left.ended stayed (left.clauses 𝓛 mem run) (WpFn 𝓤 H C Λ code.function) (λ κs. (LL.vals (T.the_type (named_lft 1 0 tt κs)) (T'.the_laws (named_lft 1 0 tt κs)), tt)) (λ κs. (LL.tells (T.the_type (named_lft 1 0 tt κs)) (T'.the_laws (named_lft 1 0 tt κs)), tt))
       (λ κs qs bounds a g are. via 𝓤 _ (fst∗ 𝓤 _ (emp 𝓤)) (walk 𝓛 mem run κs.0 qs.0 a.0 C Λ fm known ((LL.lawful (T.the_type (named_lft 1 0 tt κs)) (T'.the_laws (named_lft 1 0 tt κs)) 𝓛).typed a.0 _ are.0).0))
 
 left_meets : {M : Type 1} {𝓤 : Ura M} (𝓛 : Logic 𝓤) (mem : Memory → SProp 𝓤) (run : Routine → Fun 𝓤) (𝓣 : Tables 𝓤 𝓛.H)
-    → Triple 𝓤 (𝓣.C #sheet·left-at) (LeftAt 𝓛 mem run)
+    → Triple 𝓤 (𝓣.C #left-at) (LeftAt 𝓛 mem run)
     → Meets 𝓛 left.signature (WpFn 𝓤 𝓛.H 𝓣.C 𝓣.Λ code.function) (left.spec 𝓛 mem run)
 left_meets {𝓤 = 𝓤} 𝓛 mem run 𝓣 known-left-at = walk_Meets 𝓛 left.ended stayed (Goes-none 𝓛 1 Row yes (λ κs x f. refl), tt) (left.clauses 𝓛 mem run) (WpFn 𝓤 𝓛.H 𝓣.C 𝓣.Λ code.function) (WpFn-mono 𝓤 𝓛.H 𝓛.laws 𝓣 code.function)
     (left-walks 𝓛 mem run 𝓣.C 𝓣.Λ (fm_of 𝓤 𝓛.H 𝓛.laws 𝓣) known-left-at)
@@ -122,4 +122,4 @@ left-spec 𝓤 𝓛 𝓜 𝓡 =
     entered 𝓤 𝓛.H (triple_of 𝓛 left.signature (left.spec 𝓛 𝓜.mem 𝓡.run))
     (tables 𝓤 𝓛.H 𝓜 𝓡 code.env).C (tables 𝓤 𝓛.H 𝓜 𝓡 code.env).Λ #reader·left code.function (code.unfolded 𝓤 𝓛.H 𝓜 𝓡)
     (left_meets 𝓛 𝓜.mem 𝓡.run (tables_of 𝓤 𝓛.H 𝓜 (tables 𝓤 𝓛.H 𝓜 𝓡 code.env))
-    (cited 𝓤 𝓛.H (LeftAt 𝓛 𝓜.mem 𝓡.run) 𝓜 𝓡 code.env #sheet·left-at left-at-def.routine code.calls-sheet::records::left-at (left-at-thm.met 𝓤 𝓛 𝓜 𝓡)))
+    (cited 𝓤 𝓛.H (LeftAt 𝓛 𝓜.mem 𝓡.run) 𝓜 𝓡 code.env #left-at left-at-def.routine code.calls-record-parts::left-at (left-at-thm.met 𝓤 𝓛 𝓜 𝓡)))

@@ -42,10 +42,10 @@ use Rattle.reader.specs.declared.Reader.{Reader}
 use Rattle.reader.proofs.Apart.{Row, passed, D, L, fields, Own, apart}
 use Rattle.reader.specs.contracts.Reader as T
 use Rattle.reader.proofs.Reader.TheLaws as T'
-use Rattle.sheet.specs.contracts.records.past_at as past-at
-use Rattle.sheet.proofs.records.past_at.Symbol as past-at-def
-use Rattle.sheet.proofs.records.past_at.Symbol.{name as #sheet·past-at}
-use Rattle.sheet.proofs.records.past_at.Met as past-at-thm
+use Rattle.record_parts.specs.contracts.past_at as past-at
+use Rattle.record_parts.proofs.past_at.Symbol as past-at-def
+use Rattle.record_parts.proofs.past_at.Symbol.{name as #past-at}
+use Rattle.record_parts.proofs.past_at.Met as past-at-thm
 use Rattle.reader.specs.contracts.past.Key.{name as #reader·past}
 use Rattle.reader.specs.contracts.past as past
 use Rattle.reader.proofs.past.Statement as stated
@@ -92,7 +92,7 @@ module _ {M : Type 1} {𝓤 : Ura M} (𝓛 : Logic 𝓤) (mem : Memory → SProp
       -- [what the struct owns]: the number's facts take the place of at's
       owned ! usize (Is usize) (uint_Makes 𝓛 w64) r _ (refl, fits) $ move ! (1 ∷ 0 ∷ []) $ by ! (own_put 𝓛 (D κ d) (L κ d) 1 (fields κ d) r mach)
 
-  module _ (C : Calls 𝓤 H) (Λ : Loops 𝓤 H) (fm : FmC 𝓤 H 𝓛.laws C) (known : Triple 𝓤 (C #sheet·past-at) (PastAt 𝓛 mem run)) where
+  module _ (C : Calls 𝓤 H) (Λ : Loops 𝓤 H) (fm : FmC 𝓤 H 𝓛.laws C) (known : Triple 𝓤 (C #past-at) (PastAt 𝓛 mem run)) where
     walk : Holds (has_ty (T'.mir (named 0)) mach) × WT mach → ent 𝓤 (on_entry 𝓛 past.signature (κ, tt) (q, tt) (d, tt) (mach ∷ [], tt)) (WpFn 𝓤 H C Λ code.function (mach ∷ []) Post)
     walk wt =
         qed 𝓛 (raw (on_entry 𝓛 past.signature (κ, tt) (q, tt) (d, tt) (mach ∷ [], tt)) ∷ []) ∵ enter ! C Λ code.function (mach ∷ []) _ $
@@ -116,13 +116,13 @@ module _ {M : Type 1} {𝓤 : Ura M} (𝓛 : Logic 𝓤) (mem : Memory → SProp
 module _ {M : Type 1} {𝓤 : Ura M} (𝓛 : Logic 𝓤) (mem : Memory → SProp 𝓤) (run : Routine → Fun 𝓤) where
   open 𝓛 use {H}
 
-  past-walks : (C : Calls 𝓤 H) (Λ : Loops 𝓤 H) → FmC 𝓤 H 𝓛.laws C → Triple 𝓤 (C #sheet·past-at) (PastAt 𝓛 mem run)
+  past-walks : (C : Calls 𝓤 H) (Λ : Loops 𝓤 H) → FmC 𝓤 H 𝓛.laws C → Triple 𝓤 (C #past-at) (PastAt 𝓛 mem run)
       → Walks 𝓛 past.ended stayed (WpFn 𝓤 H C Λ code.function) (past.clauses 𝓛 mem run)
   past-walks C Λ fm known = walked 𝓛 past.ended stayed (past.clauses 𝓛 mem run) (WpFn 𝓤 H C Λ code.function) (λ κs. (LL.vals (T.the_type (named_lft 1 0 tt κs)) (T'.the_laws (named_lft 1 0 tt κs)), tt)) (λ κs. (LL.tells (T.the_type (named_lft 1 0 tt κs)) (T'.the_laws (named_lft 1 0 tt κs)), tt))
       (λ κs qs bounds a g are. via 𝓤 _ (fst∗ 𝓤 _ (emp 𝓤)) (walk 𝓛 mem run κs.0 qs.0 a.0 C Λ fm known ((LL.lawful (T.the_type (named_lft 1 0 tt κs)) (T'.the_laws (named_lft 1 0 tt κs)) 𝓛).typed a.0 _ are.0).0))
 
 past-meets : {M : Type 1} {𝓤 : Ura M} (𝓛 : Logic 𝓤) (mem : Memory → SProp 𝓤) (run : Routine → Fun 𝓤) (𝓣 : Tables 𝓤 𝓛.H)
-    → Triple 𝓤 (𝓣.C #sheet·past-at) (PastAt 𝓛 mem run)
+    → Triple 𝓤 (𝓣.C #past-at) (PastAt 𝓛 mem run)
     → Meets 𝓛 past.signature (WpFn 𝓤 𝓛.H 𝓣.C 𝓣.Λ code.function) (past.spec 𝓛 mem run)
 past-meets {𝓤 = 𝓤} 𝓛 mem run 𝓣 known-past-at = walk_Meets 𝓛 past.ended stayed (Goes-none 𝓛 1 Row yes (λ κs x f. refl), tt) (past.clauses 𝓛 mem run) (WpFn 𝓤 𝓛.H 𝓣.C 𝓣.Λ code.function) (WpFn-mono 𝓤 𝓛.H 𝓛.laws 𝓣 code.function)
     (past-walks 𝓛 mem run 𝓣.C 𝓣.Λ (fm_of 𝓤 𝓛.H 𝓛.laws 𝓣) known-past-at)
@@ -133,4 +133,4 @@ past-spec 𝓤 𝓛 𝓜 𝓡 =
     entered 𝓤 𝓛.H (triple_of 𝓛 past.signature (past.spec 𝓛 𝓜.mem 𝓡.run))
     (tables 𝓤 𝓛.H 𝓜 𝓡 code.env).C (tables 𝓤 𝓛.H 𝓜 𝓡 code.env).Λ #reader·past code.function (code.unfolded 𝓤 𝓛.H 𝓜 𝓡)
     (past-meets 𝓛 𝓜.mem 𝓡.run (tables_of 𝓤 𝓛.H 𝓜 (tables 𝓤 𝓛.H 𝓜 𝓡 code.env))
-    (cited 𝓤 𝓛.H (PastAt 𝓛 𝓜.mem 𝓡.run) 𝓜 𝓡 code.env #sheet·past-at past-at-def.routine code.calls-sheet::records::past-at (past-at-thm.met 𝓤 𝓛 𝓜 𝓡)))
+    (cited 𝓤 𝓛.H (PastAt 𝓛 𝓜.mem 𝓡.run) 𝓜 𝓡 code.env #past-at past-at-def.routine code.calls-record-parts::past-at (past-at-thm.met 𝓤 𝓛 𝓜 𝓡)))

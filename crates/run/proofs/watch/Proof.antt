@@ -2,7 +2,7 @@
 use mathlib.Core.Path.{sym, ◌∙◌}
 use Rattle.model.proofs.AnyProgram.{watched_not_stuck}
 use Rattle.form.proofs.WellFormed.{form_ready}
-use Rattle.run.specs.Run.{answer, end}
+use Rattle.answers.specs.Answer.{answer, end}
 use borrow.Author.Rules.{rules}
 use Rattle.run.proofs.watch.Statement.{statement}
 use Rattle.run.proofs.watch.Tie as tie
@@ -16,7 +16,7 @@ run-lent-requires c κs =
 returns : tie.Need-returns
 unfolding answer
 returns c =
-    let e = sym c.before.before.before.before.well-formed-2.ensures ∙ c.before.before.number.given.1 in rw (e, c.refusal.ensures)
+    let e = sym c.before.before.before.before.well-formed-2.ensures ∙ c.before.before.number.given.1 in rw e (c.refusal.ensures _ _)
 
 returns-2 : tie.Need-returns-2
 unfolding answer

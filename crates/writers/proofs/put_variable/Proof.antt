@@ -1,5 +1,5 @@
 -- The part that is lent has as many words as the frame has variables, and the variable is one of them.
-use Prim.Native.Nat.{◌+◌, ◌-◌, ◌≤◌}
+use Prim.Native.Nat.{◌-◌, ◌≤◌}
 use mathlib.Core.Path.{◌≡◌}
 use native.Mathlib.Omega.{arith}
 use borrow.Rule.Slice.PartMut.{set_mid_at}

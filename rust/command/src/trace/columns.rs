@@ -49,11 +49,11 @@ impl Columns {
         }
     }
 
-    /// The line of a step, with what it did in the last column.
-    pub fn line(&self, step: u64, place: Place, did: &str) -> String {
+    /// The line of a step up to the last column, which has what it did.
+    pub fn start(&self, step: u64, place: Place) -> String {
         let width = self.step;
         let middle = &self.middle[place.procedure][place.instruction];
-        format!("step {step:>width$}  {middle}  {did}")
+        format!("step {step:>width$}  {middle}  ")
     }
 }
 

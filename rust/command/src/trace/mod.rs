@@ -101,7 +101,7 @@ impl List<'_> {
             let made = matches!(ended, None | Some(Some(Stop::Done)));
             if let Some(due) = due.filter(|_| made) {
                 let did = self.effects.told(&due, machine);
-                writeln!(output, "{}", self.columns.line(step, due.place, &did))?;
+                writeln!(output, "{}{did}", self.columns.start(step, due.place))?;
             }
             if let Some(stop) = ended {
                 let outcome = stop.map(|stop| machine.outcome(stop));

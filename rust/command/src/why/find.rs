@@ -6,7 +6,7 @@ use super::types;
 use crate::arguments::nearest;
 use crate::trace::value::Teller;
 use reference::machine::watched::{Cell, State, Value};
-use reference::provenance::Location;
+use reference::provenance::{History, Location};
 use reference::Kind;
 use text::{quoted, Type};
 
@@ -25,6 +25,8 @@ pub struct Found {
 pub struct Finder<'a> {
     pub teller: Teller<'a>,
     pub state: &'a State,
+    /// The steps that led to the state.
+    pub history: &'a History<'a>,
 }
 
 impl Finder<'_> {
@@ -56,10 +58,10 @@ impl Finder<'_> {
     }
 
     /// A location as a question names it.
-    fn said(&self, location: Location) -> String {
+    pub fn said(&self, location: Location) -> String {
         Locations {
             teller: self.teller,
-            objects: &self.state.objects,
+            history: self.history,
         }
         .in_frames(&self.state.frames, location)
     }

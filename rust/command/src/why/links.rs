@@ -1,63 +1,83 @@
-//! The links of a chain, told in the words of a text.
+//! The parts of a link in the words of a text.
 
 use super::locations::Locations;
-use super::told::{Amplified, Declared, How, Link};
 use super::types;
-use crate::located::Located;
-use crate::source::Source;
 use crate::trace::machine::operation;
 use reference::generic::Read;
-use reference::machine::watched::State;
-use reference::provenance::{self, History, Location, Origin};
+use reference::provenance::{Link, Location, Origin};
 use reference::{Operation, Place};
 
+/// Tells of the links of a chain.
 pub struct Links<'a> {
-    pub source: &'a Source,
     pub locations: Locations<'a>,
-    pub history: &'a History,
-    /// The state after the steps of the history.
-    pub state: &'a State,
     /// The right whose chain it is.
     pub right: usize,
 }
 
+/// A declared type, and what is declared so: of need, inner, result, element
+/// and slot the one that it is, and in words.
+pub struct Declared {
+    pub is: String,
+    pub role: &'static str,
+    pub whose: String,
+}
+
+/// A formal that carries the rights of its inner type, whatever the actual
+/// carried.
+pub struct Amplified {
+    pub procedure: String,
+    pub formal: String,
+    /// The type whose module the procedure is of.
+    pub module: String,
+    pub inner: String,
+    pub need: String,
+    pub actual: String,
+    /// A right that the actual was asked for, if there is one: that of the
+    /// question, or the first.
+    pub asked: Option<String>,
+}
+
 impl Links<'_> {
-    pub fn told(&self, link: &provenance::Link) -> Link {
-        let &provenance::Link {
-            step, place, at, ..
-        } = link;
-        let teller = self.locations.teller;
-        let instruction =
-            &teller.program.procedures[place.procedure].instructions[place.instruction];
-        let how = match &link.origin {
-            Origin::BoundFrom { from, through } => How::Bound {
-                from: self.locations.of(place.procedure, *from),
-                through: self.through(link, through),
-            },
-            Origin::Amplified { procedure, formal } => {
-                How::Amplified(self.amplified(place, *procedure, *formal))
-            }
+    /// The byte at which the record of the instruction starts.
+    pub fn record(&self, link: &Link) -> usize {
+        let procedures = &self.locations.teller.program.procedures;
+        let Place {
+            procedure,
+            instruction,
+        } = link.place;
+        procedures[procedure].instructions[instruction].place
+    }
+
+    /// What the step filled.
+    pub fn location(&self, link: &Link) -> String {
+        self.locations.of(self.running(link.step), link.at)
+    }
+
+    /// A location from which the object came in the step.
+    pub fn from(&self, link: &Link, from: Location) -> String {
+        self.locations.of(link.place.procedure, from)
+    }
+
+    /// What the step did to the location, in parts, since names may be long.
+    pub fn moved(&self, link: &Link) -> [String; 3] {
+        let (did, from) = match link.origin {
+            Origin::BoundFrom { from, .. } => (" <- ", self.from(link, from)),
+            Origin::Amplified { .. } => (" is amplified", String::new()),
             // A link has no other origin.
-            Origin::Made | Origin::Stays | Origin::GivenUp => How::Made,
+            Origin::Made | Origin::Stays | Origin::GivenUp => (" is new", String::new()),
         };
-        Link {
-            step,
-            place,
-            at: Located::new(self.source, instruction.place, &[]),
-            location: self.locations.of(self.running(step), at),
-            how,
-        }
+        [self.location(link), String::from(did), from]
     }
 
     /// The procedure of the frame that runs after a step: a variable that the
     /// step fills is one of that frame.
     fn running(&self, step: u64) -> usize {
-        let next = self.history.place(step + 1).map(|place| place.procedure);
-        let last = self.state.frames.last().map(|frame| frame.procedure);
-        next.or(last).unwrap_or(0)
+        let next = self.locations.history.place(step + 1);
+        next.map_or(0, |place| place.procedure)
     }
 
-    fn through(&self, link: &provenance::Link, through: &[Read]) -> Vec<Declared> {
+    /// The declared types that the step bound the value to.
+    pub fn through(&self, link: &Link, through: &[Read]) -> Vec<Declared> {
         let teller = self.locations.teller;
         let declared = through.iter().zip(self.destinations(link));
         let declared = declared.map(|(&read, (role, whose))| Declared {
@@ -72,7 +92,7 @@ impl Links<'_> {
     }
 
     /// What has the declared types that a step binds a value to.
-    fn destinations(&self, link: &provenance::Link) -> Vec<(&'static str, String)> {
+    fn destinations(&self, link: &Link) -> Vec<(&'static str, String)> {
         let teller = self.locations.teller;
         let (program, names) = (teller.program, teller.names);
         let own = link.place.procedure;
@@ -108,7 +128,8 @@ impl Links<'_> {
         }
     }
 
-    fn amplified(&self, place: Place, procedure: usize, formal: usize) -> Amplified {
+    /// A formal that the call at the place amplifies.
+    pub fn amplified(&self, place: Place, procedure: usize, formal: usize) -> Amplified {
         let teller = self.locations.teller;
         let (names, notation) = (teller.names, teller.notation());
         let callee = &teller.sheet.procedures[procedure];

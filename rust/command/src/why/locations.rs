@@ -1,14 +1,14 @@
 //! Locations in the words of a question.
 
 use crate::trace::value::Teller;
-use reference::machine::watched::{Frame, Object};
-use reference::provenance::Location;
-use reference::Kind;
+use reference::generic::Form;
+use reference::machine::watched::Frame;
+use reference::provenance::{History, Location};
 
 #[derive(Clone, Copy)]
 pub struct Locations<'a> {
     pub teller: Teller<'a>,
-    pub objects: &'a [Object],
+    pub history: &'a History<'a>,
 }
 
 impl Locations<'_> {
@@ -17,8 +17,8 @@ impl Locations<'_> {
     pub fn of(&self, procedure: usize, location: Location) -> String {
         match location {
             Location::Variable { index, .. } => self.variable(procedure, index),
-            Location::Cell { object, index } => match self.objects[object].kind {
-                Kind::Record { of } => {
+            Location::Cell { object, index } => match self.history.object(object) {
+                Form::Record { of } => {
                     let slot = self.teller.names.slot(of, index);
                     format!("object {object}.{slot}")
                 }

@@ -3,6 +3,7 @@
 
 mod find;
 mod json;
+mod lines;
 mod links;
 mod locations;
 mod question;
@@ -12,82 +13,94 @@ mod types;
 use crate::engine::{agreed, disagree, Lent};
 use crate::options::Why;
 use crate::source::Source;
-use crate::trace::columns::Columns;
 use crate::trace::value::Teller;
 use crate::trace::{before_main, NO_SHEET};
 use crate::Failure;
-use find::{Finder, Found};
-pub use json::object;
-use links::Links;
-use locations::Locations;
+use find::Finder;
 pub use question::Question;
 use reference::machine::watched::{Machine, State};
 use reference::machine::Resources;
-use reference::provenance::History;
-use reference::{parse, Outcome, Stop};
+use reference::provenance::{History, Link};
+use reference::{parse, Outcome, Program, Stop};
 use std::ffi::OsStr;
 use text::Sheet;
-use told::Link;
 pub use told::Told;
 
-/// The most steps that are looked back on: some seconds, and their memory.
+/// The most steps that are looked back on: some seconds, and four bytes each.
 const MOST_STEPS: u64 = 10_000_000;
 
 /// A run on the proved watched machine, of which a question is asked.
 pub struct Asked<'a> {
-    pub path: &'a OsStr,
-    pub source: &'a Source,
-    pub lent: &'a Lent<'a>,
-    pub why: &'a Why,
-    pub outcome: Outcome,
+    path: &'a OsStr,
+    source: &'a Source,
+    lent: &'a Lent<'a>,
+    why: &'a Why,
+    outcome: Outcome,
     /// As the run left it.
-    pub report: &'a [u32],
+    report: &'a [u32],
+    program: Program,
+    sheet: Sheet,
 }
 
-impl Asked<'_> {
-    /// Makes the steps again, tells where the right came from, and sees that
-    /// the run ends as the proved machine's did. None where nothing was run.
-    pub fn told(&self) -> Result<Option<Told>, Failure> {
-        let Outcome::Stopped { stop, steps, .. } = self.outcome else {
-            return Ok(None);
-        };
-        let after = self.after(stop, steps)?;
+impl<'a> Asked<'a> {
+    pub fn new(
+        path: &'a OsStr,
+        source: &'a Source,
+        lent: &'a Lent<'a>,
+        why: &'a Why,
+        outcome: Outcome,
+        report: &'a [u32],
+    ) -> Result<Self, Failure> {
+        let program = parse(lent.sheet).map_err(|refusal| disagree(&outcome, &refusal))?;
+        let sheet = Sheet::read(lent.sheet).ok_or_else(|| disagree(&outcome, &NO_SHEET))?;
+        Ok(Asked {
+            path,
+            source,
+            lent,
+            why,
+            outcome,
+            report,
+            program,
+            sheet,
+        })
+    }
+
+    /// Makes the steps again, finds where the right came from, and sees that
+    /// the run ends as the proved machine's did.
+    pub fn told(&self) -> Result<Told<'_>, Failure> {
+        let after = self.after()?;
         let lent = self.lent;
-        let program = parse(lent.sheet).map_err(|refusal| disagree(&self.outcome, &refusal))?;
-        let sheet = Sheet::read(lent.sheet).ok_or_else(|| disagree(&self.outcome, &NO_SHEET))?;
-        let teller = Teller {
-            program: &program,
-            sheet: &sheet,
-            names: &self.source.names,
-        };
         let resources = Resources {
             input: lent.reads,
             fuel: lent.fuel,
             memory_words: lent.memory_words,
             output_words: self.report.len(),
         };
-        let mut machine = match Machine::start(&program, resources) {
+        let mut machine = match Machine::start(&self.program, resources) {
             Ok(machine) => machine,
             Err(stop) => {
                 agreed(self.outcome, before_main(stop))?;
                 return Err(self.unanswered(after, "main's frame has no room"));
             }
         };
-        let mut history = History::new();
+        let mut history = History::with_capacity(&self.program, after as usize);
         while history.steps() < after && history.step(&mut machine).is_ok() {}
-        let told = self.chain(teller, machine.state(), &history, after);
+        let told = self.chain(machine.state(), history);
         let stop = machine.finish();
         let put = &machine.state().output[..];
         let left = self.report.get(..put.len()).unwrap_or(self.report);
         agreed((self.outcome, left), (machine.outcome(stop), put))?;
-        told.map(Some)
+        told
     }
 
     /// After how many steps it is asked: at the stop, but not after the return
     /// that gives 11, since no variable is left then.
-    fn after(&self, stop: Stop, steps: u64) -> Result<u64, Failure> {
-        let last = match stop {
-            Stop::Done => steps - 1,
+    fn after(&self) -> Result<u64, Failure> {
+        let [_, steps, ..] = self.outcome.reply();
+        let last = match self.outcome {
+            Outcome::Stopped {
+                stop: Stop::Done, ..
+            } => steps - 1,
             _ => steps,
         };
         let after = self.why.after.unwrap_or(last);
@@ -102,58 +115,42 @@ impl Asked<'_> {
     }
 
     /// What the place holds after the steps of the history, and its chain.
-    fn chain(
-        &self,
-        teller: Teller,
-        state: &State,
-        history: &History,
-        after: u64,
-    ) -> Result<Told, Failure> {
-        let finder = Finder { teller, state };
-        let found = finder.find(&self.why.question);
-        let found = found.map_err(|message| self.unanswered(after, &message))?;
-        let chain = history.chain(after, found.location);
-        let chain = chain.ok_or_else(|| {
-            let said = &self.why.question.said;
-            Failure::Failed(format!("the second engine finds no chain of {said}"))
-        })?;
-        let locations = Locations {
-            teller,
-            objects: &state.objects,
-        };
-        let links = Links {
-            source: self.source,
-            locations,
-            history,
-            state,
-            right: found.right,
-        };
-        let links = chain.iter().map(|link| links.told(link)).collect();
-        Ok(self.in_words(locations, state, after, &found, links))
-    }
-
-    fn in_words(
-        &self,
-        locations: Locations,
-        state: &State,
-        after: u64,
-        found: &Found,
-        links: Vec<Link>,
-    ) -> Told {
-        let teller = locations.teller;
+    fn chain<'b>(&'b self, state: &State, history: History<'b>) -> Result<Told<'b>, Failure> {
+        let after = history.steps();
         let question = &self.why.question;
-        let lines: Vec<&str> = self.source.text.lines().collect();
-        let [_, steps, ..] = self.outcome.reply();
-        Told {
-            after,
-            way: (!question.parts.is_empty()).then(|| String::from(question.place())),
-            location: locations.in_frames(&state.frames, found.location),
-            object: found.object,
-            carries: teller.notation().said(&found.carried),
-            right: question.right.clone(),
-            links,
-            columns: Columns::of(self.source, &lines, teller.program, steps),
+        let teller = Teller {
+            program: &self.program,
+            sheet: &self.sheet,
+            names: &self.source.names,
+        };
+        let finder = Finder {
+            teller,
+            state,
+            history: &history,
+        };
+        let found = finder.find(question);
+        let found = found.map_err(|message| self.unanswered(after, &message))?;
+        let place = finder.said(found.location);
+        let links = history.links(after, found.location);
+        let (count, last) = links.fold((0, None), |(count, _), link| (count + 1, Some(link)));
+        if !last.as_ref().is_some_and(Link::is_end) {
+            let said = &question.said;
+            let message = format!("the second engine finds no chain of {said}");
+            return Err(Failure::Failed(message));
         }
+        let [_, steps, ..] = self.outcome.reply();
+        Ok(Told {
+            way: (!question.parts.is_empty()).then(|| String::from(question.place())),
+            place,
+            found,
+            right: question.right.clone(),
+            count,
+            all: self.why.all,
+            source: self.source,
+            teller,
+            history,
+            steps,
+        })
     }
 
     fn unanswered(&self, after: u64, why: &str) -> Failure {

@@ -11,30 +11,26 @@ use reference::{parse, Kind, Operation, Program, Rights};
 use std::path::Path;
 
 /// The steps of a run, with the states before, between and after them.
-struct Made {
-    program: Program,
-    history: History,
+struct Made<'a> {
+    program: &'a Program,
+    history: History<'a>,
     states: Vec<State>,
     /// The call of the command, but for the question.
     call: Vec<String>,
     reads: String,
 }
 
-impl Made {
-    fn new(run: &Run, folder: &Path) -> Option<Made> {
-        let program = parse(&run.sheet).expect("the layout is right");
-        let mut history = History::new();
-        let mut states = Vec::new();
-        {
-            let mut machine = Machine::start(&program, run.resources()).ok()?;
+impl<'a> Made<'a> {
+    fn new(program: &'a Program, run: &Run, folder: &Path) -> Option<Made<'a>> {
+        let mut history = History::new(program);
+        let mut machine = Machine::start(program, run.resources()).ok()?;
+        let mut states = vec![machine.state().clone()];
+        while history.step(&mut machine).is_ok() {
             states.push(machine.state().clone());
-            while history.step(&mut machine).is_ok() {
-                states.push(machine.state().clone());
-            }
-            // main's return is a step too.
-            if history.steps() as usize == states.len() {
-                states.push(machine.state().clone());
-            }
+        }
+        // main's return is a step too.
+        if history.steps() as usize == states.len() {
+            states.push(machine.state().clone());
         }
         let sheet = written(folder, "sheet", &run.sheet);
         let [fuel, memory, report] = [
@@ -166,7 +162,7 @@ impl Made {
             assert_eq!(links.clone().count(), chain.len(), "{question}: {printed}");
             for (line, link) in links.zip(&chain) {
                 self.compare_line(line, link, object);
-                seen.add(&self.program, link);
+                seen.add(self.program, link);
             }
             self.follow(&lines, seen);
         }
@@ -192,7 +188,7 @@ impl Made {
     fn ask(&self, after: usize, at_stop: bool, question: &str) -> String {
         let mut call: Vec<&str> = self.call.iter().map(String::as_str).collect();
         let steps = after.to_string();
-        call.extend(["--why", question]);
+        call.extend(["--why", question, "--all"]);
         if !at_stop {
             call.extend(["--after", &steps]);
         }
@@ -275,7 +271,7 @@ fn compare_family(family: &Family, seeds: u64, seen: &mut Seen) {
         let program = parse(&family.sheet(seed).encode()).expect("the layout is right");
         let need = |first: &Run| examine(&program, first.resources()).need;
         let run = family.runs(seed, need).remove(0);
-        let Some(made) = Made::new(&run, &folder) else {
+        let Some(made) = Made::new(&program, &run, &folder) else {
             continue;
         };
         let steps = made.history.steps() as usize;

@@ -6,11 +6,12 @@ use super::{case, refused, Case, ACCEPTED};
 use crate::operations::{
     add, bind, call, get_slot, give_back, jump_if_zero, leave, new_record, set, set_slot,
 };
-use crate::records::{InstructionRecord, NONE, OPEN};
+use crate::records::{InstructionRecord, QualifiedRecord, NONE, OPEN};
 use crate::sheet::{Procedure, SheetBuilder};
 
 pub fn cases() -> Vec<Case> {
     let mut all = type_cases();
+    all.extend(last_type_cases());
     all.extend(procedure_cases());
     all.extend(actual_cases());
     all.extend(instruction_cases());
@@ -72,6 +73,30 @@ fn type_cases() -> Vec<Case> {
     ]
 }
 
+/// 32 types, of which type 33, at 378, alone has slots: seven integers, and
+/// last the qualified type given. Main has a return alone.
+fn last_slot(last: QualifiedRecord) -> Vec<u8> {
+    let all = (0..31).fold(SheetBuilder::new(), |all, _| all.record_type(1, &[]));
+    all.record_type(1, &[0, 0, 0, 0, 0, 0, 0, 1])
+        .integer()
+        .qualified(last)
+        .procedure(Procedure::main().body(&[leave()]))
+        .build()
+        .encode()
+}
+
+#[rustfmt::skip]
+fn last_type_cases() -> Vec<Case> {
+    let open = "6 is given at the TY whose slot";
+    let used = "Used (itself or as an element) in a slot or without a GN, it is 5 at the TY";
+    vec![
+        case("a slot of type 33", open, last_slot(QualifiedRecord::record(33, READ)), ACCEPTED),
+        case("open in a slot of type 33", open, last_slot(QualifiedRecord::record(33, OPEN | READ)), refused(6, 378)),
+        case("another type's open in a slot of type 33", open, last_slot(QualifiedRecord::record(2, OPEN)), refused(6, 378)),
+        case("?R in a slot of type 33", used, last_slot(QualifiedRecord::GENERIC), refused(5, 378)),
+    ]
+}
+
 /// Main with an integer and a call of the procedure given, and after it so
 /// many procedures of which the last alone is another. The call stands at 24.
 fn among(count: u16, k: u16, kept: u8, last: Procedure, others: &Procedure) -> Vec<u8> {
@@ -89,6 +114,7 @@ fn procedure_cases() -> Vec<Case> {
     let kept = "a call keeps one only then";
     let none = Procedure::new(0, NONE).body(&[leave()]);
     let gives = Procedure::new(0, 0).variable(0).body(&[give_back(0)]);
+    let calls = |k: u16| Procedure::new(0, NONE).body(&[call(NONE, NONE, k), leave()]);
     vec![
         case("procedure 63 of 64", below, among(63, 63, NONE, none.clone(), &none), ACCEPTED),
         case("procedure 64 of 64", below, among(63, 64, NONE, none.clone(), &none), refused(5, 24)),
@@ -97,7 +123,10 @@ fn procedure_cases() -> Vec<Case> {
         case("the result of 63 kept, of the last alone", kept, among(63, 63, 0, gives.clone(), &none), ACCEPTED),
         case("no result of 63 kept", kept, among(63, 63, 0, none.clone(), &gives), refused(8, 24)),
         case("the result of 32 kept, of the last alone", kept, among(32, 32, 0, gives.clone(), &none), ACCEPTED),
-        case("no result of 32 kept", kept, among(32, 32, 0, none, &gives), refused(8, 24)),
+        case("no result of 32 kept", kept, among(32, 32, 0, none.clone(), &gives), refused(8, 24)),
+        // Procedure 63 stands at 1,032, with its call at 1,040.
+        case("procedure 63 calls itself", below, among(63, 63, NONE, calls(63), &none), ACCEPTED),
+        case("procedure 63 calls 64", below, among(63, 63, NONE, calls(64), &none), refused(5, 1_040)),
     ]
 }
 
@@ -124,8 +153,22 @@ fn passing(actuals: &[u8], needs: &[u8]) -> Vec<u8> {
         .encode()
 }
 
+/// Main has 32 integers and calls procedure 1, at 148, with so many of them
+/// from a variable on.
+fn passing_from(first: u8, count: usize) -> Vec<u8> {
+    let callee = (0..count).fold(Procedure::new(0, NONE), |all, _| all.formal(0, 0));
+    let body = [call(NONE, first, 1), leave()];
+    SheetBuilder::new()
+        .integer()
+        .procedure(Procedure::main().variables(&[0; 32]).body(&body))
+        .procedure(callee.body(&[leave()]))
+        .build()
+        .encode()
+}
+
 #[rustfmt::skip]
 fn actual_cases() -> Vec<Case> {
+    let range = "else b to b+f−1 all below v";
     let movement = "Each movement needs source ≥ destination: variable, element, slot type, need QT, result QT";
     let last = |count: usize, actual: u8| {
         let mut all = vec![3; count];
@@ -140,6 +183,11 @@ fn actual_cases() -> Vec<Case> {
         case("eighth actual of less", movement, last(8, 1), refused(9, 82)),
         case("fifth actual of another kind", movement, last(5, 0), refused(8, 70)),
         case("eighth actual of another kind", movement, last(8, 0), refused(8, 82)),
+        case("eight actuals from 24 of 32", range, passing_from(24, 8), ACCEPTED),
+        case("eight actuals from 25 of 32", range, passing_from(25, 8), refused(5, 148)),
+        case("eight actuals from 31 of 32", range, passing_from(31, 8), refused(5, 148)),
+        case("two actuals from 31 of 32", range, passing_from(31, 2), refused(5, 148)),
+        case("one actual from 31 of 32", range, passing_from(31, 1), ACCEPTED),
     ]
 }
 

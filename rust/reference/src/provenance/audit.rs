@@ -7,12 +7,12 @@
 use super::{History, Link, Location, Origin};
 use crate::machine::watched::{Cell, Held, Machine, State, Value};
 use crate::machine::{Resources, Stop};
-use crate::program::{Kind, Program, Rights};
+use crate::program::{Kind, Operation, Program, Rights};
 
 /// A run with its state after every number of steps.
 pub struct Recorded<'a> {
     pub program: &'a Program,
-    pub history: History,
+    pub history: History<'a>,
     /// After 0 steps, after 1 and so on; the last is the one at the stop.
     pub states: Vec<State>,
     pub stop: Stop,
@@ -22,7 +22,7 @@ impl<'a> Recorded<'a> {
     /// Makes a run, or says that main's frame does not fit.
     pub fn new(program: &'a Program, resources: Resources<'a>) -> Result<Self, Stop> {
         let mut machine = Machine::start(program, resources)?;
-        let mut history = History::new();
+        let mut history = History::new(program);
         let mut states = vec![machine.state().clone()];
         let stop = loop {
             let result = history.step(&mut machine);
@@ -47,22 +47,30 @@ impl<'a> Recorded<'a> {
         &self.states[usize::try_from(after).map_or(last, |after| after.min(last))]
     }
 
-    /// Looks at every right that is carried after so many steps. Besides, the
-    /// chain of a location ends somewhere exactly if it holds an object.
+    /// Looks at every right that is carried after so many steps.
     pub fn audit(&self, after: u64) -> Result<(), String> {
-        let state = self.state(after);
-        for location in Location::all(state) {
-            let content = location.content(state);
+        for location in Location::all(self.state(after)) {
             let chain = self.history.chain(after, location);
-            let holds_object = object(content).is_some();
-            if holds_object != chain.is_some() {
-                return Err(format!("{location:?} holds {content:?} by {chain:?}"));
-            }
-            if let (Some(held), Some(chain)) = (content, chain) {
-                self.follow(after, location, held, &chain)?;
-            }
+            self.audit_chain(after, location, chain.as_deref())?;
         }
         Ok(())
+    }
+
+    /// Whether this is the chain behind what a location carries after so many
+    /// steps. There is one exactly if it holds an object.
+    pub fn audit_chain(
+        &self,
+        after: u64,
+        location: Location,
+        chain: Option<&[Link]>,
+    ) -> Result<(), String> {
+        let content = location.content(self.state(after));
+        let held = content.filter(|_| object(content).is_some());
+        match (held, chain) {
+            (Some(held), Some(chain)) => self.follow(after, location, held, chain),
+            (None, None) => Ok(()),
+            _ => Err(format!("{location:?} holds {content:?} by {chain:?}")),
+        }
     }
 
     /// One chain, for all rights that the location carries.
@@ -129,49 +137,74 @@ impl<'a> Recorded<'a> {
         value == Value::Object(made_before) && given.includes(&rights)
     }
 
-    /// The step opens a frame of a procedure of the value's own module, which
-    /// has these rights inside, and the location is its formal.
+    /// The step hands the value to a procedure of its own module, which has
+    /// these rights inside, and the location is the formal of the frame opened.
     fn amplifies(&self, link: &Link, number: usize, formal: usize, held: Held) -> bool {
-        let state = self.state(link.step);
+        let before = self.state(link.step - 1);
         let procedure = &self.program.procedures[number];
         let inner = &self.program.qualified[procedure.variables[formal].inner];
-        let opened = state.frames.last().map(|frame| frame.procedure);
-        let depth = state.frames.len() - 1;
+        let opened = Location::Variable {
+            depth: before.frames.len(),
+            index: formal,
+        };
+        let handed = self.actual(before, number, formal);
         let own = procedure.owner.map(|of| Kind::Record { of });
-        opened == Some(number)
-            && link.at
-                == Location::Variable {
-                    depth,
-                    index: formal,
-                }
-            && formal < procedure.formals
-            && own == Some(state.kind(held.value))
+        formal < procedure.formals
+            && link.at == opened
+            && handed.is_some_and(|handed| handed.value == held.value)
+            && own == Some(before.kind(held.value))
             && inner.rights.includes(&held.rights)
+    }
+
+    /// What the actual of a formal holds, if a call of the procedure is due.
+    fn actual(&self, before: &State, number: usize, formal: usize) -> Cell {
+        let frame = before.frames.last()?;
+        let due = &self.program.procedures[frame.procedure].instructions[frame.next];
+        match due.operation {
+            Operation::Call {
+                procedure,
+                first_actual: Some(first),
+                ..
+            } if procedure == number => *frame.variables.get(first + formal)?,
+            _ => None,
+        }
     }
 
     /// What a step is said to do to each location is what has become of it.
     pub fn audit_step(&self, step: u64) -> Result<(), String> {
-        let (before, after) = (self.state(step - 1), self.state(step));
-        let mut all = Location::all(before);
-        all.extend(Location::all(after));
+        let moment = self.history.before(step);
+        let moment = moment.ok_or_else(|| format!("step {step} is not made"))?;
+        let mut all = Location::all(self.state(step - 1));
+        all.extend(Location::all(self.state(step)));
         for location in all {
-            let origin = self.history.origin(step, location);
-            let (old, new) = (location.content(before), location.content(after));
-            let holds = match origin {
-                Origin::Stays => new == old,
-                Origin::GivenUp => object(new).is_none(),
-                Origin::Made => object(new) == Some(before.objects.len()),
-                Origin::BoundFrom { from, .. } => {
-                    let source = from.content(before).map(|held| held.value);
-                    source.is_some() && new.map(|held| held.value) == source
-                }
-                Origin::Amplified { .. } => object(new).is_some(),
-            };
-            if !holds {
-                return Err(format!("{location:?}: {old:?}, {new:?} by {origin:?}"));
-            }
+            self.audit_origin(step, location, &moment.origin(location))?;
         }
         Ok(())
+    }
+
+    /// Whether a step can have done this to a location.
+    pub fn audit_origin(
+        &self,
+        step: u64,
+        location: Location,
+        origin: &Origin,
+    ) -> Result<(), String> {
+        let (before, after) = (self.state(step - 1), self.state(step));
+        let (old, new) = (location.content(before), location.content(after));
+        let holds = match *origin {
+            Origin::Stays => new == old,
+            Origin::GivenUp => object(new).is_none(),
+            Origin::Made => object(new) == Some(before.objects.len()),
+            Origin::BoundFrom { from, .. } => {
+                let source = from.content(before).map(|held| held.value);
+                source.is_some() && new.map(|held| held.value) == source
+            }
+            Origin::Amplified { .. } => object(new).is_some(),
+        };
+        match holds {
+            true => Ok(()),
+            false => Err(format!("{location:?}: {old:?}, {new:?} by {origin:?}")),
+        }
     }
 }
 

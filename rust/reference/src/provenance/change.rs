@@ -1,66 +1,72 @@
-//! What a step does to every location, told from the state before it.
+//! What a step does to a location, told from the moment before it.
 
-use super::{Location, Origin};
+use super::back::Before;
+use super::{operation, Location, Origin};
 use crate::generic::{Form, Read, Reading};
-use crate::machine::watched::{Machine, Value};
-use crate::program::{Operation, Variable};
+use crate::machine::Place;
+use crate::program::{Kind, Operation, Program, Variable};
 
-/// What one step does to all locations.
-#[derive(Clone, Debug, PartialEq, Eq, Hash)]
-pub enum Change {
-    /// All stay as they were.
-    Nothing,
-    /// One gets this, and all others stay.
-    Into(Location, Origin),
-    /// A frame is opened on so many others: its formals get these, its other
-    /// variables are blank.
-    Opened { depth: usize, formals: Vec<Origin> },
-    /// The frame on so many others is given back; a variable of its caller
-    /// may get the result.
-    Closed {
-        depth: usize,
-        kept: Option<(Location, Origin)>,
-    },
+/// An instruction, and what its frame reads ?R as.
+#[derive(Clone, Copy)]
+pub struct Site {
+    pub place: Place,
+    pub reading: Reading,
 }
 
-impl Change {
-    /// What the instruction does in this state once all of its tests hold;
-    /// None where a value that it reads is not there.
-    pub fn of(machine: &Machine, operation: Operation) -> Option<Change> {
-        let before = Before {
-            machine,
-            depth: machine.state().frames.len() - 1,
-        };
-        before.change(operation)
+impl Site {
+    /// The declared type of a variable of the frame.
+    fn typed(&self, program: &Program, number: usize) -> Read {
+        let variables = &program.procedures[self.place.procedure].variables;
+        Read {
+            qualified: variables[number].inner,
+            reading: self.reading,
+        }
     }
 
-    /// What is done to one location.
+    /// What a procedure called from here reads ?R as, by declared types.
+    fn settled(&self, program: &Program, procedure: usize, first_actual: Option<usize>) -> Reading {
+        let callee = &program.procedures[procedure];
+        let actuals = first_actual.into_iter().flat_map(|first| first..);
+        let actuals = actuals.take(callee.formals);
+        let declared = actuals.map(|actual| self.typed(program, actual));
+        program.settled(callee, declared).reading
+    }
+
+    /// What the frame that this call opens reads ?R as.
+    pub fn opens(&self, program: &Program) -> Reading {
+        match operation(program, self.place) {
+            Operation::Call {
+                procedure,
+                first_actual,
+                ..
+            } => self.settled(program, procedure, first_actual),
+            other => panic!("{other:?} opens no frame"),
+        }
+    }
+}
+
+impl Before<'_> {
+    /// What the next step, which was made, does to a location.
     pub fn origin(&self, location: Location) -> Origin {
-        match self {
-            Change::Nothing => Origin::Stays,
-            Change::Into(to, origin) if *to == location => origin.clone(),
-            Change::Into(..) => Origin::Stays,
-            Change::Opened { depth, formals } => match location.index_at(*depth) {
-                Some(index) => formals.get(index).cloned().unwrap_or(Origin::GivenUp),
-                None => Origin::Stays,
-            },
-            Change::Closed { depth, kept } => match kept {
-                Some((to, origin)) if *to == location => origin.clone(),
-                _ if location.index_at(*depth).is_some() => Origin::GivenUp,
-                _ => Origin::Stays,
-            },
-        }
+        let change = self.due.map(|place| Change {
+            before: self,
+            place,
+            depth: self.readings.len() - 1,
+            location,
+        });
+        let origin = change.and_then(|change| change.origin());
+        origin.expect("a step that is made finds all that it reads")
     }
 }
 
-impl Location {
-    /// The number of a variable of the frame that stands on so many others.
-    fn index_at(&self, frame: usize) -> Option<usize> {
-        match *self {
-            Location::Variable { depth, index } if depth == frame => Some(index),
-            _ => None,
-        }
-    }
+/// What a step does to one location.
+struct Change<'a> {
+    before: &'a Before<'a>,
+    /// Its instruction.
+    place: Place,
+    /// How many others the frame that works stands on.
+    depth: usize,
+    location: Location,
 }
 
 fn bound(from: Location, through: &[Read]) -> Origin {
@@ -68,35 +74,41 @@ fn bound(from: Location, through: &[Read]) -> Origin {
     Origin::BoundFrom { from, through }
 }
 
-/// The machine before a step, with so many frames below the one that works.
-struct Before<'a> {
-    machine: &'a Machine<'a>,
-    depth: usize,
-}
-
-impl Before<'_> {
-    /// Document 01's codes, 1 to 17.
+impl Change<'_> {
+    /// Document 01's codes: what is filled if it is the location, and from
+    /// where. All other locations stay, but for those of a frame that is
+    /// opened or given back.
     #[rustfmt::skip]
-    fn change(&self, operation: Operation) -> Option<Change> {
-        Some(match operation {
-            Operation::Set { to, .. } => self.given_up(to),
-            Operation::Add { to, .. } => self.given_up(to),
-            Operation::Subtract { to, .. } => self.given_up(to),
-            Operation::Less { to, .. } => self.given_up(to),
-            Operation::JumpIfZero { .. } => Change::Nothing,
-            Operation::Bind { to, from } => self.filled(to, self.here(from), &[self.typed(to)]),
-            Operation::Take { to } => self.given_up(to),
-            Operation::Put { .. } => Change::Nothing,
-            Operation::NewArray { to, .. } => self.made(to),
-            Operation::Fetch { to, array, index } => self.filled(to, self.cell(array, index)?, &[self.element(array)?, self.typed(to)]),
-            Operation::Store { array, index, from } => self.written(self.cell(array, index)?, from, self.own_element(array)?),
-            Operation::Size { to, .. } => self.given_up(to),
-            Operation::NewRecord { to } => self.made(to),
-            Operation::GetSlot { to, record, slot } => self.filled(to, self.slot(record, slot)?, &[self.typed(to)]),
-            Operation::SetSlot { record, slot, from } => self.written(self.slot(record, slot)?, from, self.declared_slot(slot)),
+    fn origin(&self) -> Option<Origin> {
+        Some(match operation(self.program(), self.place) {
+            Operation::Set { to, .. } if self.is(to) => Origin::GivenUp,
+            Operation::Add { to, .. } if self.is(to) => Origin::GivenUp,
+            Operation::Subtract { to, .. } if self.is(to) => Origin::GivenUp,
+            Operation::Less { to, .. } if self.is(to) => Origin::GivenUp,
+            Operation::Bind { to, from } if self.is(to) => bound(self.here(from), &[self.typed(to)]),
+            Operation::Take { to } if self.is(to) => Origin::GivenUp,
+            Operation::NewArray { to, .. } if self.is(to) => Origin::Made,
+            Operation::Fetch { to, array, .. } if self.is(to) => bound(self.cell(), &[self.element(array)?, self.typed(to)]),
+            Operation::Store { from, .. } if self.is_cell() => bound(self.here(from), &[self.own_element()?]),
+            Operation::Size { to, .. } if self.is(to) => Origin::GivenUp,
+            Operation::NewRecord { to } if self.is(to) => Origin::Made,
+            Operation::GetSlot { to, .. } if self.is(to) => bound(self.cell(), &[self.typed(to)]),
+            Operation::SetSlot { slot, from, .. } if self.is_cell() => bound(self.here(from), &[self.declared_slot(slot)?]),
             Operation::Call { procedure, first_actual, .. } => self.opened(procedure, first_actual)?,
             Operation::Return { value } => self.closed(value),
+            _ => Origin::Stays,
         })
+    }
+
+    fn program(&self) -> &Program {
+        self.before.history.program
+    }
+
+    fn site(&self) -> Site {
+        Site {
+            place: self.place,
+            reading: self.before.readings[self.depth],
+        }
     }
 
     /// A variable of the frame that works.
@@ -105,51 +117,39 @@ impl Before<'_> {
         Location::Variable { depth, index }
     }
 
-    fn given_up(&self, to: usize) -> Change {
-        Change::Into(self.here(to), Origin::GivenUp)
+    /// Whether the location is that variable.
+    fn is(&self, index: usize) -> bool {
+        self.location == self.here(index)
     }
 
-    fn made(&self, to: usize) -> Change {
-        Change::Into(self.here(to), Origin::Made)
+    /// The cell or slot that is read or written.
+    fn cell(&self) -> Location {
+        self.before.history.cell(self.before.cell)
     }
 
-    /// A variable gets what a location holds.
-    fn filled(&self, to: usize, from: Location, through: &[Read]) -> Change {
-        Change::Into(self.here(to), bound(from, through))
+    /// Whether the location is that cell.
+    fn is_cell(&self) -> bool {
+        self.location == self.cell()
     }
 
-    /// A cell gets what a variable holds.
-    fn written(&self, cell: Location, from: usize, declared: Read) -> Change {
-        Change::Into(cell, bound(self.here(from), &[declared]))
+    /// The location's number among the variables of the frame that stands on
+    /// so many others.
+    fn index_at(&self, frame: usize) -> Option<usize> {
+        match self.location {
+            Location::Variable { depth, index } if depth == frame => Some(index),
+            _ => None,
+        }
     }
 
     /// The declared type of a variable, ?R read with the frame's set.
     fn typed(&self, number: usize) -> Read {
-        self.machine.inner(number)
-    }
-
-    fn object(&self, number: usize) -> Option<usize> {
-        match self.machine.variable(number)?.value {
-            Value::Object(object) => Some(object),
-            Value::Integer(_) => None,
-        }
-    }
-
-    fn cell(&self, array: usize, index: usize) -> Option<Location> {
-        let object = self.object(array)?;
-        let index = self.machine.integer(index)? as usize;
-        Some(Location::Cell { object, index })
-    }
-
-    fn slot(&self, record: usize, index: usize) -> Option<Location> {
-        let object = self.object(record)?;
-        Some(Location::Cell { object, index })
+        self.site().typed(self.program(), number)
     }
 
     /// The element of an array variable's type: "a fetched value is bound to
     /// the element of the tray variable's QT".
     fn element(&self, array: usize) -> Option<Read> {
-        match self.machine.program().read(self.typed(array)).form {
+        match self.program().read(self.typed(array)).form {
             Form::Array { element } => Some(element),
             _ => None,
         }
@@ -157,30 +157,39 @@ impl Before<'_> {
 
     /// The element of the array itself: "cells of a tray are declared by its
     /// element".
-    fn own_element(&self, array: usize) -> Option<Read> {
-        let (element, _) = self.machine.array(array)?;
-        Some(element)
+    fn own_element(&self) -> Option<Read> {
+        let Location::Cell { object, .. } = self.cell() else {
+            return None;
+        };
+        match self.before.history.object(object) {
+            Form::Array { element } => Some(element),
+            _ => None,
+        }
     }
 
-    fn declared_slot(&self, slot: usize) -> Read {
-        Read::unread(self.machine.owner_slots()[slot])
+    fn declared_slot(&self, slot: usize) -> Option<Read> {
+        let program = self.program();
+        let owner = program.procedures[self.place.procedure].owner?;
+        Some(Read::unread(program.types[owner].slots[slot]))
     }
 
-    /// The formals of the procedure called, whose needs and inner types are
-    /// read with what the call settles.
-    fn opened(&self, procedure: usize, first_actual: Option<usize>) -> Option<Change> {
-        let reading = self.machine.settled(procedure, first_actual).reading;
-        let count = self.machine.program().procedures[procedure].formals;
-        let formals = (0..count)
-            .map(|formal| self.formal(procedure, formal, first_actual? + formal, reading))
-            .collect::<Option<_>>()?;
-        let depth = self.depth + 1;
-        Some(Change::Opened { depth, formals })
+    /// A frame is opened: its formals get the actuals, with needs and inner
+    /// types read as the call settles them, and its other variables are blank.
+    fn opened(&self, procedure: usize, first_actual: Option<usize>) -> Option<Origin> {
+        let Some(index) = self.index_at(self.depth + 1) else {
+            return Some(Origin::Stays);
+        };
+        let program = self.program();
+        if index >= program.procedures[procedure].formals {
+            return Some(Origin::GivenUp);
+        }
+        let reading = self.site().settled(program, procedure, first_actual);
+        self.formal(procedure, index, first_actual? + index, reading)
     }
 
     /// "A call binds each actual to need; then, if its type and inner's base
     /// are the callee's owner, it carries inner's rights, else it is bound to
-    /// inner."
+    /// inner." A value of another type than inner's base stops the call.
     fn formal(
         &self,
         procedure: usize,
@@ -188,11 +197,11 @@ impl Before<'_> {
         actual: usize,
         reading: Reading,
     ) -> Option<Origin> {
-        let callee = &self.machine.program().procedures[procedure];
+        let program = self.program();
+        let callee = &program.procedures[procedure];
         let Variable { inner, need, .. } = callee.variables[formal];
-        let value = self.machine.variable(actual)?.value;
-        let form = self.machine.state().form(value);
-        if self.machine.amplified(form, inner, callee.owner) {
+        let owner = callee.owner.map(|of| Kind::Record { of });
+        if Some(program.qualified[inner].kind) == owner {
             return Some(Origin::Amplified { procedure, formal });
         }
         let through = [need?, inner].map(|qualified| Read { qualified, reading });
@@ -200,21 +209,36 @@ impl Before<'_> {
     }
 
     /// "A return binds to the result QT, then to a"; its frame is given back.
-    fn closed(&self, value: Option<usize>) -> Change {
+    fn closed(&self, value: Option<usize>) -> Origin {
         let depth = self.depth;
-        let kept = value
-            .zip(self.machine.kept())
-            .map(|(value, (caller, index))| {
-                let depth = depth - 1;
-                let result = self.machine.procedure().result.map(|qualified| Read {
-                    qualified,
-                    reading: self.machine.reading(),
-                });
-                let own = self.machine.declared(caller, index);
-                let through: Vec<Read> = result.into_iter().chain([own]).collect();
-                let to = Location::Variable { depth, index };
-                (to, bound(self.here(value), &through))
-            });
-        Change::Closed { depth, kept }
+        if self.index_at(depth).is_some() {
+            return Origin::GivenUp;
+        }
+        let Some((value, (call, index))) = value.zip(self.kept()) else {
+            return Origin::Stays;
+        };
+        let depth = depth - 1;
+        if self.location != (Location::Variable { depth, index }) {
+            return Origin::Stays;
+        }
+        let (program, site) = (self.program(), self.site());
+        let result = program.procedures[site.place.procedure].result;
+        let result = result.map(|qualified| Read {
+            qualified,
+            reading: site.reading,
+        });
+        let own = call.typed(program, index);
+        let through: Vec<Read> = result.into_iter().chain([own]).collect();
+        bound(self.here(value), &through)
+    }
+
+    /// The call that is returned to, and the variable in which it keeps the
+    /// result.
+    fn kept(&self) -> Option<(Site, usize)> {
+        let call = self.before.call?;
+        match operation(self.program(), call.place) {
+            Operation::Call { result, .. } => result.map(|to| (call, to)),
+            _ => None,
+        }
     }
 }

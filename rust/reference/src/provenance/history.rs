@@ -1,45 +1,70 @@
-//! The steps of a run that were made, and the chains read backwards in them.
+//! The steps of a run that were made.
 
-use super::change::Change;
-use super::{Link, Location, Origin};
-use crate::machine::watched::Machine;
+use super::numbered::Numbered;
+use super::Location;
+use crate::generic::{Form, Reading};
+use crate::machine::watched::{Machine, Value};
 use crate::machine::{Place, Stop};
-use std::collections::HashMap;
-use std::rc::Rc;
+use crate::program::{Operation, Program, Rights};
 
-/// What a step did, and at which instruction.
-#[derive(Clone, Debug, PartialEq, Eq, Hash)]
+/// The steps made, four bytes for each. What else is to be known of a step,
+/// the frame that worked and its set, is found on the way back from the last.
+#[derive(Clone, Debug)]
+pub struct History<'a> {
+    pub(super) program: &'a Program,
+    steps: Vec<Step>,
+    /// The instructions of the procedures, and the cells of the objects.
+    instructions: Numbered,
+    cells: Numbered,
+    /// After the steps made: the instruction that is due, what the open frames
+    /// read ?R as, and the types of the objects.
+    pub(super) due: Option<Place>,
+    pub(super) readings: Vec<Reading>,
+    objects: Vec<Form>,
+}
+
+/// The number of the instruction and, where that reads or writes a cell or a
+/// slot, the number of this one. A sheet has fewer than 65,536 bytes, and there
+/// are no more than 65,536 words of memory, main's frame among them.
+#[derive(Clone, Copy, Debug)]
 struct Step {
-    place: Place,
-    change: Change,
+    instruction: u16,
+    cell: u16,
 }
 
-/// The steps made. Loops do the same over and over: a step is kept as the
-/// number of the first that did what it does, and takes four bytes. One that
-/// is like no other, as in a deep recursion, takes fewer than 200.
-#[derive(Clone, Debug, Default)]
-pub struct History {
-    steps: Vec<u32>,
-    different: Vec<Rc<Step>>,
-    numbers: HashMap<Rc<Step>, u32>,
-}
+impl<'a> History<'a> {
+    pub fn new(program: &'a Program) -> Self {
+        History::with_capacity(program, 0)
+    }
 
-impl History {
-    pub fn new() -> Self {
-        History::default()
+    /// With room for so many steps.
+    pub fn with_capacity(program: &'a Program, steps: usize) -> Self {
+        let mut instructions = Numbered::default();
+        for procedure in &program.procedures {
+            instructions.add(procedure.instructions.len());
+        }
+        History {
+            program,
+            steps: Vec::with_capacity(steps),
+            instructions,
+            cells: Numbered::default(),
+            due: Some(Place::default()),
+            readings: vec![main(program)],
+            objects: Vec::new(),
+        }
     }
 
     /// Lets the machine make a step and keeps what it does. "A step that
     /// stops changes nothing", and is not kept; the return that gives 11 is.
     pub fn step(&mut self, machine: &mut Machine) -> Result<(), Stop> {
         let due = machine.due();
-        let change = due.and_then(|(_, operation)| Change::of(machine, operation));
+        let cell = due.and_then(|(_, operation)| cell(machine, operation));
         let before = machine.state().steps;
         let result = machine.step();
         if machine.state().steps > before {
             let (place, _) = due.expect("an instruction was due");
-            let change = change.expect("a step that is made finds all that it reads");
-            self.keep(Step { place, change });
+            self.keep(place, cell);
+            self.follow(machine);
         }
         result
     }
@@ -53,17 +78,32 @@ impl History {
         }
     }
 
-    fn keep(&mut self, step: Step) {
-        let number = match self.numbers.get(&step) {
-            Some(&number) => number,
-            None => {
-                let (number, step) = (self.different.len() as u32, Rc::new(step));
-                self.different.push(Rc::clone(&step));
-                self.numbers.insert(step, number);
-                number
-            }
-        };
-        self.steps.push(number);
+    fn keep(&mut self, place: Place, cell: Option<(usize, usize)>) {
+        let Place {
+            procedure,
+            instruction,
+        } = place;
+        let cell = cell.map(|(object, index)| self.cells.number(object, index));
+        self.steps.push(Step {
+            instruction: self.instructions.number(procedure, instruction),
+            cell: cell.unwrap_or_default(),
+        });
+    }
+
+    /// Sees which frame was opened or given back, and which object was made.
+    fn follow(&mut self, machine: &Machine) {
+        let state = machine.state();
+        self.due = machine.due().map(|(place, _)| place);
+        self.readings.truncate(state.frames.len());
+        let opened = &state.frames[self.readings.len()..];
+        self.readings.extend(opened.iter().map(|frame| {
+            let procedure = &self.program.procedures[frame.procedure];
+            procedure.instance(frame.set)
+        }));
+        for object in &state.objects[self.objects.len()..] {
+            self.objects.push(object.form());
+            self.cells.add(object.cells.len());
+        }
     }
 
     /// How many steps were made.
@@ -71,50 +111,58 @@ impl History {
         self.steps.len() as u64
     }
 
-    /// The instruction of a step, counted from 1; None if it was not made.
+    /// The instruction of a step, counted from 1, or the one that is due after
+    /// the last.
     pub fn place(&self, step: u64) -> Option<Place> {
-        self.made(step).map(|step| step.place)
-    }
-
-    /// What a step did to a location: nothing, if it was not made.
-    pub fn origin(&self, step: u64, location: Location) -> Origin {
-        let step = self.made(step);
-        step.map_or(Origin::Stays, |step| step.change.origin(location))
-    }
-
-    fn made(&self, step: u64) -> Option<&Step> {
-        let index = usize::try_from(step.checked_sub(1)?).ok()?;
-        let number = *self.steps.get(index)?;
-        Some(&self.different[number as usize])
-    }
-
-    /// How a location came to what it holds after so many steps, or at the
-    /// stop if that comes sooner: the latest link first, and last the making
-    /// of the object or an amplified formal. None if that is nowhere, as for
-    /// all that holds no object.
-    pub fn chain(&self, after: u64, location: Location) -> Option<Vec<Link>> {
-        let mut links = Vec::new();
-        let mut at = location;
-        for number in (1..=after.min(self.steps())).rev() {
-            let step = self.made(number)?;
-            let origin = step.change.origin(at);
-            let from = match origin {
-                Origin::Stays => continue,
-                Origin::GivenUp => return None,
-                Origin::BoundFrom { from, .. } => Some(from),
-                Origin::Made | Origin::Amplified { .. } => None,
-            };
-            links.push(Link {
-                step: number,
-                place: step.place,
-                at,
-                origin,
-            });
-            match from {
-                Some(from) => at = from,
-                None => return Some(links),
-            }
+        match step.checked_sub(1)? == self.steps() {
+            true => self.due,
+            false => self.kept(step).map(|(place, _)| place),
         }
-        None
     }
+
+    /// The instruction of a step, and the number of its cell, if it has one.
+    pub(super) fn kept(&self, step: u64) -> Option<(Place, u16)> {
+        let index = usize::try_from(step.checked_sub(1)?).ok()?;
+        let Step { instruction, cell } = *self.steps.get(index)?;
+        let (procedure, instruction) = self.instructions.numbered(instruction);
+        let place = Place {
+            procedure,
+            instruction,
+        };
+        Some((place, cell))
+    }
+
+    /// The cell with a number.
+    pub(super) fn cell(&self, number: u16) -> Location {
+        let (object, index) = self.cells.numbered(number);
+        Location::Cell { object, index }
+    }
+
+    /// The type of an object.
+    pub fn object(&self, number: usize) -> Form {
+        self.objects[number]
+    }
+}
+
+/// The object and the index of the cell or slot that an instruction reads or
+/// writes.
+fn cell(machine: &Machine, operation: Operation) -> Option<(usize, usize)> {
+    let (holder, index) = match operation {
+        Operation::Fetch { array, index, .. } | Operation::Store { array, index, .. } => {
+            (array, machine.integer(index)? as usize)
+        }
+        Operation::GetSlot { record, slot, .. } | Operation::SetSlot { record, slot, .. } => {
+            (record, slot)
+        }
+        _ => return None,
+    };
+    match machine.variable(holder)?.value {
+        Value::Object(object) => Some((object, index)),
+        Value::Integer(_) => None,
+    }
+}
+
+/// What main's first frame reads ?R as.
+pub(super) fn main(program: &Program) -> Reading {
+    program.procedures[0].instance(Rights::NONE)
 }

@@ -1,17 +1,20 @@
 //! Where a right came from (document 02, S-4), read off the steps of a run on
 //! the watched machine.
 //!
-//! A change is what one step does to every location, told from the state
-//! before it; a [`History`] keeps those of the steps made, and reads chains
-//! backwards in them; [`audit`] holds every chain of a run against what
-//! document 02 says of it.
+//! A change is what a step does to a location; a [`History`] keeps the steps
+//! made; [`Links`] are read from the latest of them back; [`audit`] holds
+//! every chain of a run against what document 02 says of it.
 
 pub mod audit;
+mod back;
 mod change;
 mod history;
+mod numbered;
 
 use crate::generic::Read;
 use crate::machine::Place;
+use crate::program::{Operation, Program};
+pub use back::Links;
 pub use history::History;
 
 /// "Place" in document 02: where a value can be held.
@@ -58,4 +61,16 @@ pub struct Link {
     pub place: Place,
     pub at: Location,
     pub origin: Origin,
+}
+
+impl Link {
+    /// Whether the chain ends here.
+    pub fn is_end(&self) -> bool {
+        matches!(self.origin, Origin::Made | Origin::Amplified { .. })
+    }
+}
+
+/// The instruction at a place.
+fn operation(program: &Program, place: Place) -> Operation {
+    program.procedures[place.procedure].instructions[place.instruction].operation
 }

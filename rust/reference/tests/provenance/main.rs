@@ -6,6 +6,7 @@ mod plain;
 mod seen;
 mod shadow;
 
+use generator::handwritten::runs::chain_places;
 use generator::handwritten::runs::chains::{self, ChainCase, Declared, Written};
 use generator::handwritten::runs::{self, RunCase};
 use generator::runs::families::{Family, ANY_ACCEPTED, MISDECLARED, RUNNABLE, SETTLING, TRIALS};
@@ -185,7 +186,7 @@ fn a_million_steps() {
     run.fuel = after + 2 * rounds;
     let program = machine::wellformed(&run.sheet, 0).expect("the layout is right");
     let mut machine = watched::Machine::start(&program, run.resources()).expect("main fits");
-    let mut history = History::new();
+    let mut history = History::new(&program);
     assert_eq!(history.finish(&mut machine), Stop::FuelSpent);
     assert_eq!(history.steps(), run.fuel);
     let links = history.chain(run.fuel, at).unwrap_or_default();
@@ -246,4 +247,20 @@ fn chains_are_as_written() {
     assert!(wrong.is_empty(), "{}", wrong.join("\n"));
     let names: BTreeSet<&str> = all.iter().map(|case| case.name).collect();
     assert_eq!(names.len(), all.len());
+}
+
+#[test]
+fn places_of_links_are_as_written() {
+    let all = chain_places::cases();
+    assert!(all.len() >= 13, "{}", all.len());
+    for case in &all {
+        let program = machine::wellformed(&case.run.sheet, 0).expect("the layout is right");
+        let run = Recorded::new(&program, case.run.resources()).expect("main fits");
+        let chain = run.history.chain(case.after, case.at).unwrap_or_default();
+        let places = chain.iter().map(|link| link.place);
+        let found: Vec<(usize, usize)> = places
+            .map(|place| (place.procedure, place.instruction))
+            .collect();
+        assert_eq!(found, case.places, "{} ({})", case.name, case.sentence);
+    }
 }

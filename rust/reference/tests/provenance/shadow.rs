@@ -7,7 +7,7 @@
 use super::plain::{Instance, Plain};
 use reference::machine::watched::{Frame, State, Value};
 use reference::provenance::{Link, Location, Origin};
-use reference::{Kind, Operation, Procedure, Program};
+use reference::{Kind, Operation, Place, Procedure, Program};
 use std::rc::Rc;
 
 /// What a step did to the value.
@@ -21,6 +21,7 @@ pub enum How {
 /// The last step that moved a value, and the way before it.
 struct Way {
     step: u64,
+    place: Place,
     how: How,
     before: Trail,
 }
@@ -51,6 +52,8 @@ pub struct Shadow<'a> {
     frames: Vec<ShadowFrame>,
     objects: Vec<ShadowObject>,
     steps: u64,
+    /// The instruction of the last step.
+    place: Place,
 }
 
 impl<'a> Shadow<'a> {
@@ -67,6 +70,7 @@ impl<'a> Shadow<'a> {
             frames: vec![main],
             objects: Vec::new(),
             steps: 0,
+            place: Place::default(),
         }
     }
 
@@ -75,6 +79,10 @@ impl<'a> Shadow<'a> {
         let frame = before.frames.last().expect("a frame works");
         let operation = self.procedure().instructions[frame.next].operation;
         self.steps += 1;
+        self.place = Place {
+            procedure: frame.procedure,
+            instruction: frame.next,
+        };
         match operation {
             Operation::Set { to, .. }
             | Operation::Add { to, .. }
@@ -216,8 +224,12 @@ impl<'a> Shadow<'a> {
     }
 
     fn way(&self, how: How, before: Trail) -> Trail {
-        let step = self.steps;
-        Some(Rc::new(Way { step, how, before }))
+        Some(Rc::new(Way {
+            step: self.steps,
+            place: self.place,
+            how,
+            before,
+        }))
     }
 
     fn procedure(&self) -> &'a Procedure {
@@ -249,12 +261,12 @@ impl<'a> Shadow<'a> {
     }
 
     /// The steps that moved what a location holds, the latest first.
-    pub fn chain(&self, location: Location) -> Option<Vec<(u64, How)>> {
+    pub fn chain(&self, location: Location) -> Option<Vec<(u64, Place, How)>> {
         let mut all = Vec::new();
         let mut trail = self.trail(location).as_ref();
         trail?;
         while let Some(way) = trail {
-            all.push((way.step, way.how.clone()));
+            all.push((way.step, way.place, way.how.clone()));
             trail = way.before.as_ref();
         }
         Some(all)
@@ -281,7 +293,7 @@ fn cell(frame: &Frame, variable: usize, index: usize) -> Location {
 }
 
 /// The engine's link in the same form.
-pub fn shown(program: &Program, link: &Link) -> (u64, How) {
+pub fn shown(program: &Program, link: &Link) -> (u64, Place, How) {
     let how = match link.origin {
         Origin::Made => How::Made,
         Origin::Amplified { procedure, formal } => How::Amplified { procedure, formal },
@@ -292,5 +304,5 @@ pub fn shown(program: &Program, link: &Link) -> (u64, How) {
         }
         Origin::Stays | Origin::GivenUp => panic!("{link:?} is no link"),
     };
-    (link.step, how)
+    (link.step, link.place, how)
 }

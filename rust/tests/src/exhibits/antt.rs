@@ -26,7 +26,7 @@ const NAMES: [(&str, &[&str]); 3] = [
     ("provenance.specs.Location", &["variable", "cell"]),
     (
         "provenance.specs.Chain",
-        &["nowhere", "made-in", "amplified-in", "bound-in", "chain"],
+        &["nowhere", "made-in", "amplified-in", "moved-in", "chain"],
     ),
 ];
 
@@ -199,7 +199,7 @@ impl Writer<'_> {
             }
             Origin::BoundFrom { from, ref through } => {
                 let through = list(through.iter().map(|&read| self.declared(read)));
-                format!("(bound-in {step} ({}) ({through})", self.location(from))
+                format!("(moved-in {step} ({}) ({through})", self.location(from))
             }
             Origin::Stays | Origin::GivenUp => panic!("{link:?} is no link"),
         }

@@ -9,7 +9,7 @@ use Rattle.index.proofs.procedures.least_in.Tie as tie
 returns : tie.Need-returns
 returns c k p e =
     let told = sym (c.before.before.before.before.is-bounded-in.ensures _ k p) ∙ c.before.before.before.if1.true in
-    c.rights-at.ensures (rw (c.before.less-three.ensures, c.before.before.bound_in.ensures) (bound_rights p told))
+    c.rights-at.ensures (rw (c.before.less-three.ensures, c.before.before.bound-in.ensures) (bound_rights p told))
     ∙ sym (least_some _ _ _ (ap (is_bounded _ k) e ∙ told))
 
 returns-2 : tie.Need-returns-2

@@ -8,12 +8,12 @@ use Rattle.index.proofs.procedures.place_in.Tie as tie
 returns : tie.Need-returns
 unfolding place_of
 returns c =
-    omega (arith, c.before.bound_in.ensures, c.before.before.start-in.ensures, c.if1.true)
+    omega (arith, c.before.bound-in.ensures, c.before.before.start-in.ensures, c.if1.true)
 
 returns-2 : tie.Need-returns-2
 unfolding place_of
 returns-2 c =
-    omega (arith, c.before.bound_in.ensures, c.before.before.start-in.ensures, c.if1.false)
+    omega (arith, c.before.bound-in.ensures, c.before.before.start-in.ensures, c.if1.false)
 
 pub place-in-spec : {M : Type 1} → statement M
 place-in-spec =

@@ -117,6 +117,7 @@ fn exchanged_cases() -> Vec<Case> {
         case("edition 1: a GN of 7 bytes", KEPT, with_bytes(whole(First).bytes(), 71, &[0, 0]), refused(3, 71)),
         // The mark of the VR is rights there.
         case("edition 2: a GN of 5 bytes", BYTES, without_bytes(few.bytes(), 79, 2), refused(5, 74)),
+        case("edition 2: GX in 6 bytes, a VR due", BYTES, [&whole(Second).bytes()[..74], b"GX\0\0\0\0"].concat(), refused(3, 74)),
         case("edition 2: a GN after main's PR", main, with_bytes(whole(Second).bytes(), 58, &gn), refused(3, 58)),
         case("edition 2: a second GN", main, with_bytes(whole(Second).bytes(), 81, &gn), refused(3, 81)),
         case("edition 2: two bytes left over", left, with_bytes(whole(Second).bytes(), 93, &[0, 0]), refused(2, 93)),

@@ -27,6 +27,7 @@ pub fn cases() -> Vec<Case> {
     all.extend(lost_cases());
     all.extend(unsettled_cases());
     all.extend(short_cases());
+    all.extend(eighth_cases());
     all.extend(result_cases());
     all.extend(own_cases());
     all.extend(order_cases());
@@ -121,6 +122,19 @@ fn short_cases() -> Vec<Case> {
         case("short, another lost", SHORT, of(&[CALL_READ, INT], idle(AMEND, &[GENERIC, GENERIC])), refused(21, 226)),
         case("lost, another short", SHORT, of(&[INT, CALL_READ], idle(AMEND, &[GENERIC, GENERIC])), refused(21, 226)),
         case("nobody settles, not short", LOST, of(&[INT], idle(READ | AMEND, &[GENERIC])), refused(8, 222)),
+    ]
+}
+
+/// Eight actuals, the last of which is another; the call is at 250.
+#[rustfmt::skip]
+fn eighth_cases() -> Vec<Case> {
+    let last = |others: u8, eighth: u8| [&[others; 7][..], &[eighth]].concat();
+    vec![
+        case("the eighth actual settles", SETTLES, of(&last(INT, BOTHS), idle(READ, &last(INT, GENERICS))), ACCEPTED),
+        case("the eighth of eight sets", UNSETTLED, of(&last(CALL_BOTH, CALL_READ), idle(READ, &[GENERIC; 8])), refused(20, 250)),
+        case("the eighth of eight sets, in an array", UNSETTLED, of(&last(CALL_READ, BOTHS), idle(READ, &last(GENERIC, GENERICS))), refused(20, 250)),
+        case("the eighth actual is short", SHORT, of(&last(INT, CALL_READ), idle(AMEND, &last(INT, GENERIC))), refused(21, 250)),
+        case("the eighth actual is lost", LOST, of(&last(CALL_READ, HORSE_READ), idle(READ, &[GENERIC; 8])), refused(8, 250)),
     ]
 }
 

@@ -1,6 +1,7 @@
 //! Rights names (document 02, S-1), sentence by sentence.
 
 mod calls;
+mod depths;
 mod inside;
 mod records;
 mod uses;
@@ -16,6 +17,7 @@ pub fn cases() -> Vec<Case> {
     all.extend(uses::cases());
     all.extend(inside::cases());
     all.extend(calls::cases());
+    all.extend(depths::cases());
     all
 }
 

@@ -63,6 +63,8 @@ fn mark_cases() -> Vec<Case> {
     let formal = beside_main(bounded(0, NONE, READ).formal(INT, INT).body(&[leave()]));
     let plain = beside_main(Procedure::new(0, NONE).formal(INT, INT).body(&[leave()]));
     let in_main = generic_types().procedure(Procedure::main().variable(INT).body(&[leave()])).build();
+    let silent_plain = beside_main(Procedure::new(0, NONE).body(&[leave()]));
+    let ending = |sheet: &Sheet, last: &[u8]| [&sheet.encode()[..234], last].concat();
     vec![
         case("a GN of 1 byte", RECORD, cut(235), refused(2, 234)),
         case("a GN of 2 bytes", RECORD, cut(236), refused(2, 234)),
@@ -79,6 +81,9 @@ fn mark_cases() -> Vec<Case> {
         case("a GN before a PR", RECORD, with_bytes(&plain, 226, &gn), refused(3, 226)),
         case("a GN after all", RECORD, with_bytes(&plain, 246, &gn), refused(2, 246)),
         case("GM for GN", RECORD, edited(&formal, &[(235, b'M')]), refused(3, 234)),
+        // No GN is due without its whole mark: a VR of 4 bytes is, or an IN of 8.
+        case("GX in 4 bytes, a VR due", RECORD, ending(&plain, b"GX\0\0"), refused(3, 234)),
+        case("GX in 5 bytes, an IN due", RECORD, ending(&silent_plain, b"GX\0\0\0"), refused(2, 234)),
     ]
 }
 

@@ -18,18 +18,18 @@ use crate::sheet::Procedure;
 use reference::provenance::Location;
 
 const STEPS: &str = "after any number of steps";
-const BINDINGS: &str = "traces back through bindings that all carried it";
+pub(super) const BINDINGS: &str = "traces back through bindings that all carried it";
 const CREATION: &str = "to the object's creation";
 const AMPLIFIED: &str = "or to an amplified formal of its own module";
-const READ_OFF: &str = "The chain is read off the run's steps";
-const FILLED: &str = "each right carried by a filled place";
+pub(super) const READ_OFF: &str = "The chain is read off the run's steps";
+pub(super) const FILLED: &str = "each right carried by a filled place";
 const STOPS: &str = "A step that stops changes nothing and isn't counted; the return giving 11 is";
-const GIVEN_BACK: &str = "frames are given back on return, objects are not";
+pub(super) const GIVEN_BACK: &str = "frames are given back on return, objects are not";
 const NEED: &str = "A call binds each actual to need; else it is bound to inner";
-const RETURN: &str = "A return binds to the result QT, then to a";
-const FETCHED: &str =
+pub(super) const RETURN: &str = "A return binds to the result QT, then to a";
+pub(super) const FETCHED: &str =
     "A fetched value is bound to the element of the tray variable's QT, then to a";
-const CELLS: &str = "Cells of a tray are declared by its element, slots by the TY";
+pub(super) const CELLS: &str = "Cells of a tray are declared by its element, slots by the TY";
 const SETTLED: &str = "Need and result are then read with that set";
 const ARRAY: &str = "a tray made under ?R keeps base and set with its element";
 const RAISED: &str = "it is never amplified";
@@ -69,15 +69,15 @@ pub type Declared = (u8, Option<u32>);
 
 const BOTH: u32 = READ | AMEND;
 
-fn v(depth: usize, index: usize) -> Location {
+pub(super) fn v(depth: usize, index: usize) -> Location {
     Location::Variable { depth, index }
 }
 
-fn c(object: usize, index: usize) -> Location {
+pub(super) fn c(object: usize, index: usize) -> Location {
     Location::Cell { object, index }
 }
 
-fn made(step: u64) -> Written {
+pub(super) fn made(step: u64) -> Written {
     Written::Made { step }
 }
 
@@ -89,7 +89,7 @@ fn amplified(step: u64, procedure: usize, formal: usize) -> Written {
     }
 }
 
-fn bound(step: u64, from: Location, through: &[u8]) -> Written {
+pub(super) fn bound(step: u64, from: Location, through: &[u8]) -> Written {
     let through = through.iter().map(|&number| (number, None)).collect();
     Written::Bound {
         step,
@@ -113,7 +113,7 @@ fn name(set: u32) -> Declared {
     (GENERIC, Some(set))
 }
 
-fn chain(
+pub(super) fn chain(
     name: &'static str,
     sentence: &'static str,
     run: &Run,
@@ -144,17 +144,18 @@ pub fn cases() -> Vec<ChainCase> {
     all.extend(name_cases());
     all.extend(set_cases());
     all.extend(name_array_cases());
+    all.extend(super::chain_numbers::cases());
     all
 }
 
 /// What the maker's call leaves in main's variable in steps 1 to 3, if it is
 /// called first and kept as this type.
-fn kept(declared: u8) -> [Written; 2] {
+pub(super) fn kept(declared: u8) -> [Written; 2] {
     [bound(3, v(1, 0), &[CALL_BOTH, declared]), made(2)]
 }
 
 /// The links, and before them what the maker left as this type.
-fn after_kept(links: &[Written], declared: u8) -> Vec<Written> {
+pub(super) fn after_kept(links: &[Written], declared: u8) -> Vec<Written> {
     [links, &kept(declared)].concat()
 }
 

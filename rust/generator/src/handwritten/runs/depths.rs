@@ -8,6 +8,7 @@ use crate::runs::Run;
 use crate::sheet::Procedure;
 
 const UNEQUAL: &str = "another type, or unequal elements, 18";
+const SETTLED: &str = "The watched frame holds the settled set";
 
 /// The procedures for the two types, which differ so many levels down. Main
 /// stands at 48 + 12 for each level.
@@ -53,6 +54,23 @@ fn given(pair: [QualifiedRecord; 2]) -> Run {
     })
 }
 
+/// A new array of call{read, amend} handed to a procedure for ?R ≥ call{read},
+/// which stands as many levels down.
+fn named(levels: u8) -> Run {
+    through(
+        [QualifiedRecord::GENERIC, CALL_BOTH],
+        levels,
+        |need, actual| {
+            let main = Procedure::main().variables(&[0, actual]);
+            let callee = Procedure::new(0, NONE).bound(2, 2).formal(need, need);
+            vec![
+                main.body(&[set(0, 0), new_array(1, 0), call(NONE, 1, 1), leave()]),
+                callee.body(&[leave()]),
+            ]
+        },
+    )
+}
+
 #[rustfmt::skip]
 pub fn cases() -> Vec<RunCase> {
     let needed = |pair| handed(pair, |source, destination| (destination, source));
@@ -68,5 +86,7 @@ pub fn cases() -> Vec<RunCase> {
         case("handed with fewer rights in the third level", UNEQUAL, passed([CALL_BOTH, CALL_READ]), watched((8, 116), 18, 2, (0, 2))),
         case("inner with fewer rights in the third level", UNEQUAL, needed([CALL_BOTH, CALL_READ]), watched((7, 140), 18, 2, (0, 2))),
         case("given back with fewer rights in the third level", UNEQUAL, given([CALL_BOTH, CALL_READ]), watched((8, 140), 18, 3, (1, 2))),
+        case("settled at level 13, watched", SETTLED, named(13), stops(11, 5, &[], (0, 3))),
+        case("settled at level 30, watched", SETTLED, named(30), stops(11, 5, &[], (0, 3))),
     ]
 }

@@ -25,6 +25,7 @@ pub fn cases() -> Vec<RunCase> {
     let mut all = accepted_cases();
     all.extend(limit_cases());
     all.extend(settling_cases());
+    all.extend(eighth_cases());
     all.extend(lost_cases());
     all.extend(carried_cases());
     all.extend(own_cases());
@@ -149,6 +150,28 @@ fn settling_cases() -> Vec<RunCase> {
         case("18 for the form before 19 for 21", "18 for a return, or a call keeping a result, against the PR's result", keeps(idle(AMEND, &[GENERIC])), watched((21, at(2, 0)), 18, 0, (0, 0))),
         case("19 for 21 before 18 of a lost one", STOPS, blanks(&[CALL_READ, INT], idle(AMEND, &two)), watched((21, at(2, 0)), 19, 0, (0, 0))),
         case("short by the element's set", STOPS, blanks(&[READS], idle(AMEND, &[GENERICS])), watched((21, at(1, 0)), 19, 0, (0, 0))),
+    ]
+}
+
+/// Main fills eight variables in as many instructions, and hands them over at
+/// 314.
+fn eight(inners: [u8; 8], fill: &[InstructionRecord], callee: Procedure) -> Run {
+    let body = [fill, &[call(NONE, 0, 2), leave()]].concat();
+    with(&inners, &body, &[maker(), callee])
+}
+
+#[rustfmt::skip]
+fn eighth_cases() -> Vec<RunCase> {
+    let calls: Vec<InstructionRecord> = (0..8).map(|to| call(to, NONE, 1)).collect();
+    let numbers: Vec<InstructionRecord> = (0..7).map(|to| set(to, 0)).collect();
+    let and = |last: InstructionRecord| [&numbers[..], &[last]].concat();
+    let differ = eight([CALL_BOTH, CALL_BOTH, CALL_BOTH, CALL_BOTH, CALL_BOTH, CALL_BOTH, CALL_BOTH, CALL_READ], &calls, idle(READ, &[GENERIC; 8]));
+    let short = eight([INT, INT, INT, INT, INT, INT, INT, CALL_READ], &and(call(7, NONE, 1)), idle(AMEND, &[INT, INT, INT, INT, INT, INT, INT, GENERIC]));
+    let array = eight([INT, INT, INT, INT, INT, INT, INT, BOTHS], &and(new_array(7, 0)), idle(READ, &[INT, INT, INT, INT, INT, INT, INT, GENERICS]));
+    vec![
+        case("the eighth of eight sets, watched", STOPS, differ, watched((20, at(8, 8)), 18, 24, (0, 8))),
+        case("the eighth actual is short, watched", STOPS, short, watched((21, at(8, 8)), 19, 10, (0, 8))),
+        case("the eighth actual settles, watched", FRAME, array, stops(11, 11, &[], (0, 9))),
     ]
 }
 

@@ -4,6 +4,8 @@
 //! The table needs no engine: it is for every one that has a run and a watch.
 
 mod calls;
+mod chain_numbers;
+pub mod chain_places;
 pub mod chains;
 mod depths;
 mod editions;

@@ -282,11 +282,24 @@ fn object_cases() -> Vec<RunCase> {
     let inside_reads = [new_array(IN_NESTED_READS, ONE), bind(IN_NESTED_FETCH, IN_NESTED_READS)];
     let needs = Procedure::new(0, NONE).formal(READS_FETCH, BOTHS_FETCH).body(&[leave()]);
     let needed = run(&[bind(IN_BOTHS_FETCH, FIRST), call(NONE, IN_BOTHS_FETCH, 4)], &[needs]);
+    // The second name at a call and at a return, where what its object has is asked.
+    let takes = |inner: u8, need: u8| Procedure::new(0, NONE).formal(inner, need).body(&[leave()]);
+    let gives = |result: u8, inner: u8| Procedure::new(0, result).formal(inner, inner).body(&[give_back(0)]);
+    let given = run(&[bind(SECOND, FIRST), call(NONE, SECOND, 4)], &[takes(BOTHS_FETCH, BOTHS_FETCH)]);
+    let inside = run(&[call(NONE, FIRST, 4)], &[takes(BOTHS_FETCH, READS_FETCH)]);
+    let returned = run(&[call(IN_BOTHS_FETCH, FIRST, 4)], &[gives(BOTHS_FETCH, READS_FETCH)]);
+    let dropped = run(&[call(NONE, FIRST, 4)], &[gives(BOTHS_FETCH, READS_FETCH)]);
+    let through = run(&[call(IN_BOTHS_FETCH, FIRST, 4)], &[gives(READS_FETCH, BOTHS)]);
     vec![
         case("a widened array to what its object has", OBJECT, run(&again, &[]), watched((8, at(4)), 11, 6, (0, 5))),
         case("more rights below store inside, watched", OBJECT, run(&inside_store, &[]), stopped((8, 18), 4, 4)),
         case("store given up inside, watched", OBJECT, run(&inside_reads, &[]), stops(11, 6, &[], (0, 5))),
         case("need of more rights, watched", NEED, needed, watched((7, in_4(6)), 11, 7, (0, 5))),
+        case("a widened array given for what its object has", OBJECT, given, watched((8, at(4)), 11, 7, (0, 5))),
+        case("a widened array, inner what its object has", OBJECT, inside, watched((7, in_4(5)), 11, 6, (0, 4))),
+        case("a widened array returned as what its object has", OBJECT, returned, watched((8, in_4(5) + 4), 11, 6, (0, 4))),
+        case("a widened array returned and dropped", OBJECT, dropped, watched((8, in_4(5) + 4), 11, 6, (0, 4))),
+        case("a widened result kept as what its object has", OBJECT, through, watched((8, at(3)), 11, 6, (0, 4))),
     ]
 }
 

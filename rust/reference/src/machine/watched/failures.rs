@@ -196,7 +196,7 @@ impl Machine<'_> {
     }
 
     /// The element and the cells of the array that a variable holds.
-    pub(crate) fn array(&self, number: usize) -> Option<(Read, &[Cell])> {
+    pub(super) fn array(&self, number: usize) -> Option<(Read, &[Cell])> {
         let Value::Object(object) = self.variable(number)?.value else {
             return None;
         };
@@ -227,7 +227,7 @@ impl Machine<'_> {
     }
 
     /// The types of the slots of the owner's type.
-    pub(crate) fn owner_slots(&self) -> &[usize] {
+    pub(super) fn owner_slots(&self) -> &[usize] {
         match self.procedure().owner {
             Some(owner) => &self.program.types[owner].slots,
             None => &[],

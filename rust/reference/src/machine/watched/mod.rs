@@ -46,10 +46,6 @@ impl<'a> Machine<'a> {
         Ok(machine)
     }
 
-    pub fn program(&self) -> &'a Program {
-        self.program
-    }
-
     pub fn state(&self) -> &State {
         &self.state
     }
@@ -156,7 +152,7 @@ impl<'a> Machine<'a> {
     }
 
     /// The procedure of the frame that works.
-    pub(crate) fn procedure(&self) -> &'a Procedure {
+    fn procedure(&self) -> &'a Procedure {
         &self.program.procedures[self.frame().procedure]
     }
 
@@ -165,12 +161,12 @@ impl<'a> Machine<'a> {
     }
 
     /// The declared type of a variable of the frame that works.
-    pub(crate) fn inner(&self, number: usize) -> Read {
+    fn inner(&self, number: usize) -> Read {
         self.declared(self.frame(), number)
     }
 
     /// The declared type of a variable of a frame, ?R read with its set.
-    pub(crate) fn declared(&self, frame: &Frame, number: usize) -> Read {
+    fn declared(&self, frame: &Frame, number: usize) -> Read {
         let procedure = &self.program.procedures[frame.procedure];
         Read {
             qualified: procedure.variables[number].inner,
@@ -179,7 +175,7 @@ impl<'a> Machine<'a> {
     }
 
     /// What ?R is read as in the frame that works.
-    pub(crate) fn reading(&self) -> Reading {
+    fn reading(&self) -> Reading {
         self.procedure().instance(self.frame().set)
     }
 
@@ -188,7 +184,7 @@ impl<'a> Machine<'a> {
     }
 
     /// What a call from the frame that works settles, by declared types.
-    pub(crate) fn settled(&self, procedure: usize, first_actual: Option<usize>) -> Settled {
+    fn settled(&self, procedure: usize, first_actual: Option<usize>) -> Settled {
         let callee = &self.program.procedures[procedure];
         let actuals = first_actual.into_iter().flat_map(|first| first..);
         let actuals = actuals.take(callee.formals);
@@ -198,7 +194,7 @@ impl<'a> Machine<'a> {
 
     /// The variable in which the caller of the frame that works keeps the
     /// result: that of the call before the caller's next instruction.
-    pub(crate) fn kept(&self) -> Option<(&Frame, usize)> {
+    fn kept(&self) -> Option<(&Frame, usize)> {
         let caller = self.state.frames.iter().nth_back(1)?;
         let instructions = &self.program.procedures[caller.procedure].instructions;
         match instructions[caller.next - 1].operation {

@@ -102,7 +102,7 @@ impl Machine<'_> {
 
     /// Whether the value's type and inner's base are the owner. An inner that
     /// stands as ?R is of no base: it is never amplified.
-    pub(crate) fn amplified(&self, form: Form, inner: usize, owner: Option<usize>) -> bool {
+    fn amplified(&self, form: Form, inner: usize, owner: Option<usize>) -> bool {
         let of_owner = |of| Some(of) == owner;
         let value = matches!(form, Form::Record { of } if of_owner(of));
         let inner = self.program.qualified[inner].kind;
