@@ -11,9 +11,8 @@ ghost use Rattle.checker.specs.Input.{Held};
 ghost use Rattle.checker.specs.Said.{said};
 
 use input::{Input, read_input};
-use output::{tell, write_line};
-use std::io::Write;
-use std::{env, io};
+use output::{say, tell, write_line};
+use std::env::{Env, FillError};
 use verdict_line::{LINE_BYTES, put_line};
 
 // The line of the verdict on the bytes read, where they are the whole input; otherwise nothing.
@@ -30,7 +29,7 @@ fn put_said(buffer: &[u8], input: Input, line: &mut [u8; LINE_BYTES]) -> usize
 }
 
 // A byte more than the longest sheet has: what fills it is refused whatever follows.
-fn answer(rt: &HostRuntime) -> io::Result<()> {
+fn answer(rt: &HostRuntime) {
     let mut buffer = [0u8; 32769];
     let mut failure = None;
     let input = read_input(&mut rt.stdin(), rt, &mut buffer, &mut failure);
@@ -38,17 +37,28 @@ fn answer(rt: &HostRuntime) -> io::Result<()> {
     let n = put_said(&buffer, input, &mut line);
     let mut stderr = rt.stderr();
     if n > 0 {
-        return write_line(rt.alloc(), rt, &mut rt.stdout(), &mut stderr, &line[..n]);
-    }
-    match failure {
-        Some(why) => tell(rt.alloc(), &mut stderr, "standard input", &why),
-        None => stderr.write_all(b"wennathig-check: standard input\n"),
+        write_line(&mut rt.stdout(), &mut stderr, rt, &line[..n]);
+    } else {
+        match failure {
+            Some(why) => tell(&mut stderr, b"wennathig-check: standard input", &why),
+            None => say(&mut stderr, b"wennathig-check: standard input\n"),
+        }
     }
 }
 
-fn main(rt: HostRuntime) -> io::Result<()> {
-    if env::args(&rt)?.count() > 1 {
-        return rt.stderr().write_all(b"usage: wennathig-check <SHEET\n");
+// Of an argument only whether there is one counts, so that it may be any bytes.
+fn is_given_one(rt: &HostRuntime) -> bool {
+    match rt.arg(1, &mut []) {
+        Err(FillError::NotPresent) => false,
+        Err(FillError::TooLong) => true,
+        Ok(_) => true,
     }
-    answer(&rt)
+}
+
+fn main(rt: HostRuntime) {
+    if is_given_one(&rt) {
+        say(&mut rt.stderr(), b"usage: wennathig-check <SHEET\n");
+    } else {
+        answer(&rt);
+    }
 }

@@ -1,8 +1,8 @@
 // Standard output, to which one line is written, and standard error, which says what failed.
 use crate::calls::{Answer, answered};
 use pause::pause;
-use std::alloc::Global;
-use std::io::{Error, Result, Stderr, Stdout, Write};
+use std::fmt::{InlineText, Write as _};
+use std::io::{Error, Stderr, Stdout, Write};
 use std::time::Clock;
 
 // The reason of a failure, without the number that std puts behind it.
@@ -13,63 +13,66 @@ fn reason(text: &str) -> &str {
     }
 }
 
-// Says what failed, and why.
-pub fn tell(alloc: Global, stderr: &mut Stderr, what: &str, failure: &Error) -> Result<()> {
-    let text = format!(in alloc; "{failure}")?;
-    let why = reason(text.as_str());
-    let line = format!(in alloc; "wennathig-check: {what}: {why}\n")?;
-    stderr.write_all(line.as_bytes())
+// What standard error does not take is not said: there is nowhere left to say it.
+pub fn say(stderr: &mut Stderr, words: &[u8]) {
+    match stderr.write_all(words) {
+        Ok(()) => {}
+        Err(_) => {}
+    }
 }
 
-fn cut_short(stderr: &mut Stderr) -> Result<()> {
-    stderr.write_all(b"wennathig-check: standard output: only a part of the line was written\n")
+// Says what failed, and why.
+pub fn tell(stderr: &mut Stderr, what: &[u8], failure: &Error) {
+    let mut text = InlineText::<512>::new();
+    match write!(text, "{failure}") {
+        Ok(()) => {}
+        Err(_) => {}
+    }
+    say(stderr, what);
+    say(stderr, b": ");
+    say(stderr, reason(text.as_str()).as_bytes());
+    say(stderr, b"\n");
+}
+
+fn cut_short(stderr: &mut Stderr) {
+    say(
+        stderr,
+        b"wennathig-check: standard output: only a part of the line was written\n",
+    );
 }
 
 // One call of write. Says whether it has to be made again, since nothing was written yet.
-fn write_once(
-    alloc: Global,
-    clock: &impl Clock,
-    stdout: &mut Stdout,
-    stderr: &mut Stderr,
-    line: &[u8],
-) -> Result<bool> {
+fn write_once(stdout: &mut Stdout, stderr: &mut Stderr, clock: &impl Clock, line: &[u8]) -> bool {
     let outcome = stdout.write(line);
     match answered(&outcome) {
         Answer::Moved(n) => {
             if n < line.len() {
-                cut_short(stderr)?;
+                cut_short(stderr);
             }
-            Ok(false)
+            false
         }
         Answer::Ended => {
-            cut_short(stderr)?;
-            Ok(false)
+            cut_short(stderr);
+            false
         }
-        Answer::Again => Ok(true),
+        Answer::Again => true,
         Answer::Wait => {
             pause(clock);
-            Ok(true)
+            true
         }
         Answer::Failed => {
             if let Err(failure) = outcome {
-                tell(alloc, stderr, "standard output", &failure)?;
+                tell(stderr, b"wennathig-check: standard output", &failure);
             }
-            Ok(false)
+            false
         }
     }
 }
 
 // Writes the line by one call, so that lines of two programs that append to one file do not mix.
-pub fn write_line(
-    alloc: Global,
-    clock: &impl Clock,
-    stdout: &mut Stdout,
-    stderr: &mut Stderr,
-    line: &[u8],
-) -> Result<()> {
+pub fn write_line(stdout: &mut Stdout, stderr: &mut Stderr, clock: &impl Clock, line: &[u8]) {
     let mut turns = u64::MAX;
-    while turns > 0 && write_once(alloc, clock, stdout, stderr, line)? {
+    while turns > 0 && write_once(stdout, stderr, clock, line) {
         turns -= 1;
     }
-    Ok(())
 }
