@@ -4,4 +4,4 @@ use Rattle.order.proofs.is_same_head.Goals as goal
 
 pub returns : goal.returns
 unfolding same_heads
-returns c = rw (c.rights_in-2.ensures, c.rights_in.ensures, c.shape_in.ensures, c.shape_in-b.ensures)
+returns c = cc

@@ -5,10 +5,8 @@ use Rattle.index.proofs.procedures.place_in.Goals as goal
 
 pub returns-then-start-head : goal.returns-then-start-head
 unfolding place_of
-returns-then-start-head c =
-    omega (arith, c.bound_in.ensures, c.start_in-start.ensures, c.if-start-head.true)
+returns-then-start-head c = omega arith
 
 pub returns : goal.returns
 unfolding place_of
-returns c =
-    omega (arith, c.bound_in.ensures, c.start_in-start.ensures, c.if-start-head.false)
+returns c = omega arith
