@@ -36,5 +36,3 @@ unfolding check check_tests
 returns c =
     let s = c.args.s.now in
     go_on (form_tests s) (access_rules (place_of s) (program_of s)) _ _ c.well_formed-form.ensures c.in-Accepted.is c.access.ensures
-
--- TODO: unknown step well_formed-form

@@ -81,5 +81,3 @@ returns c =
     let formals = formals-in.ensures ∙ P.formals in
     let few : formals-in.result ≤ variables_in.result = rw (formals, variables_in.ensures ∙ P.variables) (formals_within s args.index.now c.requires.loaded args.k C.procedure) in
     call_of_blank s args.memory.now args.r args.a args.b args.k _ _ (variables_in.ensures ∙ P.variables) formals if1.false few (actuals_fit args.b _ _ (λ j h. C.actuals j (subst (λ n. j < n) formals h))) _ (subst (Copies _ _ _ _ _) if2.false copy-filled.ensures)
-
--- TODO: whole context c.before.before

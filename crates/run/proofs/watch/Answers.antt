@@ -20,5 +20,3 @@ pub returns-in-Accepted : goal.returns-in-Accepted
 unfolding answer
 returns-in-Accepted c =
     let a = sym c.well_formed-2.ensures ∙ c.in-Accepted.is in rw a c.run_lent.ensures
-
--- TODO: unknown step well_formed-2

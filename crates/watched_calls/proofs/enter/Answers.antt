@@ -52,5 +52,3 @@ returns-in-Halt c =
     let formals-in = c.formals_in-f in
     let bind-actuals = c.bind_actuals in
     λ k z scope C. enter_stops args.s.now args.memory.now args.r args.a args.b k _ z C _ variables_in.ensures if1.false _ formals-in.ensures bind-actuals.new.memory _ (subst (Binds _ _ _ _ _ _ _ _ _) c.in-Halt.is (bind-actuals.ensures k z scope))
-
--- TODO: whole context c.before.before

@@ -216,5 +216,3 @@ pub returns-in-Return : goal.returns-in-Return
 returns-in-Return c =
     let args = c.args in
     rw (fetched c.args.s.now c.args.r c.requires.code_of c.operation_whole-operation.ensures c.in-Return.is) (c.give_back.ensures args.s.now args.input.now args.output.now)
-
--- TODO: whole context c.before.before.before.before; whole context c.before.before.before.before.before; whole context c.before.before.before.before.before.before.before; whole context c.before.before.before.before.before.before.before.before

@@ -261,5 +261,3 @@ returns-in-Return c =
     let give-back = c.give_back in
     let args = c.args in
     rw (fetched c.args.s.now c.args.r c.requires.code_of c.operation_whole-operation.ensures c.in-Return.is) (give-back.ensures args.input.now args.output.now)
-
--- TODO: whole context c.before.before.before.before; whole context c.before.before.before.before.before
