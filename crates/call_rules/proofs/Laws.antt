@@ -9,7 +9,7 @@ use lib.Dec.{eqb}
 use borrow.Author.Tests.{ne_eqb}
 use Rattle.model.specs.Qualified.{Qual}
 use Rattle.model.specs.Generic.{Bound, own, read, read_result}
-use Rattle.model.specs.Refusal.{type_mismatch, Test, test, failure, each}
+use Rattle.model.specs.Refusal.{TypeMismatch, Test, test, failure, each}
 use Rattle.model.specs.Rules.{moves, optional, optional_variable, keeps, kept_rule, Callee, settling_rule, passing_rule, call_rule}
 use Rattle.model.proofs.Verdicts.{first, failure_append}
 use Rattle.model.proofs.Read.{read_read}
@@ -84,7 +84,7 @@ module _ (s : List ℕ) (bound : Bound) (to : Scope) (name : ℕ) (e : named_as 
   passes inner a b =
       ap (λ (n : ℕ). cond (keeps (optional_variable inner (optional a)) (result_as s (reading to name))) n 8)
       (sym (failure_two (each (formals_at s to.head) (λ j. moves (inner (b + j)) (need_as s (reading to name) j))) (kept_rule (optional_variable inner (optional a)) (result_as s (reading to name)))))
-      ∙ (λ i. failure (test type_mismatch (keeps_again (optional_variable inner (optional a)) i) ∷ (each (formals_at s to.head) (λ j. moves (inner (b + j)) (need_again j i)) ++ kept_rule (optional_variable inner (optional a)) (result_again i))))
+      ∙ (λ i. failure (test TypeMismatch (keeps_again (optional_variable inner (optional a)) i) ∷ (each (formals_at s to.head) (λ j. moves (inner (b + j)) (need_again j i)) ++ kept_rule (optional_variable inner (optional a)) (result_again i))))
 
 -- ---- A call, by what it settles
 

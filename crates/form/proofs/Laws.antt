@@ -9,7 +9,7 @@ use lib.ListN.{length, get_or}
 use lib.Dec.{eqb}
 use borrow.Author.Count.{below_more}
 use borrow.Author.Tests.{leb-true, ltb-true, eq-eqb, ne_eqb, le-leb, lt-ltb, le-ltb}
-use Rattle.model.specs.Refusal.{torn, stray_mark, bad_edition, off_scale, Tests, tests, failure, verdict, each}
+use Rattle.model.specs.Refusal.{Torn, StrayMark, BadEdition, OffScale, Tests, tests, failure, verdict, each}
 use Rattle.model.specs.declared.Verdict.TheVariants.{Accepted}
 use Rattle.model.proofs.Verdicts.{left_accepted, right_accepted, accepted_tests, passed_test, both_true, all_held}
 use Rattle.sheet.specs.Bytes.{byte_at, word_at, whole_at, Mark, mark, marked_at}
@@ -100,27 +100,27 @@ pub record_formed : (s : List ℕ) (at size : ℕ) (m : Mark) (scale : Bool) →
     → (at + size ≤ length s) × (scale ≡ true)
 unfolding record_tests
 record_formed s at size m scale h =
-    let w = passed_test torn (whole_at s at size) _ (accepted_tests at _ h) in
-    let k = passed_test stray_mark (marked_at s at m) _ w.1 in
-    (whole_true s at size w.0, (passed_test off_scale scale [] k.1).0)
+    let w = passed_test Torn (whole_at s at size) _ (accepted_tests at _ h) in
+    let k = passed_test StrayMark (marked_at s at m) _ w.1 in
+    (whole_true s at size w.0, (passed_test OffScale scale [] k.1).0)
 
 -- and under its mark
 pub record_marked : (s : List ℕ) (at size : ℕ) (m : Mark) (scale : Bool) → verdict (record_tests s at size m scale) ≡ Accepted
     → (whole_at s at size ≡ true) × (marked_at s at m ≡ true)
 unfolding record_tests
 record_marked s at size m scale h =
-    let w = passed_test torn (whole_at s at size) _ (accepted_tests at _ h) in
-    (w.0, (passed_test stray_mark (marked_at s at m) _ w.1).0)
+    let w = passed_test Torn (whole_at s at size) _ (accepted_tests at _ h) in
+    (w.0, (passed_test StrayMark (marked_at s at m) _ w.1).0)
 
 -- few types, qualified types and procedures, and at least one procedure
 pub header_small : (s : List ℕ) → verdict (header_tests s) ≡ Accepted
     → (types_of s ≤ 32) × (quals_of s ≤ 64) × (1 ≤ procedures_of s) × (procedures_of s ≤ 64)
 unfolding header_tests header_scale
 header_small s h =
-    let w = passed_test torn (whole_at s 0 6) _ (accepted_tests 0 _ h) in
-    let k = passed_test stray_mark (marked_at s 0 hd_mark) _ w.1 in
-    let e = passed_test bad_edition (eqb (edition_of s) 1 || eqb (edition_of s) 2) _ k.1 in
-    let l = (all_held true _ (passed_test off_scale (header_scale (types_of s) (quals_of s) (procedures_of s)) [] e.1).0).1 in
+    let w = passed_test Torn (whole_at s 0 6) _ (accepted_tests 0 _ h) in
+    let k = passed_test StrayMark (marked_at s 0 hd_mark) _ w.1 in
+    let e = passed_test BadEdition (eqb (edition_of s) 1 || eqb (edition_of s) 2) _ k.1 in
+    let l = (all_held true _ (passed_test OffScale (header_scale (types_of s) (quals_of s) (procedures_of s)) [] e.1).0).1 in
     (leb-true (types_of s) 32 l.0, leb-true (quals_of s) 64 l.1.0, leb-true 1 (procedures_of s) l.1.1.0, leb-true (procedures_of s) 64 l.1.1.1.0)
 
 -- the tests of a call, from what was read: no call, no such procedure, and else its actuals

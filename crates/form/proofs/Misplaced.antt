@@ -8,7 +8,7 @@ use native.Mathlib.Omega.{arith}
 use lib.Dec.{eqb}
 use borrow.Author.Tests.{eqb-true}
 use Rattle.model.specs.Generic.{uses}
-use Rattle.model.specs.Refusal.{off_scale, Test, test, Tests, tests, failure, verdict, each}
+use Rattle.model.specs.Refusal.{OffScale, Test, test, Tests, tests, failure, verdict, each}
 use Rattle.model.specs.declared.Verdict.{Verdict}
 use Rattle.sheet.specs.Bytes.{byte_at}
 use Rattle.sheet.specs.Layout.{type_at, slots_of, slot_of, result_at, is_bounded, variable_at, inner_at, need_at}
@@ -20,7 +20,7 @@ use Rattle.form.specs.WellFormed.{slot_uses, result_uses, head_uses, variable_us
 
 -- the test of one slot of the TY at a place
 abbrev pub slot_test : List ℕ → (at k : ℕ) → List Test
-slot_test s at k = test off_scale (not (uses (qual_of s (byte_at s at (4 + k))))) ∷ []
+slot_test s at k = test OffScale (not (uses (qual_of s (byte_at s at (4 + k))))) ∷ []
 
 refused : (u : Bool) → ◌≡◌ {A = ℕ} (cond u 5 0) (cond (not u) 0 5)
 refused true = refl
@@ -50,12 +50,12 @@ module _ (s : List ℕ) (t : List ℕ) (x : Ready s t) (bounded : Bool) where
       go false f = name_used x r
 
   pub head_here : (p pr r : ℕ) (b : Bool) (v : Verdict) → bounded ≡ is_bounded s p pr → r ≡ byte_at s pr 5 → b ≡ uses_of (word_in t r)
-      → v ≡ verdict (tests pr (test off_scale (not (not bounded && b)) ∷ []) ∷ []) → v ≡ verdict (head_uses s p pr)
+      → v ≡ verdict (tests pr (test OffScale (not (not bounded && b)) ∷ []) ∷ []) → v ≡ verdict (head_uses s p pr)
   unfolding head_uses
   head_here p pr r b v e f g h = h ∙ rw (g, result_here pr r f, allowed bounded (result_uses (result_in s pr)), e)
 
   pub variable_here : (start y at i n : ℕ) (a b : Bool) (v : Verdict) → at ≡ variable_at start y → i ≡ inner_at s start y → n ≡ need_at s start y
       → a ≡ uses_of (word_in t i) → b ≡ uses_of (word_in t n)
-      → v ≡ verdict (tests at (test off_scale (not (not bounded && (a || b))) ∷ []) ∷ []) → v ≡ verdict (variable_uses s bounded start y)
+      → v ≡ verdict (tests at (test OffScale (not (not bounded && (a || b))) ∷ []) ∷ []) → v ≡ verdict (variable_uses s bounded start y)
   unfolding variable_uses inner_in need_in
   variable_here start y at i n a b v e f g d k h = h ∙ rw (allowed bounded (a || b), d, k, name_used x i, name_used x n, e, f, g)

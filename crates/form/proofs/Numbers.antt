@@ -4,7 +4,7 @@ use mathlib.Core.Path.{◌≡◌, refl}
 use mathlib.Core.Bool.{Bool, true, false, not, cond}
 use mathlib.Core.List.{List, [], ◌∷◌, ◌++◌}
 use lib.Dec.{eqb}
-use Rattle.model.specs.Refusal.{torn, stray_mark, off_scale, between, Test, test, tests, each}
+use Rattle.model.specs.Refusal.{Torn, StrayMark, OffScale, between, Test, test, tests, each}
 use Rattle.model.specs.Generic.{uses}
 use Rattle.model.proofs.Numbers.{in_range, all_in_range, range_span, all_append, all_each, all_one}
 use Rattle.sheet.specs.Layout.{types_of, quals_of, procedures_of, type_at, slots_of, variables_field, instructions_at, is_bounded, start_from, instruction_from, code_at, procedure_at}
@@ -18,7 +18,7 @@ bound_range : (s : List ℕ) (p pr : ℕ) → all_in_range form_number (bound_te
 unfolding bound_tests record_tests
 bound_range s p pr = due (is_bounded s p pr) _ _ _
   where
-    due : (b t u v : Bool) → all_in_range form_number (cond b (tests (pr + 8) (test torn t ∷ test stray_mark u ∷ test off_scale v ∷ []) ∷ []) []) ≡ true
+    due : (b t u v : Bool) → all_in_range form_number (cond b (tests (pr + 8) (test Torn t ∷ test StrayMark u ∷ test OffScale v ∷ []) ∷ []) []) ≡ true
     due true t u v = refl
     due false t u v = refl
 
@@ -53,14 +53,14 @@ call_range s v start i =
     let at = instruction_from start v i in
     all_one form_number at (call_tests_at s v at) (asked (eqb (code_at s at) 16) _ _)
   where
-    asked : (b t u : Bool) → in_range form_number (cond b (test off_scale t ∷ test off_scale u ∷ []) []) ≡ true
+    asked : (b t u : Bool) → in_range form_number (cond b (test OffScale t ∷ test OffScale u ∷ []) []) ≡ true
     asked true t u = refl
     asked false t u = refl
 
 slot_range : (s : List ℕ) (i : ℕ) → all_in_range form_number (slot_uses s i) ≡ true
 unfolding slot_uses
 slot_range s i =
-    let slot : ℕ → List Test = (λ k. test off_scale (not (uses (slot_in_sheet s (2 + i) k))) ∷ []) in
+    let slot : ℕ → List Test = (λ k. test OffScale (not (uses (slot_in_sheet s (2 + i) k))) ∷ []) in
     all_one form_number (type_at (2 + i)) (each (slots_of s (2 + i)) slot) (range_span form_number slot (λ k. refl) 0 (slots_of s (2 + i)))
 
 procedure_calls_range : (s : List ℕ) (p : ℕ) → all_in_range form_number (procedure_calls s p) ≡ true

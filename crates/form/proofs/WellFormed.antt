@@ -12,7 +12,7 @@ use borrow.Author.Tests.{ltb-true, leb-true, eqb-true, eq-eqb, ne_eqb, lt-ltb}
 use Rattle.model.specs.Rules.{callee}
 use Rattle.model.specs.Rights.{has, none_above, open_right}
 use Rattle.model.specs.Generic.{no_bound, at_least, bound_base, least, uses}
-use Rattle.model.specs.Refusal.{overlong, torn, off_scale, test, failure, verdict, each}
+use Rattle.model.specs.Refusal.{Overlong, Torn, OffScale, test, failure, verdict, each}
 use Rattle.model.specs.declared.Operation.TheVariants.{Call}
 use Rattle.model.specs.declared.Verdict.TheVariants.{Accepted}
 use Rattle.model.proofs.Verdicts.{left_accepted, right_accepted, each_accepted, accepted_tests, passed_span, passed_test, both_true, either_true, implied, Held, all_held}
@@ -136,7 +136,7 @@ module _ (s : List ℕ) (wf : verdict (form_tests s) ≡ Accepted) where
   pub form_short : length s ≤ 32768
   unfolding form_tests length_tests
   form_short =
-      leb-true (length s) 32768 (passed_test overlong (leb (length s) 32768) [] (accepted_tests 0 _ (left_accepted (length_tests s) _ wf))).0
+      leb-true (length s) 32768 (passed_test Overlong (leb (length s) 32768) [] (accepted_tests 0 _ (left_accepted (length_tests s) _ wf))).0
 
   -- few types, qualified types and procedures, and at least one procedure
   pub form_small : (types_of s ≤ 32) × (quals_of s ≤ 64) × (1 ≤ procedures_of s) × (procedures_of s ≤ 64)
@@ -153,7 +153,7 @@ module _ (s : List ℕ) (wf : verdict (form_tests s) ≡ Accepted) where
   form_ends =
       let e = procedure_at s (procedures_of s) in
       let h = right_accepted (each (procedures_of s) (procedure_tests s)) (leftover_tests s e) after_quals in
-      eqb-true e (length s) (passed_test torn (eqb e (length s)) [] (accepted_tests e _ h)).0
+      eqb-true e (length s) (passed_test Torn (eqb e (length s)) [] (accepted_tests e _ h)).0
 
   -- a declared type
   module _ (t : ℕ) (d : 2 ≤ t) (l : t < types_of s + 2) where
@@ -178,7 +178,7 @@ module _ (s : List ℕ) (wf : verdict (form_tests s) ≡ Accepted) where
         (all_below_true (λ k. below_or_none (quals_of s) (ltb k (slots_of s t)) (slot_of s t k)) 8 type_held.1.1.0 k (omega (arith, slots_few)))
         (lt-ltb k (slots_of s t) m)
 
-    slots_passed : failure (each (slots_of s t) (λ k. test off_scale (not (uses (slot_in_sheet s t k))) ∷ [])) ≡ 0
+    slots_passed : failure (each (slots_of s t) (λ k. test OffScale (not (uses (slot_in_sheet s t k))) ∷ [])) ≡ 0
     unfolding calls_tests slot_uses
     slots_passed =
         let e : 2 + (t - 2) ≡ t = omega arith in
@@ -189,8 +189,8 @@ module _ (s : List ℕ) (wf : verdict (form_tests s) ≡ Accepted) where
     pub slot_plain : (k : ℕ) → k < slots_of s t → uses (slot_in_sheet s t k) ≡ false
     slot_plain k m =
         let e : 0 + k ≡ k = omega arith in
-        let h = passed_span (λ k. test off_scale (not (uses (slot_in_sheet s t k))) ∷ []) (slots_of s t) 0 slots_passed k m in
-        not_true _ (passed_test off_scale _ [] (rw e at h)).0
+        let h = passed_span (λ k. test OffScale (not (uses (slot_in_sheet s t k))) ∷ []) (slots_of s t) 0 slots_passed k m in
+        not_true _ (passed_test OffScale _ [] (rw e at h)).0
 
   -- a qualified type
   module _ (j : ℕ) (l : j < quals_of s) where
@@ -276,7 +276,7 @@ module _ (s : List ℕ) (wf : verdict (form_tests s) ≡ Accepted) where
       unfolding procedure_calls_at head_uses
       result_plain =
           let pr = procedure_at s p in
-          let h = passed_test off_scale (is_bounded s p pr || not (result_uses (result_in s pr))) [] (accepted_tests pr _ (left_accepted (head_uses s p pr) _ procedure_passed)) in
+          let h = passed_test OffScale (is_bounded s p pr || not (result_uses (result_in s pr))) [] (accepted_tests pr _ (left_accepted (head_uses s p pr) _ procedure_passed)) in
           not_true _ (rw n at h.0)
 
       pub variable_plain : (x : ℕ) → x < variables_field s (procedure_at s p)
@@ -286,7 +286,7 @@ module _ (s : List ℕ) (wf : verdict (form_tests s) ≡ Accepted) where
           let b = is_bounded s p (procedure_at s p) in
           let f = variable_uses s b (start_at s p) in
           let own = left_accepted (each (variables_field s (procedure_at s p)) f) _ after_uses in
-          let h = passed_test off_scale (b || not (uses (inner_in s (start_at s p) x) || uses (need_in s (start_at s p) x))) [] (accepted_tests (variable_at (start_at s p) x) _ (each_accepted f _ own x m)) in
+          let h = passed_test OffScale (b || not (uses (inner_in s (start_at s p) x) || uses (need_in s (start_at s p) x))) [] (accepted_tests (variable_at (start_at s p) x) _ (each_accepted f _ own x m)) in
           neither _ _ (rw n at h.0)
 
     -- a variable of it
@@ -384,8 +384,8 @@ module _ (s : List ℕ) (wf : verdict (form_tests s) ≡ Accepted) where
       unfolding call_tests_at
       call_held e =
           let at = instruction_at s p i in
-          let h = passed_test off_scale (ltb (k_at s at) (procedures_of s)) _ (rw (eq-eqb (code_at s at) 16 e) at call_passed) in
-          (h.0, (passed_test off_scale _ [] h.1).0)
+          let h = passed_test OffScale (ltb (k_at s at) (procedures_of s)) _ (rw (eq-eqb (code_at s at) 16 e) at call_passed) in
+          (h.0, (passed_test OffScale _ [] h.1).0)
 
       -- a call names a procedure of the sheet, and as many variables as that has formals
       pub call_below : (fields_in s p i).code ≡ 16 → (fields_in s p i).k < procedures_of s

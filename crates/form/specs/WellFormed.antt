@@ -2,7 +2,7 @@
 -- then, call by call, the 5s that wait for the procedure called"; document 02, S-1: "in the pass for calls, which goes record by record".
 use Rattle.std.specs.Prelude.{ℕ, ◌+◌, List, [], ◌∷◌, ◌++◌, Bool, false, not, ◌||◌, cond, length, leb, ltb, eqb}
 use Rattle.std.proofs.Math.Option.{Option, none, some}
-use Rattle.model.specs.Refusal.{overlong, torn, stray_mark, bad_edition, off_scale, Test, test, Tests, tests, each}
+use Rattle.model.specs.Refusal.{Overlong, Torn, StrayMark, BadEdition, OffScale, Test, test, Tests, tests, each}
 use Rattle.model.specs.Qualified.{Qual}
 use Rattle.model.specs.Generic.{uses}
 use Rattle.sheet.specs.Bytes.{byte_at, whole_at, Mark, marked_at}
@@ -14,21 +14,21 @@ use Rattle.limits.specs.Scale.{header_scale, type_scale, qual_scale, bound_scale
 
 -- 1: "more than 32,768 bytes"
 unfoldable pub length_tests : List ℕ → List Tests
-length_tests s = tests 0 (test overlong (leb (length s) 32768) ∷ []) ∷ []
+length_tests s = tests 0 (test Overlong (leb (length s) 32768) ∷ []) ∷ []
 
 -- a record of a size, under its mark, within its limits: 2 torn, 3 stray mark, 5 off scale
 unfoldable pub record_tests : List ℕ → (at size : ℕ) → Mark → Bool → List Tests
 record_tests s at size m scale =
-    tests at (test torn (whole_at s at size) ∷ test stray_mark (marked_at s at m) ∷ test off_scale scale ∷ []) ∷ []
+    tests at (test Torn (whole_at s at size) ∷ test StrayMark (marked_at s at m) ∷ test OffScale scale ∷ []) ∷ []
 
 -- HD; S-5: "Refusal 4 then means neither 1 nor 2."
 unfoldable pub header_tests : List ℕ → List Tests
 header_tests s =
     tests 0 (
-    test torn (whole_at s 0 hd_size) ∷
-    test stray_mark (marked_at s 0 hd_mark) ∷
-    test bad_edition (eqb (edition_of s) 1 || eqb (edition_of s) 2) ∷
-    test off_scale (header_scale (types_of s) (quals_of s) (procedures_of s)) ∷
+    test Torn (whole_at s 0 hd_size) ∷
+    test StrayMark (marked_at s 0 hd_mark) ∷
+    test BadEdition (eqb (edition_of s) 1 || eqb (edition_of s) 2) ∷
+    test OffScale (header_scale (types_of s) (quals_of s) (procedures_of s)) ∷
     [])
     ∷ []
 
@@ -89,7 +89,7 @@ procedure_tests s p = procedure_tests_at s p (procedure_at s p)
 
 -- "the first leftover byte where bytes are left over": none is left after the last record, which ends at `end`
 unfoldable pub leftover_tests : List ℕ → ℕ → List Tests
-leftover_tests s end = tests end (test torn (eqb end (length s)) ∷ []) ∷ []
+leftover_tests s end = tests end (test Torn (eqb end (length s)) ∷ []) ∷ []
 
 unfoldable pub layout_tests : List ℕ → List Tests
 layout_tests s =
@@ -103,8 +103,8 @@ layout_tests s =
 unfoldable pub call_tests_at : List ℕ → (v at : ℕ) → List Test
 call_tests_at s v at =
     cond (eqb (code_at s at) 16)
-    (test off_scale (ltb (k_at s at) (procedures_of s))
-    ∷ test off_scale (actuals_scale (formals_at s (procedure_at s (k_at s at))) (byte_at s at 4) v)
+    (test OffScale (ltb (k_at s at) (procedures_of s))
+    ∷ test OffScale (actuals_scale (formals_at s (procedure_at s (k_at s at))) (byte_at s at 4) v)
     ∷ [])
     []
 
@@ -113,18 +113,18 @@ call_tests s v start i = tests (instruction_from start v i) (call_tests_at s v (
 
 -- S-1: ?R "Used (itself or as an element) in a slot or without a GN .. is 5 at the TY, PR or VR, in the pass for calls"; a QT that no record names is no fault
 unfoldable pub slot_uses : List ℕ → ℕ → List Tests
-slot_uses s i = tests (type_at (2 + i)) (each (slots_of s (2 + i)) (λ k. test off_scale (not (uses (slot_in_sheet s (2 + i) k))) ∷ [])) ∷ []
+slot_uses s i = tests (type_at (2 + i)) (each (slots_of s (2 + i)) (λ k. test OffScale (not (uses (slot_in_sheet s (2 + i) k))) ∷ [])) ∷ []
 
 unfoldable pub result_uses : Option Qual → Bool
 result_uses none = false
 result_uses (some q) = uses q
 
 unfoldable pub head_uses : List ℕ → (p pr : ℕ) → List Tests
-head_uses s p pr = tests pr (test off_scale (is_bounded s p pr || not (result_uses (result_in s pr))) ∷ []) ∷ []
+head_uses s p pr = tests pr (test OffScale (is_bounded s p pr || not (result_uses (result_in s pr))) ∷ []) ∷ []
 
 unfoldable pub variable_uses : List ℕ → (bounded : Bool) → (start x : ℕ) → List Tests
 variable_uses s bounded start x =
-    tests (variable_at start x) (test off_scale (bounded || not (uses (inner_in s start x) || uses (need_in s start x))) ∷ []) ∷ []
+    tests (variable_at start x) (test OffScale (bounded || not (uses (inner_in s start x) || uses (need_in s start x))) ∷ []) ∷ []
 
 -- procedure p, at `pr`, in the pass for calls: its PR, its VRs, its calls
 unfoldable pub procedure_calls_at : List ℕ → (p pr : ℕ) → List Tests

@@ -13,6 +13,7 @@ use Rattle.sheet.specs.Layout.{quals_of, base_of, rights_field, element_field, p
 use Rattle.sheet.specs.Meaning.{nominal, shaped, base_in, element_in_sheet, tree, qual_of}
 use Rattle.index.specs.Types.{word_in, rights_of, shape_of, uses_of, of_shape, element_below, tree_in, qual_in, UseTold}
 use Rattle.index.specs.Indexed.{TypeWord, Indexed, Ready}
+use Rattle.index.specs.declared.sheets.Sheet.{Sheet}
 use Rattle.index.proofs.Uses.{told_uses}
 
 -- the word 0 is an integer's
@@ -89,3 +90,6 @@ module _ (s t : List ℕ) (x : Indexed s t) (q : quals_of s ≤ 64) where
 -- the types of the sheet, as one function
 pub same_types : {s t : List ℕ} → Ready s t → qual_in t ≡ qual_of s
 same_types ready = λ i j. ready.types j i
+
+pub of_sheet : (s : Sheet) → Ready s.bytes.now s.index.now
+of_sheet s = ready _ _ s.indexed s.few_quals s.few_procedures

@@ -4,7 +4,7 @@ use Rattle.sheet.specs.Layout.{quals_of, base_of, rights_field, element_field, p
 use Rattle.sheet.specs.Meaning.{qual_of}
 use Rattle.index.specs.Types.{rights_of, shape_of, element_of, qual_in, UseTold, UsesTold}
 use Rattle.index.specs.Procedures.{procedure_in, start_of, place_of}
-use Rattle.words.specs.Word.{number_of, variables_of, formals_of, bound_of, first_of, IsProcedure}
+use Rattle.words.specs.Word.{number_of, variables_of, formals_of, bound_of, first_of, tag}
 
 -- the word of QT j, whose base is a byte; 255 is ?R, which has no rights of its own
 pub record TypeWord (s : List ℕ) (j w : ℕ) : Type 0 where
@@ -21,7 +21,8 @@ pub record PlacedWord (s : List ℕ) (k w : ℕ) : Type 0 where
 
 -- the word of procedure k
 pub record ProcedureWord (s : List ℕ) (k w : ℕ) : Type 0 where
-  pub is_procedure : IsProcedure w
+  -- it is a procedure's (`IsProcedure`)
+  pub tagged : tag w ≡ 6
   pub number : number_of w ≡ k
   pub formals : formals_of w ≡ formals_at s (procedure_at s k)
   pub variables : variables_of w ≡ variables_field s (procedure_at s k)

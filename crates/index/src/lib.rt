@@ -2,6 +2,7 @@
 // QT of the sheet, and a later table is more words of the same array.
 #![tactic(auto)]
 
+pub mod sheets; // a sheet with its index
 pub mod types; // the qualified types by their numbers
 pub mod procedures; // the procedures by theirs
 pub mod make; // the index from the bytes

@@ -1,5 +1,5 @@
 // The procedures of an index by their numbers.
-ghost use Rattle.std.specs.Prelude.{◌≡◌, List, ℕ, ◌+◌, ◌-◌, ◌<◌, ◌≤◌};
+ghost use Rattle.std.specs.Prelude.{◌≡◌, List, ℕ, ◌+◌, ◌<◌, ◌≤◌};
 ghost use Rattle.model.specs.Qualified.{declared, generic};
 ghost use Rattle.model.specs.Generic.{bound_base, least, own, instance};
 ghost use Rattle.sheet.specs.Layout.{is_bounded, procedure_at};
@@ -10,6 +10,7 @@ ghost use Rattle.index.specs.Indexed.{PlacedWord};
 ghost use Rattle.index.specs.Scope.{bound_of_procedure, Bounded, ScopeOf};
 
 use crate::Index;
+use crate::sheets::Sheet;
 use sheet::edition::rights_at;
 use sheet::fields::field;
 use words::{bound_in, first_in, variables_in};
@@ -101,33 +102,23 @@ pub fn base_in(s: &[u8], w: u64, pr: u32) -> u8
     2
 }
 
-// A GN's size less its mark and its base.
-fn less_three(n: u8) -> u8
-    ensures { result ≡ n - 3 }
-{
-    if n < 3 {
-        return 0;
-    }
-    n - 3
-}
-
 // Its least set; empty where it has none.
-pub fn least_in(s: &[u8], w: u64, pr: u32) -> u32
-    ensures { (k : ℕ) → PlacedWord s.now k w → pr ≡ procedure_at s.now k → result ≡ least (bound_in_sheet s.now k pr) }
+pub fn least_in(s: Sheet, w: u64, pr: u32) -> u32
+    ensures { (k : ℕ) → PlacedWord s.entry.bytes.now k w → pr ≡ procedure_at s.entry.bytes.now k → result ≡ least (bound_in_sheet s.entry.bytes.now k pr) }
 {
     if is_bounded_in(w) {
-        return rights_at(s, less_three(bound_in(w)), (pr as usize) + 8);
+        return rights_at(s.encoded(), (pr as usize) + 8);
     }
     0
 }
 
 // The procedure of a word, which reads ?R with its own bound.
-pub fn own_scope(s: &[u8], w: u64) -> Scope
-    ensures { (k : ℕ) → PlacedWord s.now k w → Bounded s.now k → ScopeOf s.now k (own (bound_of_procedure s.now k)) result }
+pub fn own_scope(s: Sheet, w: u64) -> Scope
+    ensures { (k : ℕ) → PlacedWord s.entry.bytes.now k w → Bounded s.entry.bytes.now k → ScopeOf s.entry.bytes.now k (own (bound_of_procedure s.entry.bytes.now k)) result }
 {
     let head = place_in(w);
     let start = start_in(w);
-    let name = own_name(base_in(s, w, head), least_in(s, w, head));
+    let name = own_name(base_in(s.bytes, w, head), least_in(s, w, head));
     Scope { head, start, name }
 }
 

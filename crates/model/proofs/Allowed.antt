@@ -11,12 +11,12 @@ use Rattle.model.specs.Rights.{Rights, within, has, none_above, record_rights, o
 use Rattle.model.specs.Qualified.{Qual, base, rights, element, is_integer, is_array, is_generic, same, alike, covers}
 use Rattle.model.specs.Generic.{Bound, least, own, instance, read, read_result, uses, settled, some_uses, is_settled, is_enough}
 use Rattle.model.specs.Program.{Program, Record, type_record, qual_record, procedure_record, variable_record, instruction_record}
-use Rattle.model.specs.Refusal.{unsettled, short_set, type_mismatch, insufficient_rights, open_exposed, false_raise, Test, test, Tests, tests, failure, verdict, span}
+use Rattle.std.specs.Prelude.{Ok}
+use Rattle.model.specs.Refusal.{Accepted, Unsettled, ShortSet, TypeMismatch, InsufficientRights, OpenExposed, FalseRaise, Test, test, Tests, tests, failure, verdict, span}
 use Rattle.model.specs.Rules.{optional, moves, owned_by, integer_rule, integers_rule, new_array_rule, new_record_rule, fetch_rule, store_rule, size_rule, get_slot_rule, set_slot_rule, return_rule, keeps, kept_rule, closed, closed_result, amplifies, agrees, formal_rule, local_rule, declaration_rule, optional_variable, called, found_by, settling_rule, passing_rule, call_rule, closed_rule, typed, typed_slot, rule, type_rules, qual_rules, variable_rule, variable_rules, instruction_rules, head_rules, procedure_rules, access_rules}
-use Rattle.model.specs.declared.Verdict.TheVariants.{Accepted}
 use Rattle.model.specs.declared.Operation.{Operation}
 use Rattle.model.specs.declared.Operation.TheVariants.{Set, Add, Subtract, Less, JumpZero, Bind, Take, Put, NewArray, Fetch, Store, Size, NewRecord, GetSlot, SetSlot, Call, Return}
-use Rattle.model.proofs.Verdicts.{verdict_append, failure_append, accepted_left, accepted_right, accepted_span, accepted_tests, first_left, first_right, passed_span, passed_test, both_true}
+use Rattle.model.proofs.Verdicts.{verdict_append, failure_append, accepted_left, accepted_right, accepted_span, accepted_tests, passed_span, passed_test, both_true}
 use Rattle.model.proofs.Rights.{within_all}
 use Rattle.model.proofs.Order.{same_sound}
 use Rattle.model.proofs.Formed.{Formed, FormedAt}
@@ -102,8 +102,8 @@ module _ (g : Program) (p : ℕ) (z : Rights) where
 -- ---- From a passed rule to its facts
 
 -- the tests of kind, then of a right, then the movements
-kind_right : (a b : Bool) (ts : List Test) → failure (test type_mismatch a ∷ test insufficient_rights b ∷ ts) ≡ 0 → (a ≡ true) × (b ≡ true) × (failure ts ≡ 0)
-kind_right a b ts h = let x = passed_test type_mismatch a _ h in let y = passed_test insufficient_rights b ts x.1 in (x.0, y.0, y.1)
+kind_right : (a b : Bool) (ts : List Test) → failure (test TypeMismatch a ∷ test InsufficientRights b ∷ ts) ≡ Ok tt → (a ≡ true) × (b ≡ true) × (failure ts ≡ Ok tt)
+kind_right a b ts h = let x = passed_test TypeMismatch a _ h in let y = passed_test InsufficientRights b ts x.1 in (x.0, y.0, y.1)
 
 -- a type of a procedure with bound y, as the rules read it, and as a frame with set z does
 module _ (y : Bound) (z : Rights) (good : Good y z) where
@@ -113,27 +113,27 @@ module _ (y : Bound) (z : Rights) (good : Good y z) where
   abbrev framed : Qual → Qual
   framed q = read (instance y z) q
 
-  moved : (s d : Qual) → failure (moves (ruled s) (ruled d)) ≡ 0 → Moves (framed s) (framed d)
+  moved : (s d : Qual) → failure (moves (ruled s) (ruled d)) ≡ Ok tt → Moves (framed s) (framed d)
   unfolding moves
   moved s d h =
       let x = kind_right (alike (ruled s) (ruled d)) (covers (ruled s) (ruled d)) [] h in
       moves_read y z good s d x.0 x.1
 
-  one_fact : (a : Qual) → failure (integer_rule (ruled a)) ≡ 0 → is_integer (framed a) ≡ true
+  one_fact : (a : Qual) → failure (integer_rule (ruled a)) ≡ Ok tt → is_integer (framed a) ≡ true
   unfolding integer_rule
-  one_fact a h = integer_read y z a (passed_test type_mismatch (is_integer (ruled a)) _ h).0
+  one_fact a h = integer_read y z a (passed_test TypeMismatch (is_integer (ruled a)) _ h).0
 
   three_fact :
-      (a b c : Qual) → failure (integers_rule (ruled a) (ruled b) (ruled c)) ≡ 0 →
+      (a b c : Qual) → failure (integers_rule (ruled a) (ruled b) (ruled c)) ≡ Ok tt →
       (is_integer (framed a) ≡ true) × (is_integer (framed b) ≡ true) × (is_integer (framed c) ≡ true)
   unfolding integers_rule
   three_fact a b c h =
-      let x = both_true (is_integer (ruled a) && is_integer (ruled b)) (is_integer (ruled c)) (passed_test type_mismatch _ _ h).0 in
+      let x = both_true (is_integer (ruled a) && is_integer (ruled b)) (is_integer (ruled c)) (passed_test TypeMismatch _ _ h).0 in
       let w = both_true (is_integer (ruled a)) (is_integer (ruled b)) x.0 in
       (integer_read y z a w.0, integer_read y z b w.1, integer_read y z c x.1)
 
   array_fact :
-      (a b : Qual) → failure (new_array_rule (ruled a) (ruled b)) ≡ 0 →
+      (a b : Qual) → failure (new_array_rule (ruled a) (ruled b)) ≡ Ok tt →
       (is_integer (framed b) ≡ true) × (is_array (framed a) ≡ true) × (within (rights (framed a)) array_rights ≡ true)
   unfolding new_array_rule
   array_fact a b h =
@@ -142,7 +142,7 @@ module _ (y : Bound) (z : Rights) (good : Good y z) where
       (integer_read y z b w.0, array_read y z a w.1, rw (array_rights_read y z a w.1) at x.1)
 
   fetch_fact :
-      (a b c : Qual) → failure (fetch_rule (ruled a) (ruled b) (ruled c)) ≡ 0 →
+      (a b c : Qual) → failure (fetch_rule (ruled a) (ruled b) (ruled c)) ≡ Ok tt →
       (is_array (framed b) ≡ true) × (is_integer (framed c) ≡ true) × (has fetch_right (rights (framed b)) ≡ true) ×
       Moves (element (framed b)) (framed a)
   unfolding fetch_rule
@@ -153,7 +153,7 @@ module _ (y : Bound) (z : Rights) (good : Good y z) where
       (array_read y z b w.0, integer_read y z c w.1, rw (array_rights_read y z b w.0) at x.1, rw e.1 (moved (element b) a (rw e.0 at x.2)))
 
   store_fact :
-      (a b c : Qual) → failure (store_rule (ruled a) (ruled b) (ruled c)) ≡ 0 →
+      (a b c : Qual) → failure (store_rule (ruled a) (ruled b) (ruled c)) ≡ Ok tt →
       (is_array (framed a) ≡ true) × (is_integer (framed b) ≡ true) × (has store_right (rights (framed a)) ≡ true) ×
       Moves (framed c) (element (framed a))
   unfolding store_rule
@@ -164,7 +164,7 @@ module _ (y : Bound) (z : Rights) (good : Good y z) where
       (array_read y z a w.0, integer_read y z b w.1, rw (array_rights_read y z a w.0) at x.1, rw e.1 (moved c (element a) (rw e.0 at x.2)))
 
   size_fact :
-      (a b : Qual) → failure (size_rule (ruled a) (ruled b)) ≡ 0 →
+      (a b : Qual) → failure (size_rule (ruled a) (ruled b)) ≡ Ok tt →
       (is_array (framed b) ≡ true) × (has size_right (rights (framed b)) ≡ true) × (is_integer (framed a) ≡ true)
   unfolding size_rule
   size_fact a b h =
@@ -178,7 +178,7 @@ module _ (y : Bound) (z : Rights) (good : Good y z) where
       record { there = leb-true 2 o x.0; base_is = sym (base_read y z q) ∙ eqb-true (base (ruled q)) o x.1 }
 
   record_fact :
-      (o n : ℕ) (a : Qual) → failure (new_record_rule o n (ruled a)) ≡ 0 →
+      (o n : ℕ) (a : Qual) → failure (new_record_rule o n (ruled a)) ≡ Ok tt →
       Owned o (framed a) × (within (rights (framed a)) (record_rights n) ≡ true)
   unfolding new_record_rule
   record_fact o n a h =
@@ -187,7 +187,7 @@ module _ (y : Bound) (z : Rights) (good : Good y z) where
       (owned o a x.0, rw (rights_read y z a (not-true (is_generic (ruled a)) w.0)) at (within_all n (rights (ruled a)) w.1))
 
   get_fact :
-      (o : ℕ) (a b slot : Qual) → has open_right (least y) ≡ false → uses slot ≡ false → failure (get_slot_rule o (ruled a) (ruled b) (ruled slot)) ≡ 0 →
+      (o : ℕ) (a b slot : Qual) → has open_right (least y) ≡ false → uses slot ≡ false → failure (get_slot_rule o (ruled a) (ruled b) (ruled slot)) ≡ Ok tt →
       Owned o (framed b) × (has open_right (rights (framed b)) ≡ true) × Moves slot (framed a)
   unfolding get_slot_rule
   get_fact o a b slot k u h =
@@ -195,7 +195,7 @@ module _ (y : Bound) (z : Rights) (good : Good y z) where
       (owned o b x.0, open_read y z k b x.1, rw (no_use (instance y z) slot u) at (moved slot a x.2))
 
   set_fact :
-      (o : ℕ) (a b slot : Qual) → has open_right (least y) ≡ false → uses slot ≡ false → failure (set_slot_rule o (ruled a) (ruled b) (ruled slot)) ≡ 0 →
+      (o : ℕ) (a b slot : Qual) → has open_right (least y) ≡ false → uses slot ≡ false → failure (set_slot_rule o (ruled a) (ruled b) (ruled slot)) ≡ Ok tt →
       Owned o (framed a) × (has open_right (rights (framed a)) ≡ true) × Moves (framed b) slot × (framed slot ≡ slot)
   unfolding set_slot_rule
   set_fact o a b slot k u h =
@@ -204,13 +204,13 @@ module _ (y : Bound) (z : Rights) (good : Good y z) where
       (owned o a x.0, open_read y z k a x.1, rw e at (moved b slot x.2), e)
 
   return_fact :
-      (inner : ℕ → Qual) (a : Option ℕ) (r : Option Qual) → failure (return_rule (optional_variable (λ x. ruled (inner x)) a) (read_result (own y) r)) ≡ 0 →
+      (inner : ℕ → Qual) (a : Option ℕ) (r : Option Qual) → failure (return_rule (optional_variable (λ x. ruled (inner x)) a) (read_result (own y) r)) ≡ Ok tt →
       Returned (λ x. framed (inner x)) a (read_result (instance y z) r)
   unfolding return_rule optional_variable read_result
   return_fact inner none none h = tt
   return_fact inner (some a) (some r) h = moved (inner a) r h
-  return_fact inner none (some r) h = false≢true (passed_test type_mismatch false [] h).0
-  return_fact inner (some a) none h = false≢true (passed_test type_mismatch false [] h).0
+  return_fact inner none (some r) h = false≢true (passed_test TypeMismatch false [] h).0
+  return_fact inner (some a) none h = false≢true (passed_test TypeMismatch false [] h).0
 
 -- a call of procedure k with variables from b on, from a frame of procedure p
 module _ (g : Program) (p k : ℕ) (z : Rights) (good : Good (g.bound p) z) (b : ℕ) where
@@ -232,15 +232,15 @@ module _ (g : Program) (p k : ℕ) (z : Rights) (good : Good (g.bound p) z) (b :
   unfolding typed
   passed_framed = call_frame (g.bound p) z good (g.bound k) (g.formals k) (g.need k) (λ j. g.inner p (b + j))
 
-  into_called : (q d : Qual) → failure (moves (read (own (g.bound p)) q) (passed d)) ≡ 0 → Moves (read (instance (g.bound p) z) q) (read opened d)
+  into_called : (q d : Qual) → failure (moves (read (own (g.bound p)) q) (passed d)) ≡ Ok tt → Moves (read (instance (g.bound p) z) q) (read opened d)
   into_called q d h = rw (← passed_framed d) (moved (g.bound p) z good q (passed d) (rw (passed_ruled d) h))
 
-  from_called : (q d : Qual) → failure (moves (passed q) (read (own (g.bound p)) d)) ≡ 0 → Moves (read opened q) (read (instance (g.bound p) z) d)
+  from_called : (q d : Qual) → failure (moves (passed q) (read (own (g.bound p)) d)) ≡ Ok tt → Moves (read opened q) (read (instance (g.bound p) z) d)
   from_called q d h = rw (← passed_framed q) (moved (g.bound p) z good (passed q) d (rw (passed_ruled q) h))
 
   kept_fact :
       (a : Option ℕ) (r : Option Qual) → keeps (optional_variable (typed g p) a) (read_result (own (g.bound k)) r) ≡ true →
-      failure (kept_rule (optional_variable (typed g p) a) (read_result settled_to (read_result (own (g.bound k)) r))) ≡ 0 →
+      failure (kept_rule (optional_variable (typed g p) a) (read_result settled_to (read_result (own (g.bound k)) r))) ≡ Ok tt →
       Kept (typed_in g p z) a (read_result opened r)
   unfolding keeps kept_rule optional_variable read_result typed
   kept_fact none none h m = tt
@@ -248,31 +248,31 @@ module _ (g : Program) (p k : ℕ) (z : Rights) (good : Good (g.bound p) z) (b :
   kept_fact (some a) none h m = false≢true h
   kept_fact (some a) (some r) h m = from_called r (g.inner p a) m
 
-  call_fact : has open_right (least (g.bound k)) ≡ false → (a : ℕ) → failure (call_rule (typed g p) (called g k) a b) ≡ 0 → Called g (typed_in g p z) a b k
+  call_fact : has open_right (least (g.bound k)) ≡ false → (a : ℕ) → failure (call_rule (typed g p) (called g k) a b) ≡ Ok tt → Called g (typed_in g p z) a b k
   unfolding call_rule settling_rule passing_rule typed
   call_fact c a h =
       let found = found_by (typed g p) (called g k) b in
       let actual : ℕ → List Test = λ j. moves (typed g p (b + j)) (passed (g.need k j)) in
       let result = read_result (own (g.bound k)) (g.result k) in
       let kept = kept_rule (optional_variable (typed g p) (optional a)) (read_result settled_to result) in
-      let x = passed_test unsettled (is_settled (g.bound k) (some_uses (called g k).need 0 (g.formals k)) found) _ h in
-      let y = passed_test short_set (is_enough (g.bound k) found) _ x.1 in
-      let w = passed_test type_mismatch (keeps (optional_variable (typed g p) (optional a)) result) _ y.1 in
+      let x = passed_test Unsettled (is_settled (g.bound k) (some_uses (called g k).need 0 (g.formals k)) found) _ h in
+      let y = passed_test ShortSet (is_enough (g.bound k) found) _ x.1 in
+      let w = passed_test TypeMismatch (keeps (optional_variable (typed g p) (optional a)) result) _ y.1 in
       let v = sym (failure_append (span actual 0 (g.formals k)) kept) ∙ w.1 in
       let enough = is_enough_frame (g.bound p) z good (g.bound k) (g.formals k) (g.need k) (λ j. g.inner p (b + j)) y.0 in
       record {
         settles = is_settled_frame (g.bound p) z good (g.bound k) (g.formals k) (g.need k) (λ j. g.inner p (b + j)) _ x.0;
         enough = enough;
         good = good_called (g.bound p) z good (g.bound k) (g.formals k) (g.need k) (λ j. g.inner p (b + j)) c enough;
-        actuals = λ j l. into_called (g.inner p (b + j)) (g.need k j) (rw zero-add at (passed_span actual (g.formals k) 0 (first_left _ (failure kept) v) j l));
-        kept = kept_fact (optional a) (g.result k) w.0 (first_right (failure (span actual 0 (g.formals k))) _ v);
+        actuals = λ j l. into_called (g.inner p (b + j)) (g.need k j) (rw zero-add at (passed_span actual (g.formals k) 0 (accepted_left _ (failure kept) v) j l));
+        kept = kept_fact (optional a) (g.result k) w.0 (accepted_right (failure (span actual 0 (g.formals k))) _ v);
       }
 
 module _ (g : Program) (f : Formed g) (p i : ℕ) (lp : p < g.procedures) (z : Rights) (good : Good (g.bound p) z) where
   shut : has open_right (least (g.bound p)) ≡ false
   shut = f.bound_closed p lp
 
-  rule_fact : (op : Operation) → FormedAt g p i op → failure (rule g p op) ≡ 0 → Allowed g p z op
+  rule_fact : (op : Operation) → FormedAt g p i op → failure (rule g p op) ≡ Ok tt → Allowed g p z op
   unfolding rule typed typed_slot
   rule_fact (Set a k) l h = one_fact (g.bound p) z good (g.inner p a) h
   rule_fact (Add a b c) l h = three_fact (g.bound p) z good (g.inner p a) (g.inner p b) (g.inner p c) h
@@ -316,24 +316,24 @@ inner_fact o inner h k = go (amplifies o inner) h
     go false x = absurd (false≢true (sym (closed_fact inner x) ∙ k))
 
 -- rules 6 and 7 of a variable: 7 for a formal alone
-formal_fact : (o : ℕ) (need inner : Qual) → failure (formal_rule o need inner) ≡ 0 → (closed need ≡ true) × ((amplifies o inner || closed inner) ≡ true) × (agrees o need inner ≡ true)
+formal_fact : (o : ℕ) (need inner : Qual) → failure (formal_rule o need inner) ≡ Ok tt → (closed need ≡ true) × ((amplifies o inner || closed inner) ≡ true) × (agrees o need inner ≡ true)
 unfolding formal_rule
 formal_fact o need inner h =
-    let x = passed_test open_exposed (closed need && (amplifies o inner || closed inner)) _ h in
+    let x = passed_test OpenExposed (closed need && (amplifies o inner || closed inner)) _ h in
     let y = both_true (closed need) (amplifies o inner || closed inner) x.0 in
-    (y.0, y.1, (passed_test false_raise (agrees o need inner) [] x.1).0)
+    (y.0, y.1, (passed_test FalseRaise (agrees o need inner) [] x.1).0)
 
-declared_formal : (o f x : ℕ) (need inner : Qual) → failure (declaration_rule o f x need inner) ≡ 0 → x < f → failure (formal_rule o need inner) ≡ 0
+declared_formal : (o f x : ℕ) (need inner : Qual) → failure (declaration_rule o f x need inner) ≡ Ok tt → x < f → failure (formal_rule o need inner) ≡ Ok tt
 unfolding declaration_rule
 declared_formal o f x need inner h l = rw (lt-ltb x f l) at h
 
-open_fact : (o f x : ℕ) (need inner : Qual) → failure (declaration_rule o f x need inner) ≡ 0 → (amplifies o inner || closed inner) ≡ true
+open_fact : (o f x : ℕ) (need inner : Qual) → failure (declaration_rule o f x need inner) ≡ Ok tt → (amplifies o inner || closed inner) ≡ true
 unfolding declaration_rule local_rule
 open_fact o f x need inner h = go (ltb x f) h
   where
-    go : (b : Bool) → failure (cond b (formal_rule o need inner) (local_rule o inner)) ≡ 0 → (amplifies o inner || closed inner) ≡ true
+    go : (b : Bool) → failure (cond b (formal_rule o need inner) (local_rule o inner)) ≡ Ok tt → (amplifies o inner || closed inner) ≡ true
     go true z = (formal_fact o need inner z).1
-    go false z = (passed_test open_exposed (amplifies o inner || closed inner) [] z).0
+    go false z = (passed_test OpenExposed (amplifies o inner || closed inner) [] z).0
 
 result_fact : (r : Option Qual) (q : Qual) → closed_result r ≡ true → r ≡ some q → Closed q
 unfolding closed_result
@@ -359,8 +359,8 @@ split xs ys h =
 at_each : (f : ℕ → List Tests) (n : ℕ) → verdict (span f 0 n) ≡ Accepted → (k : ℕ) → k < n → verdict (f k) ≡ Accepted
 at_each f n h k l = rw zero-add at (accepted_span f n 0 h k l)
 
-one_test : (at : ℕ) (b : Bool) → verdict (tests at (test open_exposed b ∷ []) ∷ []) ≡ Accepted → b ≡ true
-one_test at b h = (passed_test open_exposed b [] (accepted_tests at _ h)).0
+one_test : (at : ℕ) (b : Bool) → verdict (tests at (test OpenExposed b ∷ []) ∷ []) ≡ Accepted → b ≡ true
+one_test at b h = (passed_test OpenExposed b [] (accepted_tests at _ h)).0
 
 pub facts : (at : Record → ℕ) (g : Program) → Formed g → verdict (access_rules at g) ≡ Accepted → Facts g
 unfolding access_rules procedure_rules head_rules instruction_rules variable_rules variable_rule qual_rules type_rules closed_rule
@@ -375,8 +375,8 @@ facts at g f h =
       result_closed = λ p q hp e. result_fact (g.result p) q (one_test (at (procedure_record p)) _ (parts p hp).0) e;
       element_closed = λ j hj. closed_fact (element (g.qual j)) (one_test (at (qual_record j)) _ (at_each (qual_rules at g) g.quals rest.0 j hj));
       slot_closed = λ t k ht hk.
-          let z : failure (closed_rule (g.slot (2 + t) k)) ≡ 0 = rw zero-add at (passed_span (λ (k : ℕ). closed_rule (g.slot (2 + t) k)) (g.slots (2 + t)) 0 (slots t ht) k hk) in
-          closed_fact (g.slot (2 + t) k) (passed_test open_exposed (closed (g.slot (2 + t) k)) [] z).0;
+          let z : failure (closed_rule (g.slot (2 + t) k)) ≡ Ok tt = rw zero-add at (passed_span (λ (k : ℕ). closed_rule (g.slot (2 + t) k)) (g.slots (2 + t)) 0 (slots t ht) k hk) in
+          closed_fact (g.slot (2 + t) k) (passed_test OpenExposed (closed (g.slot (2 + t) k)) [] z).0;
     }
   where
     whole :
@@ -387,7 +387,7 @@ facts at g f h =
     rest : (verdict (span (qual_rules at g) 0 g.quals) ≡ Accepted) × (verdict (span (procedure_rules at g) 0 g.procedures) ≡ Accepted)
     rest = split (span (qual_rules at g) 0 g.quals) _ whole.1
 
-    slots : (t : ℕ) → t < g.types → failure (span (λ (k : ℕ). closed_rule (g.slot (2 + t) k)) 0 (g.slots (2 + t))) ≡ 0
+    slots : (t : ℕ) → t < g.types → failure (span (λ (k : ℕ). closed_rule (g.slot (2 + t) k)) 0 (g.slots (2 + t))) ≡ Ok tt
     slots t ht = accepted_tests (at (type_record (2 + t))) _ (at_each (type_rules at g) g.types whole.0 t ht)
 
     parts :
@@ -401,7 +401,7 @@ facts at g f h =
         (verdict (span (variable_rules at g p) 0 (g.variables p)) ≡ Accepted) × (verdict (span (instruction_rules at g p) 0 (g.instructions p)) ≡ Accepted)
     body p hp = split (span (variable_rules at g p) 0 (g.variables p)) _ (parts p hp).1
 
-    declaration : (p x : ℕ) → p < g.procedures → x < g.variables p → failure (declaration_rule (g.owner p) (g.formals p) x (g.need p x) (g.inner p x)) ≡ 0
+    declaration : (p x : ℕ) → p < g.procedures → x < g.variables p → failure (declaration_rule (g.owner p) (g.formals p) x (g.need p x) (g.inner p x)) ≡ Ok tt
     declaration p x hp hx = accepted_tests (at (variable_record p x)) _ (at_each (variable_rules at g p) (g.variables p) (body p hp).0 x hx)
 
     formal_part :

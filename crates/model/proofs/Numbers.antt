@@ -2,7 +2,7 @@
 use Prim.Native.Nat.{ℕ, zero, suc, ◌+◌, ◌≤◌}
 use mathlib.Core.Path.{◌≡◌, refl}
 use mathlib.Core.Bool.{Bool, true, false, ◌&&◌, ◌||◌, cond}
-use mathlib.Core.Logic.{◌⊎◌, inl, inr, ⊎_elim}
+use Rattle.std.specs.Prelude.{Result, Ok, Err}
 use mathlib.Core.List.{List, [], ◌∷◌, ◌++◌}
 use mathlib.Core.Option.{Option, none, some}
 use native.Mathlib.Omega.{arith}
@@ -11,9 +11,8 @@ use borrow.Author.Tests.{leb-true, le-leb}
 use Rattle.model.specs.Qualified.{Qual}
 use Rattle.model.specs.Generic.{read}
 use Rattle.model.specs.Program.{Program, Record, type_record, variable_record, instruction_record}
-use Rattle.model.specs.Refusal.{refusal_number, between, Gives, Test, test, Tests, tests, failure, refuse, verdict, span, each}
+use Rattle.model.specs.Refusal.{Reason, Verdict, refusal_number, between, Gives, Test, test, Tests, tests, failure, refuse, verdict, span, each}
 use Rattle.model.specs.Rules.{moves, integer_rule, integers_rule, new_array_rule, new_record_rule, fetch_rule, store_rule, size_rule, get_slot_rule, set_slot_rule, return_rule, kept_rule, formal_rule, local_rule, declaration_rule, Callee, settling_rule, passing_rule, call_rule, closed_rule, typed, called, rule, type_rules, qual_rules, variable_rule, variable_rules, instruction_rules, head_rules, procedure_rules, access_rules}
-use Rattle.model.specs.declared.Verdict.{Verdict}
 use Rattle.model.specs.declared.Operation.{Operation}
 use Rattle.model.specs.declared.Operation.TheVariants.{Set, Add, Subtract, Less, JumpZero, Bind, Take, Put, NewArray, Fetch, Store, Size, NewRecord, GetSlot, SetSlot, Call, Return}
 use Rattle.model.proofs.Verdicts.{both_true}
@@ -28,9 +27,10 @@ module _ (number : ℕ → Bool) where
   all_in_range [] = true
   all_in_range (tests at ts ∷ more) = in_range ts && all_in_range more
 
-  -- 0 is no refusal
-  abbrev Ranged : ℕ → Type 0
-  Ranged n = (n ≡ 0) ⊎ (number n ≡ true)
+  -- what refuses does so with one of these numbers
+  abbrev Ranged : Result (Unit {0}) Reason → Type 0
+  Ranged (Ok u) = Unit {0}
+  Ranged (Err r) = number (refusal_number r) ≡ true
 
   joined : (a b : Bool) → a ≡ true → b ≡ true → a && b ≡ true
   joined a b p q = rw (p, q)
@@ -49,14 +49,14 @@ module _ (number : ℕ → Bool) where
 
   failure_range : (ts : List Test) → in_range ts ≡ true → Ranged (failure ts)
   unfolding failure
-  failure_range [] h = inl refl
+  failure_range [] h = tt
   failure_range (test r b ∷ ts) h =
       let z = both_true (number (refusal_number r)) (in_range ts) h in
       go b (failure_range ts z.1) z.0
     where
-      go : (c : Bool) → Ranged (failure ts) → number (refusal_number r) ≡ true → Ranged (cond c (failure ts) (refusal_number r))
+      go : (c : Bool) → Ranged (failure ts) → number (refusal_number r) ≡ true → Ranged (cond c (failure ts) (Err r))
       go true x y = x
-      go false x y = inr y
+      go false x y = y
 
   -- ---- lists of records
   pub all_append : (xs ys : List Tests) → all_in_range xs ≡ true → all_in_range ys ≡ true → all_in_range (xs ++ ys) ≡ true
@@ -77,10 +77,10 @@ module _ (number : ℕ → Bool) where
   pub all_one : (at : ℕ) (ts : List Test) → in_range ts ≡ true → all_in_range (tests at ts ∷ []) ≡ true
   all_one at ts h = joined (in_range ts) true h refl
 
-  refuse_range : (n at : ℕ) (v : Verdict) → Ranged n → Gives number v → Gives number (refuse n at v)
+  refuse_range : (f : Result (Unit {0}) Reason) (at : ℕ) (v : Verdict) → Ranged f → Gives number v → Gives number (refuse f at v)
   unfolding refuse
-  refuse_range zero at v p q = q
-  refuse_range (suc n) at v p q = ⊎_elim (λ z. absurd (omega arith)) (λ y. y) p
+  refuse_range (Ok u) at v p q = q
+  refuse_range (Err r) at v p q = p
 
   pub verdict_range : (xs : List Tests) → all_in_range xs ≡ true → Gives number (verdict xs)
   unfolding verdict

@@ -10,9 +10,8 @@ use Rattle.model.specs.Rights.{Rights, has, open_right}
 use Rattle.model.specs.Qualified.{Qual, integer, array, declared, generic, rights, element}
 use Rattle.model.specs.Generic.{Bound, instance, read}
 use Rattle.model.specs.Program.{Program, Record}
-use Rattle.model.specs.Refusal.{verdict}
+use Rattle.model.specs.Refusal.{Accepted, verdict}
 use Rattle.model.specs.Rules.{access_rules}
-use Rattle.model.specs.declared.Verdict.TheVariants.{Accepted}
 use Rattle.model.specs.declared.Operation.{Operation}
 use Rattle.model.specs.Modes.{plain, watched}
 use Rattle.model.specs.Machine.{Cell, empty, Object, cells_of, State, Head}

@@ -6,7 +6,8 @@ use lib.Dec.{eqb}
 use borrow.Author.Tests.{eqb-true, eq-eqb}
 use Rattle.model.specs.Rights.{Rights, within, has, store_right}
 use Rattle.model.specs.Qualified.{Qual, integer, array, declared, generic, rights, is_generic, same, alike, covers, order, elements}
-use Rattle.model.specs.Refusal.{refusal_number, type_mismatch, insufficient_rights, failure}
+use Rattle.std.specs.Prelude.{Ok, Err, is_ok}
+use Rattle.model.specs.Refusal.{TypeMismatch, InsufficientRights, failure}
 use Rattle.model.specs.Rules.{moves}
 use Rattle.model.proofs.Verdicts.{both_true}
 use Rattle.model.proofs.Rights.{within_refl, within_trans, within_has}
@@ -182,11 +183,11 @@ pub elements_trans :
 elements_trans p t e f g i h k = chain p t e f g i (order_trans e f g) h k
 
 -- "Each movement needs source ≥ destination": nothing refuses it exactly if that holds
-pub moves_order : (s d : Qual) → eqb (failure (moves s d)) 0 ≡ order s d
+pub moves_order : (s d : Qual) → is_ok (failure (moves s d)) ≡ order s d
 unfolding moves failure order
 moves_order s d = go (alike s d) (covers s d)
   where
-    go : (a b : Bool) → eqb (cond a (cond b 0 (refusal_number insufficient_rights)) (refusal_number type_mismatch)) 0 ≡ a && b
+    go : (a b : Bool) → is_ok {T = Unit {0}} (cond a (cond b (Ok tt) (Err InsufficientRights)) (Err TypeMismatch)) ≡ a && b
     go true true = refl
     go true false = refl
     go false b = refl

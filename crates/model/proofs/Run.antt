@@ -8,9 +8,8 @@ use lib.ListN.{length, length-replicate}
 use Rattle.model.specs.Rights.{within, has}
 use Rattle.model.specs.Generic.{Bound, least}
 use Rattle.model.specs.Program.{Program, Record}
-use Rattle.model.specs.Refusal.{verdict}
+use Rattle.model.specs.Refusal.{Accepted, verdict}
 use Rattle.model.specs.Rules.{access_rules}
-use Rattle.model.specs.declared.Verdict.TheVariants.{Accepted}
 use Rattle.model.specs.Outcome.{Stop, done, fuel_spent, memory_full, Res}
 use Rattle.model.specs.Modes.{plain, watched}
 use Rattle.model.specs.Machine.{empty, Object, State, Next}

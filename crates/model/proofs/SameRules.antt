@@ -5,15 +5,15 @@ use mathlib.Core.Bool.{Bool, true, false, cond}
 use mathlib.Core.List.{List, [], ◌∷◌, ◌++◌}
 use mathlib.Core.Option.{Option, none, some}
 use native.Mathlib.Omega.{arith}
+use Rattle.std.specs.Prelude.{Result, Ok, Err}
 use lib.Dec.{ltb}
 use borrow.Author.Tests.{ltb-true}
 use Rattle.model.specs.Program.{Program, Record, type_record, qual_record, procedure_record, variable_record, instruction_record}
 use Rattle.model.specs.Qualified.{Qual, element}
 use Rattle.model.specs.Generic.{own, read}
-use Rattle.model.specs.Refusal.{open_exposed, Test, test, Tests, tests, refuse, verdict, span, each}
+use Rattle.model.specs.Refusal.{Reason, Verdict, OpenExposed, Test, test, Tests, tests, refuse, verdict, span, each}
 use Rattle.model.specs.Rules.{optional, moves, closed_result, formal_rule, local_rule, declaration_rule, optional_variable, settling_rule, passing_rule, call_rule, closed_rule, typed, typed_slot, called, rule, type_rules, qual_rules, variable_rule, variable_rules, instruction_rules, head_rules, procedure_rules, access_rules}
 use Rattle.model.specs.Same.{Same, SameQuals, Alike, both_accepted, at_record}
-use Rattle.model.specs.declared.Verdict.{Verdict}
 use Rattle.model.specs.declared.Operation.{Operation}
 use Rattle.model.specs.declared.Operation.TheVariants.{Set, Add, Subtract, Less, JumpZero, Bind, Take, Put, NewArray, Fetch, Store, Size, NewRecord, GetSlot, SetSlot, Call, Return}
 use Rattle.model.proofs.Formed.{Formed, FormedAt, Operands, OperandsAt, BelowOrNone}
@@ -27,10 +27,10 @@ module _ (at at' : Record → ℕ) where
     no_more : Matched [] []
     matched : (r : Record) {ts ts' : List Test} {more more' : List Tests} → ts ≡ ts' → Matched more more' → Matched (tests (at r) ts ∷ more) (tests (at' r) ts' ∷ more')
 
-  refuse_alike : (n : ℕ) (r : Record) {v v' : Verdict} → Alike at at' v v' → Alike at at' (refuse n (at r) v) (refuse n (at' r) v')
+  refuse_alike : (f : Result (Unit {0}) Reason) (r : Record) {v v' : Verdict} → Alike at at' v v' → Alike at at' (refuse f (at r) v) (refuse f (at' r) v')
   unfolding refuse
-  refuse_alike zero r a = a
-  refuse_alike (suc n) r a = at_record (suc n) r
+  refuse_alike (Ok u) r a = a
+  refuse_alike (Err n) r a = at_record n r
 
   verdict_alike : {xs xs' : List Tests} → Matched xs xs' → Alike at at' (verdict xs) (verdict xs')
   unfolding verdict
@@ -124,7 +124,7 @@ module _ {g h : Program} (formed : Formed g) (operands : Operands g) (same : Sam
     unfolding procedure_rules head_rules variable_rules instruction_rules
     same_procedure p l =
         matched_append at at'
-        (matched (procedure_record p) (ap (λ r. test open_exposed (closed_result r) ∷ []) (same.result p l)) no_more)
+        (matched (procedure_record p) (ap (λ r. test OpenExposed (closed_result r) ∷ []) (same.result p l)) no_more)
         (matched_append at at'
         (matched_each at at' (same.variables p l) (λ x n. matched (variable_record p x) (same_variable p l x n) no_more))
         (matched_each at at' (same.instructions p l) (λ i n. matched (instruction_record p i) (same_instruction p l i n) no_more)))

@@ -8,6 +8,7 @@ pub mod Rules
 pub mod Outcome
 pub mod Modes
 pub mod Machine
+pub mod Arithmetic
 pub mod Run
 pub mod Inside
 pub mod Same

@@ -1,6 +1,8 @@
 -- What a step of a machine comes to: a value, one of document 01's stops, or stuck.
 use Rattle.std.specs.Prelude.{ℕ, Bool, true, false}
 use Rattle.std.proofs.Math.Option.{Option, none, some}
+use Rattle.model.specs.declared.Halt.{Halt}
+use Rattle.model.specs.declared.Halt.TheVariants.{Blank, PastEnd, InputEnded, OutputFull, MemoryFull, WrongKind, MissingRight}
 
 pub data Stop : Type 0 where
   done fuel_spent blank past_end input_ended output_full memory_full wrong_kind missing_right : Stop
@@ -16,6 +18,16 @@ stop_number output_full = 16
 stop_number memory_full = 17
 stop_number wrong_kind = 18
 stop_number missing_right = 19
+
+-- the stop of a step that the code names; all but done and fuel spent
+abbrev pub stop_of : Halt → Stop
+stop_of Blank = blank
+stop_of PastEnd = past_end
+stop_of InputEnded = input_ended
+stop_of OutputFull = output_full
+stop_of MemoryFull = memory_full
+stop_of WrongKind = wrong_kind
+stop_of MissingRight = missing_right
 
 pub data Res (A : Type 0) : Type 0 where
   ok : A → Res A

@@ -5,7 +5,7 @@ use Rattle.model.specs.Rights.{within, has, none_above, open_right, fetch_right,
 use Rattle.model.specs.Qualified.{Qual, integer, array, declared, generic, base, rights, element, is_integer, is_array, is_generic, same, alike, covers}
 use Rattle.model.specs.Generic.{Bound, own, read, read_result, settlings, settled, some_uses, is_settled, is_enough}
 use Rattle.model.specs.Program.{Program, Record, type_record, qual_record, procedure_record, variable_record, instruction_record}
-use Rattle.model.specs.Refusal.{open_exposed, false_raise, type_mismatch, insufficient_rights, unsettled, short_set, Test, test, Tests, tests, each}
+use Rattle.model.specs.Refusal.{OpenExposed, FalseRaise, TypeMismatch, InsufficientRights, Unsettled, ShortSet, Test, test, Tests, tests, each}
 use Rattle.model.specs.declared.Operation.{Operation}
 use Rattle.model.specs.declared.Operation.TheVariants.{Set, Add, Subtract, Less, JumpZero, Bind, Take, Put, NewArray, Fetch, Store, Size, NewRecord, GetSlot, SetSlot, Call, Return}
 
@@ -15,7 +15,7 @@ optional a = cond (eqb a 255) none (some a)
 
 -- "Each movement needs source ≥ destination" (8 before 9 within each)
 unfoldable pub moves : (source destination : Qual) → List Test
-moves s d = test type_mismatch (alike s d) ∷ test insufficient_rights (covers s d) ∷ []
+moves s d = test TypeMismatch (alike s d) ∷ test InsufficientRights (covers s d) ∷ []
 
 -- a qualified type is of the owner's type; owner 0 is none. ?R, as it is read, has the base of its bound
 unfoldable pub owned_by : (owner : ℕ) → Qual → Bool
@@ -25,47 +25,47 @@ owned_by o q = leb 2 o && eqb (base q) o
 
 -- "Arithmetic, jumps, sizes, indexes, take and put use integer variables"
 unfoldable pub integer_rule : Qual → List Test
-integer_rule a = test type_mismatch (is_integer a) ∷ []
+integer_rule a = test TypeMismatch (is_integer a) ∷ []
 
 unfoldable pub integers_rule : Qual → Qual → Qual → List Test
-integers_rule a b c = test type_mismatch (is_integer a && is_integer b && is_integer c) ∷ []
+integers_rule a b c = test TypeMismatch (is_integer a && is_integer b && is_integer c) ∷ []
 
 -- "9 and 13 give all rights": the new value has a's own type and element, so that its movement into a asks that a's rights are among all; "nothing else
 -- reaches ?R"
 unfoldable pub new_array_rule : Qual → Qual → List Test
-new_array_rule a b = test type_mismatch (is_integer b && is_array a) ∷ test insufficient_rights (within (rights a) array_rights) ∷ []
+new_array_rule a b = test TypeMismatch (is_integer b && is_array a) ∷ test InsufficientRights (within (rights a) array_rights) ∷ []
 
 unfoldable pub new_record_rule : (owner named : ℕ) → Qual → List Test
-new_record_rule o n a = test type_mismatch (owned_by o a) ∷ test insufficient_rights (not (is_generic a) && none_above n (rights a)) ∷ []
+new_record_rule o n a = test TypeMismatch (owned_by o a) ∷ test InsufficientRights (not (is_generic a) && none_above n (rights a)) ∷ []
 
 -- "Codes 10, 11, 12 need fetch, store, size on the tray"
 unfoldable pub fetch_rule : Qual → Qual → Qual → List Test
 fetch_rule a b c =
-    test type_mismatch (is_array b && is_integer c) ∷ test insufficient_rights (has fetch_right (rights b)) ∷ moves (element b) a
+    test TypeMismatch (is_array b && is_integer c) ∷ test InsufficientRights (has fetch_right (rights b)) ∷ moves (element b) a
 
 unfoldable pub store_rule : Qual → Qual → Qual → List Test
 store_rule a b c =
-    test type_mismatch (is_array a && is_integer b) ∷ test insufficient_rights (has store_right (rights a)) ∷ moves c (element a)
+    test TypeMismatch (is_array a && is_integer b) ∷ test InsufficientRights (has store_right (rights a)) ∷ moves c (element a)
 
 -- "the size of 12 going into a is one" of the movements: it comes after the right
 unfoldable pub size_rule : Qual → Qual → List Test
-size_rule a b = test type_mismatch (is_array b) ∷ test insufficient_rights (has size_right (rights b)) ∷ integer_rule a
+size_rule a b = test TypeMismatch (is_array b) ∷ test InsufficientRights (has size_right (rights b)) ∷ integer_rule a
 
 -- "14 and 15 need open on a variable of the owner's type"
 unfoldable pub get_slot_rule : (owner : ℕ) → Qual → Qual → Qual → List Test
 get_slot_rule o a b slot =
-    test type_mismatch (owned_by o b) ∷ test insufficient_rights (has open_right (rights b)) ∷ moves slot a
+    test TypeMismatch (owned_by o b) ∷ test InsufficientRights (has open_right (rights b)) ∷ moves slot a
 
 unfoldable pub set_slot_rule : (owner : ℕ) → Qual → Qual → Qual → List Test
 set_slot_rule o a b slot =
-    test type_mismatch (owned_by o a) ∷ test insufficient_rights (has open_right (rights a)) ∷ moves b slot
+    test TypeMismatch (owned_by o a) ∷ test InsufficientRights (has open_right (rights a)) ∷ moves b slot
 
 -- "A return has a variable exactly if its PR has a result"
 unfoldable pub return_rule : Option Qual → Option Qual → List Test
 return_rule none none = []
 return_rule (some v) (some r) = moves v r
-return_rule none (some r) = test type_mismatch false ∷ []
-return_rule (some v) none = test type_mismatch false ∷ []
+return_rule none (some r) = test TypeMismatch false ∷ []
+return_rule (some v) none = test TypeMismatch false ∷ []
 
 -- "a call keeps one only then"; "a kept result last"
 unfoldable pub keeps : {A : Type 0} → Option A → Option Qual → Bool
@@ -100,10 +100,10 @@ agrees o need inner = cond (amplifies o inner) (amplifies o need) (same need inn
 
 unfoldable pub formal_rule : (owner : ℕ) → (need inner : Qual) → List Test
 formal_rule o need inner =
-    test open_exposed (closed need && (amplifies o inner || closed inner)) ∷ test false_raise (agrees o need inner) ∷ []
+    test OpenExposed (closed need && (amplifies o inner || closed inner)) ∷ test FalseRaise (agrees o need inner) ∷ []
 
 unfoldable pub local_rule : (owner : ℕ) → (inner : Qual) → List Test
-local_rule o inner = test open_exposed (amplifies o inner || closed inner) ∷ []
+local_rule o inner = test OpenExposed (amplifies o inner || closed inner) ∷ []
 
 unfoldable pub declaration_rule : (owner formals x : ℕ) → (need inner : Qual) → List Test
 declaration_rule o f x need inner = cond (ltb x f) (formal_rule o need inner) (local_rule o inner)
@@ -127,14 +127,14 @@ module _ (inner : ℕ → Qual) (c : Callee) (b : ℕ) where
   -- "both at the call, 20 first, before 8"
   unfoldable pub settling_rule : List Test
   settling_rule =
-      test unsettled (is_settled c.bound (some_uses c.need 0 c.formals) found_by)
-      ∷ test short_set (is_enough c.bound found_by)
+      test Unsettled (is_settled c.bound (some_uses c.need 0 c.formals) found_by)
+      ∷ test ShortSet (is_enough c.bound found_by)
       ∷ []
 
 -- a call with variables from b on, where ?R of the procedure called stands for ρ: "Need and result are then read with that set"; actual j moves to need j
 unfoldable pub passing_rule : (inner : ℕ → Qual) → Callee → (ρ : Qual) → (a b : ℕ) → List Test
 passing_rule inner c ρ a b =
-    test type_mismatch (keeps (optional_variable inner (optional a)) c.result)
+    test TypeMismatch (keeps (optional_variable inner (optional a)) c.result)
     ∷ (each c.formals (λ j. moves (inner (b + j)) (read ρ (c.need j))) ++ kept_rule (optional_variable inner (optional a)) (read_result ρ c.result))
 
 -- "Within an instruction: return form, kinds, tray or open right, then each movement in turn, actuals in order and a kept result last"
@@ -145,7 +145,7 @@ call_rule inner c a b = settling_rule inner c b ++ passing_rule inner c (settled
 
 -- "6 is given at the TY whose slot, the QT whose element, the PR whose result or the VR whose need or inner has it otherwise"
 unfoldable pub closed_rule : Qual → List Test
-closed_rule q = test open_exposed (closed q) ∷ []
+closed_rule q = test OpenExposed (closed q) ∷ []
 
 module _ (g : Program) where
   -- variable x of procedure p, which reads ?R with its own bound
@@ -204,7 +204,7 @@ module _ (at : Record → ℕ) (g : Program) where
   instruction_rules p i = tests (at (instruction_record p i)) (rule g p (g.operation p i)) ∷ []
 
   unfoldable pub head_rules : (p : ℕ) → List Tests
-  head_rules p = tests (at (procedure_record p)) (test open_exposed (closed_result (g.result p)) ∷ []) ∷ []
+  head_rules p = tests (at (procedure_record p)) (test OpenExposed (closed_result (g.result p)) ∷ []) ∷ []
 
   unfoldable pub procedure_rules : ℕ → List Tests
   procedure_rules p =

@@ -1,8 +1,7 @@
 -- Two programs that are equal wherever they have a number: no run and no verdict tells them apart (proofs: Same, SameRules).
 use Rattle.std.specs.Prelude.{ℕ, ◌+◌, ◌<◌, ◌≤◌, ◌≡◌}
 use Rattle.model.specs.Program.{Program, Record}
-use Rattle.model.specs.declared.Verdict.{Verdict}
-use Rattle.model.specs.declared.Verdict.TheVariants.{Accepted, Refused}
+use Rattle.model.specs.Refusal.{Reason, Verdict, Accepted, Refused}
 
 -- equal wherever g has a number; QT records are left out, for a variable is declared by a tree and not by its number
 pub record Same (g h : Program) : Type 0 where
@@ -26,7 +25,7 @@ pub record SameQuals (g h : Program) : Type 0 where
   pub quals : g.quals ≡ h.quals
   pub qual : (j : ℕ) → j < g.quals → g.qual j ≡ h.qual j
 
--- the same verdict but for the place: refused with the same number for the same record, wherever it starts
+-- the same verdict but for the place: refused for the same reason for the same record, wherever it starts
 pub data Alike (at at' : Record → ℕ) : Verdict → Verdict → Type 0 where
   both_accepted : Alike at at' Accepted Accepted
-  at_record : (n : ℕ) (r : Record) → Alike at at' (Refused n (at r)) (Refused n (at' r))
+  at_record : (n : Reason) (r : Record) → Alike at at' (Refused n (at r)) (Refused n (at' r))

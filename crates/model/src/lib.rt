@@ -1,11 +1,82 @@
 // The answers and the operations that every layer speaks of. Their meaning is in specs/.
 #![tactic(auto)]
 
-// What a check says: accepted, or the number of a refusal and the byte at which the refused record starts.
-#[derive(Clone, Copy)]
-pub enum Verdict {
-    Accepted,
-    Refused(u8, usize),
+pub mod arithmetic; // the three operations that make one integer of two
+
+ghost use Rattle.std.specs.Prelude.{◌≡◌, cond};
+ghost use Rattle.model.specs.Outcome.{stop_number, stop_of};
+ghost use Rattle.model.specs.Refusal.{refusal_number, refused_at};
+
+// Why a sheet is refused. Its number is the paper's.
+#[derive(Clone, Copy, Debug, PartialEq, Eq)]
+pub enum Reason {
+    Overlong = 1,
+    Torn = 2,
+    StrayMark = 3,
+    BadEdition = 4,
+    OffScale = 5,
+    OpenExposed = 6,
+    FalseRaise = 7,
+    TypeMismatch = 8,
+    InsufficientRights = 9,
+    BigMemory = 10,
+    Unsettled = 20,
+    ShortSet = 21,
+}
+
+impl Reason {
+    pub fn number(self) -> u8
+        ensures { result ≡ refusal_number self }
+    {
+        self as u8
+    }
+
+    // The refusal of the record that starts at a byte.
+    pub fn at(self, place: usize) -> Refusal
+        ensures { result ≡ refused_at self place }
+    {
+        Refusal {
+            reason: self,
+            place,
+        }
+    }
+}
+
+// A refusal, with the byte at which the refused record starts.
+#[derive(Clone, Copy, Debug, PartialEq, Eq)]
+pub struct Refusal {
+    pub reason: Reason,
+    pub place: usize,
+}
+
+// What a check says: accepted, or refused.
+pub type Verdict = Result<(), Refusal>;
+
+// An error where a test does not hold.
+pub fn require<E: Copy>(holds: bool, error: E) -> Result<(), E>
+    ensures { result ≡ cond holds (Ok tt) (Err error) }
+{
+    if holds { Ok(()) } else { Err(error) }
+}
+
+// Why a step stops a run. Its number is the paper's.
+#[derive(Clone, Copy, Debug, PartialEq, Eq)]
+pub enum Halt {
+    Blank = 13,
+    PastEnd = 14,
+    InputEnded = 15,
+    OutputFull = 16,
+    MemoryFull = 17,
+    WrongKind = 18,
+    MissingRight = 19,
+}
+
+impl Halt {
+    pub fn number(self) -> u8
+        ensures { result ≡ stop_number (stop_of self) }
+    {
+        self as u8
+    }
 }
 
 // One of seventeen kinds of work. a, b and c are variables, k a number; 255 as a variable is none.

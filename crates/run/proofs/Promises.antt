@@ -10,7 +10,7 @@ use lib.Dec.{leb}
 use lib.ListN.{length}
 use Rattle.model.specs.Modes.{Mode, plain, watched}
 use Rattle.model.specs.Outcome.{Stop, done, fuel_spent, blank, past_end, input_ended, output_full, memory_full, wrong_kind, missing_right, stop_number}
-use Rattle.model.specs.Refusal.{between, Gives, verdict, big_memory, refusal_number}
+use Rattle.model.specs.Refusal.{between, Gives, verdict, BigMemory, refusal_number}
 use Rattle.model.specs.Run.{End, stopped, stuck_at, run}
 use Rattle.model.specs.declared.Verdict.{Verdict}
 use Rattle.model.specs.declared.Verdict.TheVariants.{Accepted, Refused}
@@ -80,7 +80,7 @@ module _ (m : Mode) (sheet input : List ℕ) (fuel : ℕ) (memory output : List 
   says Accepted r t e = fit (memory_fits memory) refl
     where
       fit : (b : Bool) → memory_fits memory ≡ b
-          → Says P (cond b (ends memory output (end m sheet input fuel memory output)) (refuses memory output (refusal_number big_memory) 0))
+          → Says P (cond b (ends memory output (end m sheet input fuel memory output)) (refuses memory output (refusal_number BigMemory) 0))
       fit true h = e refl h
       fit false h = t
 

@@ -4,7 +4,7 @@ use Rattle.std.specs.Prelude.{ℕ, Bool, cond, List, leb, length, replicate}
 use Rattle.std.proofs.Math.Option.{Option, none, some}
 use Rattle.model.specs.Modes.{Mode, plain, watched}
 use Rattle.model.specs.Outcome.{stop_number}
-use Rattle.model.specs.Refusal.{big_memory, refusal_number}
+use Rattle.model.specs.Refusal.{BigMemory, refusal_number}
 use Rattle.model.specs.Run.{End, stopped, stuck_at, run, written}
 use Rattle.model.specs.declared.Verdict.{Verdict}
 use Rattle.model.specs.declared.Verdict.TheVariants.{Accepted, Refused}
@@ -56,7 +56,7 @@ module _ (m : Mode) (sheet input : List ℕ) (fuel : ℕ) (memory output : List 
 
   abbrev pub answer_by : Verdict → Option Answer
   answer_by (Refused n at) = refuses memory output n at
-  answer_by Accepted = cond (memory_fits memory) (ends memory output end) (refuses memory output (refusal_number big_memory) 0)
+  answer_by Accepted = cond (memory_fits memory) (ends memory output end) (refuses memory output (refusal_number BigMemory) 0)
 
   unfoldable pub answer : Option Answer
   answer = answer_by (verdict_before m sheet)

@@ -1,5 +1,5 @@
 // Bytes and words of a sheet. Every reading is total: past the end it is 0, so that no caller owes a bound.
-ghost use Rattle.std.specs.Prelude.{◌≡◌, ◌+◌};
+ghost use Rattle.std.specs.Prelude.{◌≡◌, ◌+◌, ◌≤◌, length};
 ghost use Rattle.sheet.specs.Bytes.{byte_at, word_at, whole_at, mark, marked_at};
 
 // Byte k of the record at a place.
@@ -21,9 +21,17 @@ pub fn word(s: &[u8], at: usize, k: u8) -> u16
     ensures { result ≡ word_at s.now at k }
 {
     let n = k as usize;
-    let low = byte(s, at, n) as u16;
-    let high = byte(s, at, n + 1) as u16;
+    let low = u16::from(byte(s, at, n));
+    let high = u16::from(byte(s, at, n + 1));
     low + 256 * high
+}
+
+// The same where both bytes stand, read with no test.
+pub fn word_whole(s: &[u8], at: usize, k: usize) -> u16
+    requires { at + k + 2 ≤ length s.now }
+    ensures { result ≡ word_at s.now at k }
+{
+    u16::from(s[at + k]) + 256 * u16::from(s[at + k + 1])
 }
 
 // Whether n bytes stand whole from a place.

@@ -17,13 +17,31 @@ pub fn rights_size(s: &[u8]) -> u8
     2
 }
 
-// The rights in the QT or the GN at a place, after its base, by the bytes that they take.
-pub fn rights_at(s: &[u8], size: u8, at: usize) -> u32
-    ensures { size ≡ rights_size (edition_in s.now) → result ≡ rights_at s.now at }
+// The bytes of a sheet, with the number of bytes that rights take in it.
+#[derive(Clone, Copy)]
+pub struct Encoded<'a> {
+    pub bytes: &'a [u8],
+    pub rights: u8,
+    ghost by_edition: { rights ≡ rights_size (edition_in bytes.now) },
+    ghost few: { (2 ≤ rights) × (rights ≤ 4) },
+}
+
+impl<'a> Encoded<'a> {
+    pub fn new(bytes: &'a [u8]) -> Self
+        ensures { result.bytes ≡ bytes.entry }
+    {
+        let rights = rights_size(bytes);
+        Encoded { bytes, rights }
+    }
+}
+
+// The rights in the QT or the GN at a place, after its base.
+pub fn rights_at(e: Encoded, at: usize) -> u32
+    ensures { result ≡ rights_at e.entry.bytes.now at }
 {
-    let low = word(s, at, 3) as u32;
-    if size == 4 {
-        return low + 65536 * (word(s, at, 5) as u32);
+    let low = u32::from(word(e.bytes, at, 3));
+    if e.rights == 4 {
+        return low + 65536 * u32::from(word(e.bytes, at, 5));
     }
     low
 }

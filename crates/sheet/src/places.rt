@@ -1,9 +1,9 @@
 // Where the records of a sheet start. A procedure's place is a u32: 64 procedures of any size end far below 2^32.
 ghost use Rattle.std.specs.Prelude.{◌≡◌, ◌+◌, ◌<◌, ◌≤◌};
-ghost use Rattle.sheet.specs.Layout.{rights_size, edition_in, type_at, qual_at, is_bounded, bound_size, start_from, variable_at, instruction_from};
+ghost use Rattle.sheet.specs.Layout.{type_at, qual_at, is_bounded, bound_size, start_from, variable_at, instruction_from};
 
 use crate::bytes::{byte, marked};
-use crate::edition::rights_size;
+use crate::edition::Encoded;
 
 // Where the TY of a type stands.
 pub fn type_at(t: u8) -> usize
@@ -15,23 +15,16 @@ pub fn type_at(t: u8) -> usize
     6 + 12 * ((t - 2) as usize)
 }
 
-// Where a QT stands, in a sheet whose rights take so many bytes.
-pub fn qual_from(s: &[u8], size: u8, j: u8) -> usize
-    requires { size ≡ rights_size (edition_in s.now) }
-    ensures value { result ≡ qual_at s.now j }
+// Where a QT stands.
+pub fn qual_at(e: Encoded, j: u8) -> usize
+    ensures value { result ≡ qual_at e.entry.bytes.now j }
     ensures upper_bound { result < 6000 }
 {
-    let first = 6 + 12 * (byte(s, 0, 3) as usize);
-    if size == 4 {
+    let first = 6 + 12 * (byte(e.bytes, 0, 3) as usize);
+    if e.rights == 4 {
         return first + 8 * (j as usize);
     }
     first + 6 * (j as usize)
-}
-
-pub fn qual_at(s: &[u8], j: u8) -> usize
-    ensures { result ≡ qual_at s.now j }
-{
-    qual_from(s, rights_size(s), j)
 }
 
 // Whether a GN is due after the PR of procedure p at a place.
@@ -42,24 +35,22 @@ pub fn is_bounded(s: &[u8], p: usize, pr: u32) -> bool
 }
 
 // The bytes of that GN, 0 where there is none.
-pub fn bound_size(s: &[u8], size: u8, p: usize, pr: u32) -> u8
-    requires { size ≡ rights_size (edition_in s.now) }
-    ensures value { result ≡ bound_size s.now p pr }
+pub fn bound_size(e: Encoded, p: usize, pr: u32) -> u8
+    ensures value { result ≡ bound_size e.entry.bytes.now p pr }
     ensures upper_bound { result < 8 }
 {
-    if is_bounded(s, p, pr) {
-        return 3 + size;
+    if is_bounded(e.bytes, p, pr) {
+        return 3 + e.rights;
     }
     0
 }
 
 // Where the VRs of procedure p start, whose PR stands at a place.
-pub fn start_from(s: &[u8], size: u8, p: usize, pr: u32) -> usize
-    requires { size ≡ rights_size (edition_in s.now) }
-    ensures value { result ≡ start_from s.now p pr }
+pub fn start_from(e: Encoded, p: usize, pr: u32) -> usize
+    ensures value { result ≡ start_from e.entry.bytes.now p pr }
     ensures upper_bound { result ≤ pr + 15 }
 {
-    (pr as usize) + 8 + (bound_size(s, size, p, pr) as usize)
+    (pr as usize) + 8 + (bound_size(e, p, pr) as usize)
 }
 
 // Where the VR of a variable stands, in a procedure whose VRs start at a place.

@@ -1,30 +1,37 @@
 // What a reader of records asks of the sheet at a place: the bytes of one record, as part of the sheet, where it ends, and what is left.
-ghost use Rattle.std.specs.Prelude.{◌≡◌, cond};
+ghost use Rattle.std.specs.Prelude.{◌≡◌};
 ghost use Rattle.sheet.specs.Reader.{size_at, record_bytes, past_at, left_at};
 
-use crate::bytes::{byte, whole};
+use crate::bytes::{marked, whole};
 use crate::edition::rights_size;
 
-fn pick(t: bool, a: usize, b: usize) -> usize
-    ensures { result ≡ cond t a b }
-{
-    if t { a } else { b }
-}
-
 // The size of the record whose mark stands at a place, 0 where no known mark does.
+#[tactic(auto, unfolding(crate::specs::Reader::size_at))]
 fn size_at(s: &[u8], at: usize) -> usize
     ensures { result ≡ size_at s.now at }
 {
-    let rights = rights_size(s) as usize;
-    let m = byte(s, at, 0);
-    let n = byte(s, at, 1);
-    let of_in = pick((m == b'I') & (n == b'N'), 8, 0);
-    let of_vr = pick((m == b'V') & (n == b'R'), 4, of_in);
-    let of_gn = pick((m == b'G') & (n == b'N'), 3 + rights, of_vr);
-    let of_pr = pick((m == b'P') & (n == b'R'), 8, of_gn);
-    let of_qt = pick((m == b'Q') & (n == b'T'), 4 + rights, of_pr);
-    let of_ty = pick((m == b'T') & (n == b'Y'), 12, of_qt);
-    pick((m == b'H') & (n == b'D'), 6, of_ty)
+    if marked(s, at, b'H', b'D') {
+        return 6;
+    }
+    if marked(s, at, b'T', b'Y') {
+        return 12;
+    }
+    if marked(s, at, b'Q', b'T') {
+        return 4 + (rights_size(s) as usize);
+    }
+    if marked(s, at, b'P', b'R') {
+        return 8;
+    }
+    if marked(s, at, b'G', b'N') {
+        return 3 + (rights_size(s) as usize);
+    }
+    if marked(s, at, b'V', b'R') {
+        return 4;
+    }
+    if marked(s, at, b'I', b'N') {
+        return 8;
+    }
+    0
 }
 
 // The bytes of the record at a place; none where no record with a known mark stands whole there.

@@ -1,6 +1,6 @@
 // Where ?R may not stand (document 02, S-1): in a slot, and in a procedure without a GN.
 ghost use Rattle.std.specs.Prelude.{◌≡◌, not, cond, [], ◌∷◌, ℕ, ◌+◌};
-ghost use Rattle.model.specs.Refusal.{verdict, failure, test, tests, off_scale, each};
+ghost use Rattle.model.specs.Refusal.{verdict, failure, test, tests, OffScale, each};
 ghost use Rattle.model.specs.Generic as generic;
 ghost use Rattle.sheet.specs.Bytes.{byte_at};
 ghost use Rattle.sheet.specs.Layout.{variables_field, is_bounded};
@@ -17,7 +17,7 @@ use sheet::places::variable_at;
 
 // A record that has ?R where it may not stand is refused.
 fn misplaced(bad: bool, at: usize) -> Verdict
-    ensures { result ≡ verdict (tests at (test off_scale (not bad) ∷ []) ∷ []) }
+    ensures { result ≡ verdict (tests at (test OffScale (not bad) ∷ []) ∷ []) }
 {
     if bad {
         return Verdict::Refused(5, at);
@@ -28,7 +28,7 @@ fn misplaced(bad: bool, at: usize) -> Verdict
 // Whether a slot of the TY at a place uses ?R.
 fn slot_use(s: &[u8], index: &Index, at: usize) -> bool
     requires { Ready s.now index.now }
-    ensures { cond result 5 0 ≡ failure (each (byte_at s.now at 3) (λ k. test off_scale (not (generic.uses (qual_of s.now (byte_at s.now at (4 + k))))) ∷ [])) }
+    ensures { cond result 5 0 ≡ failure (each (byte_at s.now at 3) (λ k. test OffScale (not (generic.uses (qual_of s.now (byte_at s.now at (4 + k))))) ∷ [])) }
 {
     let slots = byte(s, at, 3);
     let mut k: u8 = 0;

@@ -9,16 +9,17 @@ use mathlib.Core.Option.{none, some}
 use lib.Dec.{eqb}
 use lib.ListN.{get_or, set, get_or-map}
 use borrow.Author.Tests.{eqb-true, eqb-false, ne_eqb}
+use Rattle.std.specs.Prelude.{Result, Ok, Err}
+use Rattle.model.specs.declared.Halt.{Halt}
+use Rattle.model.specs.declared.Halt.TheVariants.{Blank}
 use Rattle.model.specs.Qualified.{Qual, declared}
 use Rattle.model.specs.Generic.{read}
 use Rattle.model.specs.Modes.{Mode, ElementInfo, TypeInfo, SettledSet, settled_set, carried, element_info, type_info}
 use Rattle.model.specs.Machine.{word, object, Cell, empty, filled, array_head, record_head}
 use Rattle.words.specs.Word.{low, tag, payload, pack, size_of, info_of, settled_base, back_kept, back_next, number_of, variables_of, formals_of, bound_of, first_of, procedure_word, IsProcedure, Slot, cell, head, back, procedure, slot_in, as_cell, as_head}
-use Rattle.words.specs.Answer.{read_as}
+use Rattle.words.specs.Answer.{read_filled}
 use Rattle.words.specs.Sees.{head_size}
 use Rattle.words.specs.Answers.{IsCell}
-use Rattle.words.specs.declared.Cell.{Cell as Read}
-use Rattle.words.specs.declared.Cell.TheVariants.{Blank, Filled}
 
 -- ---- the parts of a packed word
 
@@ -70,6 +71,9 @@ module _ (m : Mode) (qual : ℕ → Qual) (w : ℕ) where
   slot_procedure : tag w ≡ 6 → slot_in m qual w ≡ procedure (number_of w) (variables_of w) (first_of w) (bound_of w)
   unfolding slot_in
   slot_procedure e = rw (ne_eqb w 0 (tagged w 5 e), e)
+
+pub tagged_procedure : (w : ℕ) → tag w ≡ 6 → IsProcedure w
+tagged_procedure w e m qual = slot_procedure m qual w e
 
 -- the seven kinds of word, the same in both machines and for all maps of element numbers
 pub data Reading (w : ℕ) : Type 0 where
@@ -205,20 +209,20 @@ same_size m k q p w = by (reading w)
 
 -- ---- what reading a word as a cell tells of it
 
-module _ {w : ℕ} {r : Read} (is : r ≡ read_as w) where
-  pub told_blank : r ≡ Blank → w ≡ 0
-  told_blank told = go (eqb w 0) refl (sym is ∙ told)
+module _ {w : ℕ} {r : Result ℕ Halt} (is : r ≡ read_filled w) where
+  pub told_blank : {k : Halt} → r ≡ Err k → (k ≡ Blank) × (w ≡ 0)
+  told_blank {k} told = go (eqb w 0) refl (sym is ∙ told)
     where
-      go : (t : Bool) → eqb w 0 ≡ t → cond t Blank (Filled w) ≡ Blank → w ≡ 0
-      go true e k = eqb-true _ _ e
-      go false e k = absurd (let z : ◌≡◌ {A = ℕ} 0 1 = cc in omega arith)
+      go : (t : Bool) → eqb w 0 ≡ t → ◌≡◌ {A = Result ℕ Halt} (cond t (Err Blank) (Ok w)) (Err k) → (k ≡ Blank) × (w ≡ 0)
+      go true e h = (cc, eqb-true _ _ e)
+      go false e h = absurd (let z : ◌≡◌ {A = ℕ} 0 1 = cc in omega arith)
 
-  pub told_filled : {x : ℕ} → r ≡ Filled x → (x ≡ w) × (w ≡ 0 → ⊥)
+  pub told_filled : {x : ℕ} → r ≡ Ok x → (x ≡ w) × (w ≡ 0 → ⊥)
   told_filled {x} told = go (eqb w 0) refl (sym is ∙ told)
     where
-      go : (t : Bool) → eqb w 0 ≡ t → cond t Blank (Filled w) ≡ Filled x → (x ≡ w) × (w ≡ 0 → ⊥)
-      go true e k = absurd (let z : ◌≡◌ {A = ℕ} 0 1 = cc in omega arith)
-      go false e k = (cc, eqb-false _ _ e)
+      go : (t : Bool) → eqb w 0 ≡ t → ◌≡◌ {A = Result ℕ Halt} (cond t (Err Blank) (Ok w)) (Ok x) → (x ≡ w) × (w ≡ 0 → ⊥)
+      go true e h = absurd (let z : ◌≡◌ {A = ℕ} 0 1 = cc in omega arith)
+      go false e h = (cc, eqb-false _ _ e)
 
 -- ---- what a packed word is
 
@@ -261,6 +265,9 @@ module _ (m : Mode) (qual : ℕ → Qual) where
 module _ (p v f g i : ℕ) (p-fits : p < 2 ^ 6) (v-fits : v < 2 ^ 8) (f-fits : f < 2 ^ 8) (g-fits : g < 2 ^ 3) (i-fits : i < 2 ^ 32) where
   counts : payload (procedure_word p v f g i) ≡ ((g * 2 ^ 8 + f) * 2 ^ 6 + p) * 2 ^ 8 + v
   counts = payload_pack 6 _ i (omega arith) i-fits
+
+  pub procedure_tag : tag (procedure_word p v f g i) ≡ 6
+  procedure_tag = tag_pack 6 _ i (omega arith) i-fits
 
   pub procedure_is : IsProcedure (procedure_word p v f g i)
   procedure_is m qual = slot_procedure m qual _ (tag_pack 6 _ i (omega arith) i-fits)

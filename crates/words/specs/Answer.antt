@@ -1,13 +1,8 @@
--- A word read as a cell, and moved: the code's answers.
-use Rattle.std.specs.Prelude.{ℕ, cond, eqb}
-use Rattle.words.specs.declared.Cell.{Cell}
-use Rattle.words.specs.declared.Cell.TheVariants.{Blank, Filled}
-use Rattle.words.specs.declared.Moved.{Moved}
-use Rattle.words.specs.declared.Moved.TheVariants.{To, Halt}
+-- A word read as a cell: the code's answer.
+use Rattle.std.specs.Prelude.{ℕ, cond, eqb, Result, Ok, Err}
+use Rattle.model.specs.declared.Halt.{Halt}
+use Rattle.model.specs.declared.Halt.TheVariants.{Blank}
 
 -- 0 is blank; a filled cell is known by its word
-abbrev pub read_as : ℕ → Cell
-read_as w = cond (eqb w 0) Blank (Filled w)
-
-abbrev pub moved_word : ℕ → Moved
-moved_word w = cond (eqb w 0) (Halt 13) (To w)
+abbrev pub read_filled : ℕ → Result ℕ Halt
+read_filled w = cond (eqb w 0) (Err Blank) (Ok w)

@@ -1,40 +1,22 @@
 // One word of the memory: what it stands for, and how it is read and written.
 #![tactic(auto)]
 
-ghost use Rattle.std.specs.Prelude.{◌≡◌, ℕ, ◌+◌, ◌<◌, ◌≤◌, ◌^◌, length, get_or, set, replicate};
+ghost use Rattle.std.specs.Prelude.{◌≡◌, ℕ, ◌+◌, ◌<◌, ◌≤◌, ◌^◌, length, get_or, set, replicate, eqb};
 ghost use Rattle.model.specs.Qualified.{Qual, declared};
 ghost use Rattle.model.specs.Generic as generic;
 ghost use Rattle.model.specs.Modes.{Mode, settled_set, carried, element_info, type_info};
 ghost use Rattle.model.specs.Machine.{word, object, filled, array_head, record_head};
 ghost use Rattle.words.specs.Word.{cell, head, back, low, tag, payload, size_of, info_of, settled_base, back_kept, back_next, number_of, variables_of, formals_of, bound_of, first_of, procedure_word, slot_in};
-ghost use Rattle.words.specs.Answer.{read_as};
+ghost use Rattle.words.specs.Answer.{read_filled};
 
-// What a variable, a cell of an array or a slot of a record holds: a filled one by its word.
-#[derive(Clone, Copy)]
-pub enum Cell {
-    Blank,
-    Filled(u64),
-}
+use model::Halt;
 
-// An integer, or the number of the stop.
+// The word of a filled cell, on its way to a cell of an object.
 #[derive(Clone, Copy)]
-pub enum Number {
-    Is(u32),
-    Halt(u8),
-}
-
-// The word of a filled cell, or the number of the stop.
-#[derive(Clone, Copy)]
-pub enum Moved {
-    To(u64),
-    Halt(u8),
-}
-
-// An object, a cell of it and the word of a filled cell, or the number of the stop.
-#[derive(Clone, Copy)]
-pub enum Stored {
-    At(u32, u32, u64),
-    Halt(u8),
+pub struct Stored {
+    pub object: u32,
+    pub cell: u32,
+    pub word: u64,
 }
 
 // The word at i, 0 (a blank cell) past the end.
@@ -61,13 +43,11 @@ pub fn write(b: &mut [u64], i: usize, w: u64)
     }
 }
 
-pub fn cell_of(w: u64) -> Cell
-    ensures { result ≡ read_as w }
+// A filled cell is known by its word.
+pub fn filled(w: u64) -> Result<u64, Halt>
+    ensures { result ≡ read_filled w }
 {
-    if w == 0 {
-        return Cell::Blank;
-    }
-    Cell::Filled(w)
+    if w == 0 { Err(Halt::Blank) } else { Ok(w) }
 }
 
 // The integer of a word, or an object's rights; the name of an object; the size in the head of an object.
@@ -89,13 +69,38 @@ pub fn size_of(w: u64) -> u32
     (w / 34359738368 % 65536) as u32
 }
 
-// What a word is; the number of the element or of the type in the head of an object.
-pub fn tag_of(w: u64) -> u8
+// What a word is.
+fn tag_of(w: u64) -> u8
     ensures { result ≡ tag w }
 {
     (w / 4294967296 % 8) as u8
 }
 
+pub fn is_integer_word(w: u64) -> bool
+    ensures { result ≡ eqb (tag w) 1 }
+{
+    tag_of(w) == 1
+}
+
+pub fn is_object_word(w: u64) -> bool
+    ensures { result ≡ eqb (tag w) 2 }
+{
+    tag_of(w) == 2
+}
+
+pub fn is_array_head(w: u64) -> bool
+    ensures { result ≡ eqb (tag w) 3 }
+{
+    tag_of(w) == 3
+}
+
+pub fn is_record_head(w: u64) -> bool
+    ensures { result ≡ eqb (tag w) 4 }
+{
+    tag_of(w) == 4
+}
+
+// The number of the element or of the type in the head of an object.
 pub fn kind_in(w: u64) -> u8
     ensures { result ≡ info_of w }
 {
@@ -205,10 +210,5 @@ pub fn procedure_word(number: u8, variables: u8, formals: u8, bound: u8, first: 
 pub fn clear(b: &mut [u64])
     ensures { b.new ≡ replicate (length b.old) 0 }
 {
-    let n = b.len();
-    let mut i = 0;
-    while i < n {
-        b[i] = 0;
-        i += 1;
-    }
+    b.fill(0);
 }

@@ -14,7 +14,7 @@ returns c here =
     let formals = c.byte-formals in
     let variables = c.byte-variables in
     let args = c.args in
-    let s = args.s.now in
+    let s = args.e.bytes.now in
     entry s args.k _ _ _ _ _ (omega arith) (omega arith) (omega arith) (omega (arith, bound.ensures.upper_bound)) (omega (arith, first.ensures.upper_bound, start.ensures.upper_bound))
     (variables.ensures ∙ ap (variables_field s) here) (formals.ensures ∙ ap (formals_at s) here) (bound.ensures.value ∙ ap (bound_size s args.k) here)
     (first.ensures.value ∙ rw (start.ensures.value, variables.ensures, here))

@@ -15,7 +15,7 @@ unfolding base_of rights_field element_field
 returns c =
     let q = c.qual_fields-q.result in
     let is = c.qual_fields-q.ensures in
-    let at = sym c.qual_from-at.ensures.value in
+    let at = sym c.qual_at.ensures.value in
     let below = below_element q.base q.rights (omega arith) (omega arith) in record {
       type_word = type_entry q.base q.rights q.element (omega arith) (omega arith) (omega arith) _ _ _
           (rw at (ap (λ (f : QualFields). f.base) is)) (rw at (ap (λ (f : QualFields). f.rights) is)) (rw at (ap (λ (f : QualFields). f.element) is)) c.shape_and_rights.ensures;

@@ -6,4 +6,4 @@ pub returns-then-base-eq255 : goal.returns-then-base-eq255
 returns-then-base-eq255 c = rw c.if-base-eq255.true
 
 pub returns : goal.returns
-returns c = rw (ne_eqb _ _ c.if-base-eq255.false)
+returns c = rw (ne_eqb _ _ c.if-base-eq255.false, c.from.ensures)

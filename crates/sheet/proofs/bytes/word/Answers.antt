@@ -1,6 +1,6 @@
--- The two bytes are those that `byte` ensures.
+-- The two bytes, low first.
 use Rattle.sheet.proofs.Laws.{word_bytes}
 use Rattle.sheet.proofs.bytes.word.Goals as goal
 
 pub returns : goal.returns
-returns c = rw (c.byte-high.ensures, c.byte-low.ensures, word_bytes)
+returns c = rw (word_bytes, c.from-low.ensures, c.from-high.ensures, c.byte.ensures, c.byte-2.ensures)

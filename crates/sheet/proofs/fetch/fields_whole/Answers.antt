@@ -6,4 +6,4 @@ use Rattle.sheet.proofs.fetch.fields_whole.Goals as goal
 
 pub returns : goal.returns
 unfolding k_at code_at byte_at
-returns c = rw c.number_k-k.ensures
+returns c = rw c.word_whole.ensures

@@ -1,8 +1,13 @@
--- The place that `qual_from` gives for the bytes that rights take.
+-- The sum is the definition, with what rights take put in.
+use Rattle.sheet.specs.Layout.{qual_at, types_of}
+use Rattle.sheet.proofs.Laws.{else_two}
+use mathlib.Core.Path.{refl}
 use Rattle.sheet.proofs.places.qual_at.Goals as goal
 
-pub returns : goal.returns
-returns c = c.qual_from.ensures.value
+pub returns-then-e-eq4-clause-value : goal.returns-then-e-eq4-clause-value
+unfolding qual_at types_of
+returns-then-e-eq4-clause-value c = rw (← c.args.e.by_edition, c.if-e-eq4.true, c.byte.ensures) refl
 
-pub qual_from-requires : goal.qual_from-requires
-qual_from-requires c = c.rights_size.ensures.value
+pub returns-clause-value : goal.returns-clause-value
+unfolding qual_at types_of
+returns-clause-value c = rw (← c.args.e.by_edition, else_two _ _ c.args.e.by_edition c.if-e-eq4.false, c.byte.ensures) refl

@@ -5,12 +5,4 @@ use native.Mathlib.Omega.{arith}
 use Rattle.sheet.proofs.quals.qual_fields.Goals as goal
 
 pub qual_whole-requires : goal.qual_whole-requires
-qual_whole-requires c =
-    record { size_value = c.requires; size_in_bounds = omega (arith, whole_true _ _ _ (sym c.whole.ensures ∙ c.if-whole.true)) }
-
-pub returns-then-whole : goal.returns-then-whole
-returns-then-whole c = c.qual_whole.ensures
-
-pub returns : goal.returns
-returns c =
-    rw (c.byte-base.ensures, c.rights_at-rights.ensures c.requires, c.byte-element.ensures, c.requires)
+qual_whole-requires c = omega (arith, whole_true _ _ _ (sym c.whole.ensures ∙ c.if-whole.true))

@@ -1,33 +1,22 @@
 -- The bytes read are those of the definition: rights in two of them, or in four.
-use Rattle.sheet.specs.Bytes.{byte_at}
-use Rattle.sheet.proofs.Laws.{size_range, else_two, rights_wide, rights_narrow}
+use mathlib.Core.Path.{◌∙◌}
 use native.Mathlib.Omega.{arith}
+use Rattle.sheet.specs.Bytes.{byte_at}
+use Rattle.sheet.proofs.Laws.{word_bytes, else_two, rights_wide, rights_narrow}
 use Rattle.sheet.proofs.quals.qual_whole.Goals as goal
 
-pub pair-low-requires : goal.pair-low-requires
-pair-low-requires c =
-    omega (arith, c.requires.size_in_bounds, size_range _ _ c.requires.size_value)
+pub word_whole-requires : goal.word_whole-requires
+word_whole-requires c = omega (arith, c.requires, c.args.e.few)
 
-pub pair-requires : goal.pair-requires
-pair-requires c = omega (arith, c.requires.size_in_bounds)
-
-pub overflow_mul-rights : goal.overflow_mul-rights
-overflow_mul-rights c = omega (arith, c.pair.ensures.upper_bound)
-
-pub overflow_add-rights : goal.overflow_add-rights
-overflow_add-rights c =
-    omega (arith, c.pair.ensures.upper_bound, c.pair-low.ensures.upper_bound)
-
-pub returns-then-size-eq4 : goal.returns-then-size-eq4
+pub returns-then-e-eq4 : goal.returns-then-e-eq4
 unfolding byte_at
-returns-then-size-eq4 c =
-    rw (← rights_wide _ _ _ c.requires.size_value c.if-size-eq4.true, ← c.requires.size_value, c.if-size-eq4.true, c.pair.ensures.value, c.pair-low.ensures.value)
+returns-then-e-eq4 c =
+    rw (← rights_wide _ _ _ c.args.e.by_edition c.if-e-eq4.true, ← c.args.e.by_edition, c.if-e-eq4.true, c.from.ensures ∙ c.word_whole-then-e-eq4.ensures ∙ word_bytes _ _ _, c.from-low.ensures ∙ c.word_whole.ensures ∙ word_bytes _ _ _)
 
 pub bounds-s-at-2 : goal.bounds-s-at-2
-bounds-s-at-2 c =
-    omega (arith, size_range _ _ c.requires.size_value)
+bounds-s-at-2 c = omega (arith, c.requires, c.args.e.few)
 
 pub returns : goal.returns
 unfolding byte_at
 returns c =
-    rw (← rights_narrow _ _ _ c.requires.size_value c.if-size-eq4.false, ← c.requires.size_value, else_two _ _ c.requires.size_value c.if-size-eq4.false, c.pair-low.ensures.value)
+    rw (← rights_narrow _ _ _ c.args.e.by_edition c.if-e-eq4.false, ← c.args.e.by_edition, else_two _ _ c.args.e.by_edition c.if-e-eq4.false, c.from-low.ensures ∙ c.word_whole.ensures ∙ word_bytes _ _ _)

@@ -4,7 +4,7 @@ use Rattle.model.specs.declared.Operation.TheVariants.{Return}
 use Rattle.sheet.specs.Instructions.{table, line_in}
 use Rattle.sheet.specs.Decode.{unlisted, operation_by, decode}
 use Rattle.sheet.proofs.Instructions.{by_line}
-use Rattle.sheet.proofs.decode.operation_of.Goals as goal
+use Rattle.sheet.proofs.decode.OperationFromFields.from.Goals as goal
 
 pub returns-in-1 : goal.returns-in-1
 unfolding decode operation_by line_in table
