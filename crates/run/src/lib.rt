@@ -1,10 +1,10 @@
 // A run of any bytes: check them, then a machine in the lent memory.
 #![tactic(auto)]
 
+ghost use Rattle.model.specs.Refusal.{Accepted};
 ghost use Rattle.std.specs.Prelude.{◌≡◌, ◌≤◌, length};
 ghost use Rattle.std.proofs.Math.Option.{some};
 ghost use Rattle.model.specs.Modes.{plain, watched};
-ghost use Rattle.model.specs.declared.Verdict.TheVariants.{Accepted};
 ghost use Rattle.frames.specs.Performs.{Loaded};
 ghost use Rattle.run_by_frames.specs.Turn.{NeverStuck};
 ghost use Rattle.run.specs.Run.{answered, refused, stopped_at, end, answer_by, answer};
