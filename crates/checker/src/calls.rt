@@ -48,10 +48,7 @@ fn failed(error: i32) -> Answer
 fn errno_of(failure: &io::Error) -> i32
     ensures { result ≡ def.errno failure.now }
 {
-    match failure.raw_os_error() {
-        Some(code) => code,
-        None => 0,
-    }
+    failure.raw_os_error().unwrap_or(0)
 }
 
 // A call that moved so many bytes.

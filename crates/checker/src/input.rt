@@ -72,9 +72,7 @@ pub fn read_input(
 {
     let mut done = 0;
     // A proved loop has to end, and nothing says that an input does: a number of turns that none uses up.
-    let mut turns = u64::MAX;
-    while turns > 0 {
-        turns -= 1;
+    for _ in 0..u64::MAX {
         let input = read_once(stdin, clock, buffer, done, failure);
         let Input::Partial(n) = input else {
             return input;

@@ -15,19 +15,13 @@ fn reason(text: &str) -> &str {
 
 // What standard error does not take is not said: there is nowhere left to say it.
 pub fn say(stderr: &mut Stderr, words: &[u8]) {
-    match stderr.write_all(words) {
-        Ok(()) => {}
-        Err(_) => {}
-    }
+    let _ = stderr.write_all(words);
 }
 
 // Says what failed, and why.
 pub fn tell(stderr: &mut Stderr, what: &[u8], failure: &Error) {
     let mut text = InlineText::<512>::new();
-    match write!(text, "{failure}") {
-        Ok(()) => {}
-        Err(_) => {}
-    }
+    let _ = write!(text, "{failure}");
     say(stderr, what);
     say(stderr, b": ");
     say(stderr, reason(text.as_str()).as_bytes());
@@ -71,8 +65,9 @@ fn write_once(stdout: &mut Stdout, stderr: &mut Stderr, clock: &impl Clock, line
 
 // Writes the line by one call, so that lines of two programs that append to one file do not mix.
 pub fn write_line(stdout: &mut Stdout, stderr: &mut Stderr, clock: &impl Clock, line: &[u8]) {
-    let mut turns = u64::MAX;
-    while turns > 0 && write_once(stdout, stderr, clock, line) {
-        turns -= 1;
+    for _ in 0..u64::MAX {
+        if !write_once(stdout, stderr, clock, line) {
+            return;
+        }
     }
 }
