@@ -9,6 +9,9 @@ use lib.ListN.{get_or}
 use borrow.Author.Tests.{eqb-true, eqb-false, eq-eqb, ne_eqb, ltb-true, ltb-false, lt-ltb, le-ltb, le-leb}
 use Rattle.model.specs.Rights.{Rights, within, has, store_right}
 use Rattle.model.specs.Qualified.{Qual, base, same, alike, covers, order, elements}
+use Rattle.std.specs.Prelude.{Result, Ok, Err, is_ok}
+use Rattle.model.specs.declared.Reason.{Reason}
+use Rattle.model.specs.declared.Reason.TheVariants.{TypeMismatch, InsufficientRights}
 use Rattle.model.specs.Refusal.{failure}
 use Rattle.model.specs.Rules.{moves, amplifies}
 use Rattle.model.proofs.Order.{alike_arrays, order_refl, moves_order}
@@ -232,7 +235,7 @@ module _ (t : List ℕ) where
   moves_words : (m i n j : ℕ) → failure (moves (type_in t m i) (type_in t n j))
       ≡ cond (cond (eqb (shape_of (word_as t m i)) 1 && eqb (shape_of (word_as t n j)) 1)
       (asked m i (word_as t m i) n j (word_as t n j)) (alike_heads (word_as t m i) (word_as t n j)))
-      (cond (covered_heads (word_as t m i) (word_as t n j)) 0 9) 8
+      (cond (covered_heads (word_as t m i) (word_as t n j)) (Ok tt) (Err InsufficientRights)) (Err TypeMismatch)
   unfolding failure moves word_as
   moves_words m i n j =
       let k = ap₂ alike (type_of_lem m i) (type_of_lem n j) ∙ alike_words m i (word_in t i) n j (word_in t j) in
@@ -241,11 +244,11 @@ module _ (t : List ℕ) where
 
   module _ (m i n j : ℕ) {v w : ℕ} (at-v : v ≡ word_as t m i) (at-w : w ≡ word_as t n j) where
     -- of two arrays: the elements, then the rights around them
-    pub moves_arrays : shape_of v ≡ 1 → shape_of w ≡ 1 → failure (moves (type_in t m i) (type_in t n j)) ≡ cond (asked m i v n j w) (cond (within (rights_of w) (rights_of v)) 0 9) 8
+    pub moves_arrays : shape_of v ≡ 1 → shape_of w ≡ 1 → failure (moves (type_in t m i) (type_in t n j)) ≡ cond (asked m i v n j w) (cond (within (rights_of w) (rights_of v)) (Ok tt) (Err InsufficientRights)) (Err TypeMismatch)
     unfolding covered_heads
     moves_arrays b c = moves_words m i n j ∙ rw (sym at-v, sym at-w, b, c)
 
-    pub moves_others : eqb (shape_of v) 1 && eqb (shape_of w) 1 ≡ false → failure (moves (type_in t m i) (type_in t n j)) ≡ cond (alike_heads v w) (cond (covered_heads v w) 0 9) 8
+    pub moves_others : eqb (shape_of v) 1 && eqb (shape_of w) 1 ≡ false → failure (moves (type_in t m i) (type_in t n j)) ≡ cond (alike_heads v w) (cond (covered_heads v w) (Ok tt) (Err InsufficientRights)) (Err TypeMismatch)
     moves_others h = moves_words m i n j ∙ rw (sym at-v, sym at-w, h)
 
   -- ≥ of an array, and of other types, by their words
@@ -360,10 +363,14 @@ levels_fall t j w b = rw (eq-eqb (shape_of w) 1 b) (go _ _ (element_is t w j))
     go _ _ none = omega arith
 
 -- ---- a type moves to itself, and is the same where it is read alike
-still : (q : Qual) → 0 ≡ failure (moves q q)
-still q = sym (eqb-true (failure (moves q q)) 0 (moves_order q q ∙ order_refl q))
+still : (q : Qual) → Ok tt ≡ failure (moves q q)
+still q = go (failure (moves q q)) (moves_order q q ∙ order_refl q)
+  where
+    go : (f : Result (Unit {0}) Reason) → is_ok f ≡ true → Ok tt ≡ f
+    go (Ok u) h = refl
+    go (Err r) h = absurd (false≢true h)
 
-pub moves_itself : (p q : Qual) → p ≡ q → 0 ≡ failure (moves p q)
+pub moves_itself : (p q : Qual) → p ≡ q → Ok tt ≡ failure (moves p q)
 moves_itself p q e = still p ∙ ap (λ (x : Qual). failure (moves p x)) e
 
 pub read_alike : (t : List ℕ) → UsesTold t → (m n i : ℕ) → eqb m n || not (uses_of (word_in t i)) ≡ true → type_in t m i ≡ type_in t n i

@@ -2,19 +2,21 @@
 // stand for two types.
 #![tactic(auto)]
 
-ghost use Rattle.std.specs.Prelude.{◌≡◌, Bool, true, cond, ◌&&◌, eqb, List, ℕ};
+ghost use Rattle.std.specs.Prelude.{◌≡◌, Bool, true, ◌&&◌, eqb, List, ℕ};
 ghost use Rattle.model.specs.Rights.{within};
 ghost use Rattle.model.specs.Qualified.{same, order, elements};
 ghost use Rattle.model.specs.Refusal.{failure};
 ghost use Rattle.model.specs.Rules.{moves, owned_by, amplifies};
-ghost use Rattle.index.specs.Types.{word_in, shape_of, rights_of, element_below, qual_in, type_in, word_as, UsesTold};
+ghost use Rattle.index.specs.Types.{word_in, shape_of, rights_of, element_below, qual_in, type_in, word_as};
 ghost use Rattle.order.specs.Words.{same_heads, alike_heads, covered_heads, type_of, ElementThere};
 
 use index::Index;
+use index::sheets::Sheet;
 use index::types::{
     element_in, element_number, rights_by, rights_in, shape_in, type_word, type_word_as, uses_name,
     word_read,
 };
+use model::{Reason, require};
 use rights::{has_right, is_within};
 
 // Of the owner's type; owner 0 is none. ?R has the base that it is read with.
@@ -157,30 +159,24 @@ pub fn equal(index: &Index, m: u64, i: u8, n: u64, j: u8) -> bool
     elements_agree(index, true, m, i, n, j)
 }
 
-// The rest where a test holds, else a refusal.
-pub fn require(holds: bool, number: u8, rest: u8) -> u8
-    ensures { result ≡ cond holds rest number }
-{
-    if holds { rest } else { number }
-}
-
 // The refusal of a movement between two arrays, by their words: the elements come before the rights around them.
-fn array_movement(index: &Index, m: u64, i: u8, v: u64, n: u64, j: u8, w: u64) -> u8
+fn array_movement(index: &Index, m: u64, i: u8, v: u64, n: u64, j: u8, w: u64) -> Result<(), Reason>
     requires v_value { (v ≡ word_as index.now m i) × (w ≡ word_as index.now n j) }
     requires v_value_2 { (shape_of v ≡ 1) × (shape_of w ≡ 1) }
     ensures { result ≡ failure (moves (type_in index.now m i) (type_in index.now n j)) }
 {
     let stores = has_right(2, rights_in(w));
     let alike = elements_agree(index, stores, m, element_in(v, i), n, element_in(w, j));
+    require(alike, Reason::TypeMismatch)?;
     require(
-        alike,
-        8,
-        require(is_within(rights_in(w), rights_in(v)), 9, 0),
+        is_within(rights_in(w), rights_in(v)),
+        Reason::InsufficientRights,
     )
 }
 
 // The refusal of a movement between two types, by their words.
-fn movement_of_words(index: &Index, m: u64, i: u8, n: u64, j: u8) -> u8
+#[tactic(auto, using(crate::proofs::Laws::moves_others))]
+fn movement_of_words(index: &Index, m: u64, i: u8, n: u64, j: u8) -> Result<(), Reason>
     ensures { result ≡ failure (moves (type_in index.now m i) (type_in index.now n j)) }
 {
     let v = type_word_as(index, m, i);
@@ -188,36 +184,34 @@ fn movement_of_words(index: &Index, m: u64, i: u8, n: u64, j: u8) -> u8
     if (shape_in(v) == 1) & (shape_in(w) == 1) {
         return array_movement(index, m, i, v, n, j, w);
     }
-    require(is_alike_head(v, w), 8, require(is_covered(v, w), 9, 0))
+    require(is_alike_head(v, w), Reason::TypeMismatch)?;
+    require(is_covered(v, w), Reason::InsufficientRights)
 }
 
 // A QT read alike as two names, as one without ?R always is.
-fn is_read_alike(index: &Index, m: u64, n: u64, i: u8) -> bool
-    requires { UsesTold index.now }
-    ensures { result ≡ true → type_in index.now m i ≡ type_in index.now n i }
+fn is_read_alike(s: Sheet, m: u64, n: u64, i: u8) -> bool
+    ensures { result ≡ true → type_in s.entry.index.now m i ≡ type_in s.entry.index.now n i }
 {
-    (m == n) | !uses_name(index, i)
+    (m == n) | !uses_name(s.index, i)
 }
 
-// The number of the refusal of a movement from QT i to QT j: 8, then 9; 0 where there is none, as of a type to itself. Two calls, so that the compiler keeps
-// the words out of the way of most movements, which are of one type.
-pub fn movement(index: &Index, m: u64, i: u8, n: u64, j: u8) -> u8
-    requires { UsesTold index.now }
-    ensures { result ≡ failure (moves (type_in index.now m i) (type_in index.now n j)) }
+// The refusal of a movement from QT i to QT j: of type, then of rights; none where the type moves to itself. Two calls, so that the compiler keeps the words
+// out of the way of most movements, which are of one type.
+pub fn movement(s: Sheet, m: u64, i: u8, n: u64, j: u8) -> Result<(), Reason>
+    ensures { result ≡ failure (moves (type_in s.entry.index.now m i) (type_in s.entry.index.now n j)) }
 {
     if i == j {
-        if is_read_alike(index, m, n, i) {
-            return 0;
+        if is_read_alike(s, m, n, i) {
+            return Ok(());
         }
-        return movement_of_words(index, m, i, n, i);
+        return movement_of_words(s.index, m, i, n, i);
     }
-    movement_of_words(index, m, i, n, j)
+    movement_of_words(s.index, m, i, n, j)
 }
 
 // QT i ≥ QT j.
-pub fn is_above(index: &Index, m: u64, i: u8, n: u64, j: u8) -> bool
-    requires { UsesTold index.now }
-    ensures { result ≡ order (type_in index.now m i) (type_in index.now n j) }
+pub fn is_above(s: Sheet, m: u64, i: u8, n: u64, j: u8) -> bool
+    ensures { result ≡ order (type_in s.entry.index.now m i) (type_in s.entry.index.now n j) }
 {
-    movement(index, m, i, n, j) == 0
+    movement(s, m, i, n, j).is_ok()
 }

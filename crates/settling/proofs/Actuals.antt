@@ -4,6 +4,7 @@ use mathlib.Core.Path.{◌≡◌, refl, sym, ap, ap₂, ◌∙◌}
 use mathlib.Core.List.{List, [], ◌∷◌, ◌++◌, append_assoc}
 use mathlib.Core.Bool.{Bool, true, false, false≢true, ◌&&◌, ◌||◌, cond}
 use native.Mathlib.Omega.{arith}
+use Rattle.std.specs.Prelude.{Option, Some, None, is_some, unwrap_or, Ok}
 use Rattle.model.specs.Rights.{within}
 use Rattle.model.specs.Qualified.{Qual, base, rights, same}
 use Rattle.model.specs.Refusal.{span}
@@ -16,11 +17,10 @@ use Rattle.sheet.specs.Meaning.{bound_in_sheet}
 use Rattle.index.specs.Types.{named_as}
 use Rattle.index.specs.Scope.{bound_of_procedure, ScopeOf}
 use Rattle.index.specs.declared.procedures.Scope.{Scope}
-use Rattle.settling.specs.Settles.{settles_as, uses_as, SettlesIs, FoundIs, least_name, has_bound, Settling, BoundOf}
+use Rattle.settling.specs.Settles.{settles_as, uses_as, SettlesIs, named_or, FoundIs, least_name, has_bound, Settling, BoundOf}
 use Rattle.settling.specs.declared.Settles.{Settles}
 use Rattle.settling.specs.declared.Settles.TheVariants as One
 use Rattle.settling.specs.declared.Found.{Found}
-use Rattle.settling.specs.declared.Settled.TheVariants as OfAll
 use Rattle.settling.proofs.Laws.{least_named}
 
 -- ---- Lists
@@ -78,29 +78,30 @@ module _ {r : Settles} {ρ : Qual} {u : Bool} where
   found_unused l e f = rw (e, append_none l, or_false u) f
 
   pub found_nothing : (l : List Qual) {x : Found} → r ≡ One.Nothing → FoundIs ρ l u x
-      → FoundIs ρ (l ++ settles_as r) (u || uses_as r) record { used = true; some = x.some; alike = x.alike; name = x.name }
+      → FoundIs ρ (l ++ settles_as r) (u || uses_as r) record { used = true; alike = x.alike; name = x.name }
   unfolding settles_as uses_as
   found_nothing l e f =
       rw (e, append_none l) record { used_is = or_true u; some_is = f.some_is; alike_is = f.alike_is; name_is = f.name_is }
 
   -- the first that is settled
-  pub found_first : (l : List Qual) {x : Found} {n : ℕ} → r ≡ One.To n → x.some ≡ false → FoundIs ρ l u x
-      → FoundIs ρ (l ++ settles_as r) (u || uses_as r) record { used = true; some = true; alike = true; name = n }
+  pub found_first : (l : List Qual) {x : Found} {n : ℕ} → r ≡ One.To n → x.name ≡ None → FoundIs ρ l u x
+      → FoundIs ρ (l ++ settles_as r) (u || uses_as r) record { used = true; alike = x.alike; name = Some n }
   unfolding settles_as uses_as first_or all_same
   found_first [] {x} {n} e h f =
-      rw e record { used_is = or_true u; some_is = refl; alike_is = rw (same_refl (named_as n)); name_is = refl }
-  found_first (q ∷ l) e h f = absurd (false≢true (sym h ∙ f.some_is))
+      rw e record { used_is = or_true u; some_is = refl; alike_is = f.alike_is ∙ rw (same_refl (named_as n)); name_is = refl }
+  found_first (q ∷ l) {x} e h f = absurd (false≢true (sym (ap is_some h) ∙ f.some_is))
 
   -- a later one is compared with it
-  pub found_again : (l : List Qual) {x : Found} {n : ℕ} (v : Bool) → r ≡ One.To n → x.some ≡ true → v ≡ same (named_as x.name) (named_as n) → FoundIs ρ l u x
-      → FoundIs ρ (l ++ settles_as r) (u || uses_as r) record { used = true; some = true; alike = x.alike && v; name = x.name }
+  pub found_again : (l : List Qual) {x : Found} {n : ℕ} (m : ℕ) (v : Bool) → r ≡ One.To n → x.name ≡ Some m → v ≡ same (named_as m) (named_as n) → FoundIs ρ l u x
+      → FoundIs ρ (l ++ settles_as r) (u || uses_as r) record { used = true; alike = x.alike && v; name = x.name }
   unfolding settles_as uses_as first_or
-  found_again [] v e h k f = absurd (false≢true (sym f.some_is ∙ h))
-  found_again (q ∷ l) {x} {n} v e h k f =
+  found_again [] m v e h k f = absurd (false≢true (sym f.some_is ∙ ap is_some h))
+  found_again (q ∷ l) {x} {n} m v e h k f =
+      let named : named_as m ≡ q = sym (ap (named_or ρ) h) ∙ f.name_is in
       rw e record {
         used_is = or_true u;
-        some_is = refl;
-        alike_is = ap₂ (λ (y z : Bool). y && z) f.alike_is (k ∙ ap (λ (y : Qual). same y (named_as n)) f.name_is) ∙ all_same_more q (q ∷ l) (named_as n);
+        some_is = ap is_some h;
+        alike_is = ap₂ (λ (y z : Bool). y && z) f.alike_is (k ∙ ap (λ (y : Qual). same y (named_as n)) named) ∙ all_same_more q (q ∷ l) (named_as n);
         name_is = f.name_is;
       }
 
@@ -110,9 +111,9 @@ module _ (need actual : ℕ → Qual) (ρ : Qual) where
   abbrev pub FoundBefore : ℕ → Found → Type 0
   FoundBefore j x = FoundIs ρ (span (λ k. settles (need k) (actual k)) 0 j) (some_uses need 0 j) x
 
-  pub found_start : (n : ℕ) → named_as n ≡ ρ → FoundBefore 0 record { used = false; some = false; alike = true; name = n }
+  pub found_start : FoundBefore 0 record { used = false; alike = true; name = None }
   unfolding span some_uses first_or all_same
-  found_start n e = record { used_is = refl; some_is = refl; alike_is = refl; name_is = e }
+  found_start = record { used_is = refl; some_is = refl; alike_is = refl; name_is = refl }
 
   pub found_more : (j : ℕ) (r : Settles) (x : Found) → SettlesIs (need j) (actual j) r
       → FoundIs ρ (span (λ k. settles (need k) (actual k)) 0 j ++ settles_as r) (some_uses need 0 j || uses_as r) x → FoundBefore (j + 1) x
@@ -128,17 +129,23 @@ least_own : (bound : Bound) (name : ℕ) → named_as name ≡ own bound → nam
 unfolding own instance base rights
 least_own bound name e = rw (least_named name, e)
 
+-- the least set, where nothing is settled
+least_or : (x : Option ℕ) (n : ℕ) → named_or (named_as n) x ≡ named_as (unwrap_or x n)
+least_or None n = refl
+least_or (Some m) n = refl
+
 module _ {bound : Bound} {to : Scope} {x : Found} (found : List Qual) (used : Bool) where
   -- with a bound, what was found tells all
   pub settled_found : BoundOf bound true to → FoundIs (named_as (least_name to.name)) found used x
-      → (x.used && x.alike ≡ is_settled bound used found) × (named_as x.name ≡ settled bound found)
+      → (x.used && x.alike ≡ is_settled bound used found) × (named_as (unwrap_or x.name (least_name to.name)) ≡ settled bound found)
   settled_found b f = go bound b.has (least_own bound to.name b.name) f
     where
       go : (c : Bound) → true ≡ has_bound c → named_as (least_name to.name) ≡ instance c (least c) → FoundIs (named_as (least_name to.name)) found used x
-          → (x.used && x.alike ≡ is_settled c used found) × (named_as x.name ≡ settled c found)
+          → (x.used && x.alike ≡ is_settled c used found) × (named_as (unwrap_or x.name (least_name to.name)) ≡ settled c found)
       go no_bound h e f = absurd (false≢true (sym h))
       go (at_least t l) h e f = unfold is_settled settled least in
-          (rw (f.used_is, f.alike_is, e), rw (f.name_is, e))
+          let named : named_as (unwrap_or x.name (least_name to.name)) ≡ first_or (named_as (least_name to.name)) found = sym (least_or x.name (least_name to.name)) ∙ f.name_is in
+          (rw (f.used_is, f.alike_is, e), named ∙ rw e)
 
 pub enough_found : (bound : Bound) (found : List Qual) (own_name name : ℕ) → named_as own_name ≡ own bound → named_as name ≡ settled bound found
     → within (rights (named_as own_name)) (rights (named_as name)) ≡ is_enough bound found
@@ -146,7 +153,7 @@ unfolding is_enough own rights
 enough_found bound found own_name name e f = rw (e, f)
 
 -- without one, nothing is asked
-pub unbounded : (inner : ℕ → Qual) (c : Callee) (b : ℕ) {to : Scope} (n : ℕ) → n ≡ least_name to.name → BoundOf c.bound false to → Settling inner c b (OfAll.To n)
+pub unbounded : (inner : ℕ → Qual) (c : Callee) (b : ℕ) {to : Scope} (n : ℕ) → n ≡ least_name to.name → BoundOf c.bound false to → Settling inner c b (Ok n)
 unbounded inner c b {to} n e of = go c.bound of.has (ap named_as e ∙ least_own c.bound to.name of.name)
   where
     go : (k : Bound) → false ≡ has_bound k → named_as n ≡ instance k (least k)

@@ -8,15 +8,16 @@ ghost use Rattle.model.specs.Qualified.{Qual, is_array, same};
 ghost use Rattle.model.specs.Generic.{Bound, settlings, some_uses};
 ghost use Rattle.sheet.specs.Layout.{formals_at};
 ghost use Rattle.index.specs.Types.{named_as, type_in};
-ghost use Rattle.index.specs.Indexed.{Ready};
 ghost use Rattle.index.specs.Scope.{inner_as, need_as};
-ghost use Rattle.settling.specs.Settles.{settles_as, uses_as, SettlesIs, Innermost, FoundIs, least_name, callee_as, Settling, BoundOf};
+ghost use Rattle.settling.specs.Settles.{settles_as, uses_as, SettlesIs, Innermost, FoundIs, least_name, callee_as, Settling, BoundOf, reason_of, halt_of};
 
 use index::Index;
 use index::procedures::{Scope, instance_name};
+use index::sheets::Sheet;
 use index::types::{
     element_number, element_of, name_rights, rights_in, shape_in, type_word, type_word_as,
 };
+use model::{Halt, Reason};
 use rights::is_within;
 use sheet::fields::{field, need_of};
 
@@ -28,12 +29,33 @@ enum Settles {
     To(u64),
 }
 
-// What a call settles: 20, 21, or what a name has.
-#[derive(Clone, Copy)]
-pub enum Settled {
+// Why a call settles nothing: no set for ?R, or one that lacks a right of the least set.
+#[derive(Clone, Copy, Debug, PartialEq, Eq)]
+pub enum SettleError {
     Unsettled,
     Short,
-    To(u64),
+}
+
+impl From<SettleError> for Reason {
+    ghost from_gives = { λ e r. r ≡ reason_of e };
+
+    fn from(e: SettleError) -> Reason {
+        match e {
+            SettleError::Unsettled => Reason::Unsettled,
+            SettleError::Short => Reason::ShortSet,
+        }
+    }
+}
+
+impl From<SettleError> for Halt {
+    ghost from_gives = { λ e h. h ≡ halt_of e };
+
+    fn from(e: SettleError) -> Halt {
+        match e {
+            SettleError::Unsettled => Halt::WrongKind,
+            SettleError::Short => Halt::MissingRight,
+        }
+    }
 }
 
 // Rights without open.
@@ -82,7 +104,7 @@ fn innermost(index: &Index, j: u8, i: u8) -> u16
         }
         return 65535;
     }
-    (j as u16) * 256 + (i as u16)
+    u16::from(j) * 256 + u16::from(i)
 }
 
 // What an actual settles, for any need: the shapes must agree down to ?R.
@@ -94,23 +116,26 @@ fn settles_in(index: &Index, n: u64, j: u8, m: u64, i: u8) -> Settles
 }
 
 // Actual j of a call with variables from b on, in scope c, of the procedure of scope `to`.
-fn actual_settles(s: &[u8], index: &Index, to: Scope, c: Scope, b: u8, j: u8) -> Settles
-    requires { Ready s.now index.now }
-    ensures { SettlesIs (need_as s.now to j) (inner_as s.now c (b + j)) result }
+fn actual_settles(s: Sheet, to: Scope, c: Scope, b: u8, j: u8) -> Settles
+    ensures { SettlesIs (need_as s.entry.bytes.now to j) (inner_as s.entry.bytes.now c (b + j)) result }
 {
-    let x = (b as u16) + (j as u16);
-    let actual = field(s, c.start, 2 + 4 * x);
-    settles_in(index, to.name, need_of(s, to.start, j), c.name, actual)
+    let x = u16::from(b) + u16::from(j);
+    let actual = field(s.bytes, c.start, 2 + 4 * x);
+    settles_in(
+        s.index,
+        to.name,
+        need_of(s.bytes, to.start, j),
+        c.name,
+        actual,
+    )
 }
 
-// What the actuals before some number settle: whether a need uses ?R, whether one is settled, whether all are settled alike, and to what: where none is, to
-// the least set.
+// What the actuals before some number settle: whether a need uses ?R, whether all are settled alike, and to what, where one is.
 #[derive(Clone, Copy)]
 struct Found {
     used: bool,
-    some: bool,
     alike: bool,
-    name: u64,
+    name: Option<u64>,
 }
 
 // What was found, with one more actual.
@@ -119,27 +144,19 @@ fn found_with(x: Found, r: Settles) -> Found
 {
     match r {
         Settles::Unused => x,
-        Settles::Nothing => Found {
-            used: true,
-            some: x.some,
-            alike: x.alike,
-            name: x.name,
-        },
+        Settles::Nothing => Found { used: true, ..x },
         Settles::To(n) => {
-            if x.some {
-                let alike = x.alike & is_same_name(x.name, n);
+            let Some(first) = x.name else {
                 return Found {
                     used: true,
-                    some: true,
-                    alike,
-                    name: x.name,
+                    name: Some(n),
+                    ..x
                 };
-            }
+            };
             Found {
                 used: true,
-                some: true,
-                alike: true,
-                name: n,
+                alike: x.alike & is_same_name(first, n),
+                ..x
             }
         }
     }
@@ -153,39 +170,37 @@ fn least_name(name: u64) -> u64
 }
 
 // All actuals.
-fn found_by(s: &[u8], index: &Index, to: Scope, c: Scope, b: u8) -> Found
-    requires { Ready s.now index.now }
-    ensures { FoundIs (named_as (least_name to.name)) (settlings (formals_at s.now to.head) (need_as s.now to) (λ j. inner_as s.now c (b + j))) (some_uses (need_as s.now to) 0 (formals_at s.now to.head)) result }
+fn found_by(s: Sheet, to: Scope, c: Scope, b: u8) -> Found
+    ensures { FoundIs (named_as (least_name to.name)) (settlings (formals_at s.entry.bytes.now to.head) (need_as s.entry.bytes.now to) (λ j. inner_as s.entry.bytes.now c (b + j))) (some_uses (need_as s.entry.bytes.now to) 0 (formals_at s.entry.bytes.now to.head)) result }
 {
-    let f = field(s, to.head, 3);
+    let formals = field(s.bytes, to.head, 3);
     let mut x = Found {
         used: false,
-        some: false,
         alike: true,
-        name: least_name(to.name),
+        name: None,
     };
-    let mut j: u8 = 0;
-    while j < f {
-        x = found_with(x, actual_settles(s, index, to, c, b, j));
-        j += 1;
+    for j in 0..formals {
+        x = found_with(x, actual_settles(s, to, c, b, j));
     }
     x
 }
 
-// A call with variables from b on, in scope c, of the procedure of scope `to`, in which it reads ?R itself.
-pub fn settled_by(s: &[u8], index: &Index, bounded: bool, to: Scope, c: Scope, b: u8) -> Settled
-    requires { Ready s.now index.now }
-    ensures { (bound : Bound) → BoundOf bound bounded to → Settling (inner_as s.now c) (callee_as s.now bound to) b result }
+// A call with variables from b on, in scope c, of the procedure of scope `to`, in which it reads ?R itself: what a name has. Where no actual settles ?R, the
+// least set is taken.
+pub fn settled_by(s: Sheet, bounded: bool, to: Scope, c: Scope, b: u8) -> Result<u64, SettleError>
+    ensures { (bound : Bound) → BoundOf bound bounded to → Settling (inner_as s.entry.bytes.now c) (callee_as s.entry.bytes.now bound to) b result }
 {
-    if bounded {
-        let x = found_by(s, index, to, c, b);
-        if x.used & x.alike {
-            if is_within(name_rights(to.name), name_rights(x.name)) {
-                return Settled::To(x.name);
-            }
-            return Settled::Short;
-        }
-        return Settled::Unsettled;
+    let least = least_name(to.name);
+    if !bounded {
+        return Ok(least);
     }
-    Settled::To(least_name(to.name))
+    let x = found_by(s, to, c, b);
+    if !(x.used & x.alike) {
+        return Err(SettleError::Unsettled);
+    }
+    let name = x.name.unwrap_or(least);
+    if !is_within(name_rights(to.name), name_rights(name)) {
+        return Err(SettleError::Short);
+    }
+    Ok(name)
 }

@@ -36,4 +36,5 @@ returns-then-shape_in-eq1 t c =
 pub returns : goal.returns
 returns t c =
     let a = c.args in
-    inner_base a.index.now a.j a.i (rw (c.shape_in.ensures, c.type_word-w.ensures) at c.if-shape_in-eq1.false) (omega arith) refl
+    rw (c.from.ensures, c.from-2.ensures)
+    (inner_base a.index.now a.j a.i (rw (c.shape_in.ensures, c.type_word-w.ensures) at c.if-shape_in-eq1.false) (omega arith) refl)

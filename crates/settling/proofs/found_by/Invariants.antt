@@ -1,4 +1,4 @@
-use Prim.Native.Nat.{◌+◌, ◌-◌, ◌≤◌}
+use Prim.Native.Nat.{◌+◌}
 use Rattle.index.specs.Types.{named_as}
 use Rattle.index.specs.Scope.{inner_as, need_as}
 use Rattle.settling.specs.Settles.{least_name}
@@ -6,7 +6,4 @@ use Rattle.settling.proofs.Actuals.{FoundBefore}
 use Rattle.settling.proofs.found_by.Given as goal
 
 abbrev pub invariant-loop-j : goal.invariant-loop-j
-invariant-loop-j l = (l.j ≤ l.f) × FoundBefore (need_as l.s l.to) (λ k. inner_as l.s l.c (l.b + k)) (named_as (least_name l.to.name)) l.j l.x
-
-abbrev pub decreases-loop-j : goal.decreases-loop-j
-decreases-loop-j l = l.f - l.j
+invariant-loop-j l = FoundBefore (need_as l.s.bytes.now l.to) (λ k. inner_as l.s.bytes.now l.c (l.b + k)) (named_as (least_name l.to.name)) l.j l.x
