@@ -1,7 +1,9 @@
 -- What the plain machine plans, by the words that an instruction reads.
-use Rattle.std.proofs.Common.{◌≡◌, ℕ, ◌<◌, ◌≤◌, Bool, true, false, cond, eqb, ltb, ◌⊎◌, List, get_or, sym, refl, ap, ◌∙◌, inl, inr, ltb-true, le-ltb, lt-ltb, eqb-true}
+use Rattle.std.proofs.Common.{◌≡◌, ℕ, ◌<◌, ◌≤◌, Bool, true, false, cond, eqb, ltb, ◌⊎◌, List, get_or, sym, refl, ap, ◌∙◌, inl, inr, Result, Ok, Err, ltb-true, le-ltb, lt-ltb, eqb-true}
 use mathlib.Core.Option.{some}
 use borrow.Author.Tests.{eqb-false}
+use Rattle.model.specs.declared.Halt.{Halt}
+use Rattle.model.specs.declared.Halt.TheVariants.{Blank}
 use Rattle.model.specs.Outcome.{Res, ok, stop, stuck, blank, past_end, ◌>>=◌, ◌>>◌, ensure}
 use Rattle.model.specs.Qualified.{Qual, element as element-type}
 use Rattle.model.specs.Program.{Program}
@@ -9,13 +11,9 @@ use Rattle.model.specs.Modes.{plain, amiss, licence, is_of, bind, bind_element}
 use Rattle.model.specs.Machine.{Value, word, object, Cell, empty, filled, Head, array_head, record_head, no_head, View, Effect, write, store, held, as_integer, array_head_of, record_head_of, array_at, record_at, kind_of, declared_as, moved, give, gives, integers, one_integer, slot_there, plan_size}
 use Rattle.words.specs.Word.{low, payload, size_of, cell, slot_in, as_cell}
 use Rattle.words.specs.Sees.{head_size, Sees}
-use Rattle.words.specs.Answer.{read_as, moved_word}
+use Rattle.words.specs.Answer.{read_filled}
 use Rattle.words.specs.Answers.{MovedOk, InObject, UnlessStuck, halted, moved_to, moving}
 use Rattle.words.proofs.Laws.{blank_word, filled_word, size_word, is_cell, same_size, told_blank, told_filled}
-use Rattle.words.specs.declared.Cell.{Cell as Read}
-use Rattle.words.specs.declared.Cell.TheVariants.{Blank, Filled}
-use Rattle.words.specs.declared.Moved.{Moved}
-use Rattle.words.specs.declared.Moved.TheVariants.{To, Halt}
 
 -- ---- where nothing is claimed
 
@@ -49,11 +47,11 @@ holds q v x w here not0 = by (filled_word plain q w here not0)
     by (inl e) = record { slot = here; value = word (low w); filled = e; kind = inl refl }
     by (inr e) = record { slot = here; value = object (payload w); filled = e; kind = inr refl }
 
-module _ {q : ℕ → Qual} {v : View plain} {f h : List ℕ} (s : Sees plain q v f h) {x w : ℕ} {r : Read} (at : w ≡ get_or f x 0) (is : r ≡ read_as w) where
-  pub blank_there : r ≡ Blank → v.variable x ≡ empty
-  blank_there told = blank_word plain q w (ap (slot_in plain q) at ∙ s.variable x) (told_blank is told)
+module _ {q : ℕ → Qual} {v : View plain} {f h : List ℕ} (s : Sees plain q v f h) {x w : ℕ} {r : Result ℕ Halt} (at : w ≡ get_or f x 0) (is : r ≡ read_filled w) where
+  pub blank_there : {k : Halt} → r ≡ Err k → (k ≡ Blank) × (v.variable x ≡ empty)
+  blank_there told = let k = told_blank is told in (k.0, blank_word plain q w (ap (slot_in plain q) at ∙ s.variable x) k.1)
 
-  pub filled_there : {y : ℕ} → r ≡ Filled y → Holds q v x y
+  pub filled_there : {y : ℕ} → r ≡ Ok y → Holds q v x y
   filled_there {y} told =
       let k = told_filled is told in
       holds q v x y (ap (slot_in plain q) (k.0 ∙ at) ∙ s.variable x) (λ z. k.1 (sym k.0 ∙ z))
@@ -101,7 +99,7 @@ module _ (g : Program) (v : View plain) (a b c : ℕ) (op : ℕ → ℕ → ℕ)
 
 module _ (q : ℕ → Qual) (g : Program) (v : View plain) (t : Qual) (a : ℕ) where
   word_moves : (w : ℕ) {c : Cell plain} → slot_in plain q w ≡ cell c
-      → MovedOk (moved_word w) × (moved_to plain q a (moved_word w) ≡ moving plain g v t a c)
+      → MovedOk (read_filled w) × (moved_to plain q a (read_filled w) ≡ moving plain g v t a c)
   unfolding moved_to halted moved held bind ◌>>=◌
   word_moves w {c} here = by (eqb w 0) refl
     where
@@ -109,13 +107,13 @@ module _ (q : ℕ → Qual) (g : Program) (v : View plain) (t : Qual) (a : ℕ) 
       filled_moves (inl e) = rw (here, e)
       filled_moves (inr e) = rw (here, e)
 
-      by : (z : Bool) → eqb w 0 ≡ z → MovedOk (cond z (Halt 13) (To w)) × (moved_to plain q a (cond z (Halt 13) (To w)) ≡ moving plain g v t a c)
+      by : (z : Bool) → eqb w 0 ≡ z → MovedOk (cond z (Err Blank) (Ok w)) × (moved_to plain q a (cond z (Err Blank) (Ok w)) ≡ moving plain g v t a c)
       by true e = (tt, rw (blank_word plain q w here (eqb-true _ _ e)))
       by false e = (is_cell plain q w here, filled_moves (filled_word plain q w here (eqb-false _ _ e)))
 
   -- the cell of word w, read as u
-  pub moved_is : {c : Cell plain} {r : Moved} {u w : ℕ} {e : Res (Effect plain)}
-      → slot_in plain q w ≡ cell c → u ≡ w → r ≡ moved_word u → e ≡ moving plain g v t a c → MovedOk r × (moved_to plain q a r ≡ e)
+  pub moved_is : {c : Cell plain} {r : Result ℕ Halt} {u w : ℕ} {e : Res (Effect plain)}
+      → slot_in plain q w ≡ cell c → u ≡ w → r ≡ read_filled u → e ≡ moving plain g v t a c → MovedOk r × (moved_to plain q a r ≡ e)
   moved_is {w = w} here at is due = rw (is, at, due) (word_moves w here)
 
 -- ---- the head of the object at o

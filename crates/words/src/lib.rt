@@ -19,6 +19,13 @@ pub struct Stored {
     pub word: u64,
 }
 
+// What an instruction reads of the memory: the running frame's variables and the objects.
+#[derive(Clone, Copy)]
+pub struct Parts<'a> {
+    pub frame: &'a [u64],
+    pub objects: &'a [u64],
+}
+
 // The word at i, 0 (a blank cell) past the end.
 pub fn read(b: &[u64], i: usize) -> u64
     ensures { result ≡ get_or b.now i 0 }

@@ -3,15 +3,15 @@ use Prim.Native.Nat.{ℕ, suc, ◌+◌, ◌-◌, ◌≤◌, ◌<◌}
 use native.Mathlib.Omega.{arith}
 use native.Mathlib.Numerals.{add-one}
 use mathlib.Core.Path.{◌≡◌, refl, sym, ap, ◌∙◌}
-use mathlib.Core.Bool.{Bool, true, false, cond}
 use mathlib.Core.List.{List, [], ◌∷◌, ◌++◌, map, append_assoc, map-append}
 use mathlib.Core.Option.{Option, none, some}
-use borrow.Author.Tests.{eqb-true}
+use Rattle.std.proofs.Common.{Ok, Err}
 use borrow.Rule.Slice.PartMut.{mid_of, put_mid, same_len_mid, mid_len, drop_put}
-use lib.Dec.{eqb}
 use lib.ListN.{length, set, take, drop, replicate, length-set, length-append, length-drop, length-replicate, take-append-drop}
 use lib.Seq.{drop-drop, drop-cons, set_at, take_at, take-set-lt, take-suc-set, drop-set-lt, set-append_left, length-take-le}
-use Rattle.model.specs.Outcome.{Stop, stop_number, blank, past_end, input_ended, output_full, memory_full, wrong_kind, missing_right, Res, ok, stop, stuck, ◌>>=◌}
+use Rattle.model.specs.declared.Halt.{Halt}
+use Rattle.model.specs.declared.Halt.TheVariants.{Blank, PastEnd, InputEnded, OutputFull, MemoryFull, WrongKind, MissingRight}
+use Rattle.model.specs.Outcome.{stop_of, Res, ok, stop, ◌>>=◌}
 use Rattle.model.specs.Qualified.{Qual}
 use Rattle.model.specs.Modes.{Mode, plain, watched, SettledSet, Carried, ElementInfo, TypeInfo, amiss}
 use Rattle.model.specs.Machine as M
@@ -22,7 +22,7 @@ use Rattle.words.specs.Sees.{head_size}
 use Rattle.words.specs.Answers.{halted, InObject}
 use Rattle.words.proofs.Laws.{map_set, slot_zero}
 use Rattle.writers.specs.declared.Registers.{Registers}
-use Rattle.writers.specs.declared.Stepped.TheVariants.{Go, Enter, Halt}
+use Rattle.writers.specs.declared.Next.TheVariants.{Go, Enter}
 use Rattle.writers.specs.Memory.{Given, slots, variables_in, Sane, object_part, GapOnly, Stands, StandsFor, flat_objects, flat_frames}
 use Rattle.writers.specs.Steps.{After, Does, onward, at_next, Allotted}
 use Rattle.writers.proofs.Change.{set_before, set_frame, set_variable, map_take, map_drop, map_replicate}
@@ -31,74 +31,48 @@ use Rattle.writers.proofs.View.{used_is, head_is}
 
 -- ---- a stop
 
-abbrev stops : {A : Type 0} → Mode → (is13 is14 is15 is16 is17 is18 is19 : Bool) → Res A
-stops m is13 is14 is15 is16 is17 is18 is19 =
-    cond is13 (stop blank)
-    (cond is14 (stop past_end)
-    (cond is15 (stop input_ended)
-    (cond is16 (stop output_full)
-    (cond is17 (stop memory_full)
-    (cond is18 (amiss m)
-    (cond is19 (stop missing_right)
-    stuck))))))
-
 amiss_then : {A B : Type 0} (m : Mode) (f : A → Res B) → amiss m >>= f ≡ amiss m
 unfolding amiss ◌>>=◌
 amiss_then plain f = refl
 amiss_then watched f = refl
 
-pub halted_then : {A B : Type 0} (m : Mode) (k : ℕ) (f : A → Res B) → halted m k >>= f ≡ halted m k
+pub halted_then : {A B : Type 0} (m : Mode) (k : Halt) (f : A → Res B) → halted m k >>= f ≡ halted m k
 unfolding halted ◌>>=◌
-halted_then m k f = go (eqb k 13) (eqb k 14) (eqb k 15) (eqb k 16) (eqb k 17) (eqb k 18) (eqb k 19)
-  where
-    go : (is13 is14 is15 is16 is17 is18 is19 : Bool)
-        → stops m is13 is14 is15 is16 is17 is18 is19 >>= f ≡ stops m is13 is14 is15 is16 is17 is18 is19
-    go true is14 is15 is16 is17 is18 is19 = refl
-    go false true is15 is16 is17 is18 is19 = refl
-    go false false true is16 is17 is18 is19 = refl
-    go false false false true is17 is18 is19 = refl
-    go false false false false true is18 is19 = refl
-    go false false false false false true is19 = amiss_then m f
-    go false false false false false false true = refl
-    go false false false false false false false = refl
+halted_then m Blank f = refl
+halted_then m PastEnd f = refl
+halted_then m InputEnded f = refl
+halted_then m OutputFull f = refl
+halted_then m MemoryFull f = refl
+halted_then m WrongKind f = amiss_then m f
+halted_then m MissingRight f = refl
 
-pub stopped_after : (m : Mode) (c : Given) (words out : List ℕ) (r : Registers) (t : State m) → StandsFor m c words out r t
-    → (k : ℕ) (x : Stop) → k ≡ stop_number x → After m c words out out r t (Halt k) (stop x)
-stopped_after m c words out r t S k x e = record { number = e; output_kept = refl; still = S }
+module _ (m : Mode) (c : Given) (words out : List ℕ) (r : Registers) (t : State m) (S : StandsFor m c words out r t) where
+  pub stopped_after : (k : Halt) → After m c words out out r t (Err k) (stop (stop_of k))
+  stopped_after k = record { halts = refl; output_kept = refl; still = S }
 
-amiss_after : (m : Mode) (c : Given) (words out : List ℕ) (r : Registers) (t : State m) → StandsFor m c words out r t
-    → (k : ℕ) → k ≡ 18 → After m c words out out r t (Halt k) (amiss m)
+pub amiss_after : (m : Mode) (c : Given) (words out : List ℕ) (r : Registers) (t : State m) → StandsFor m c words out r t
+    → After m c words out out r t (Err WrongKind) (amiss m)
 unfolding amiss
-amiss_after plain c words out r t S k e = tt
-amiss_after watched c words out r t S k e = stopped_after watched c words out r t S k wrong_kind e
+amiss_after plain c words out r t S = tt
+amiss_after watched c words out r t S = stopped_after watched c words out r t S WrongKind
 
 pub halted_after : (m : Mode) (c : Given) (words out : List ℕ) (r : Registers) (t : State m) → StandsFor m c words out r t
-    → (k : ℕ) → After m c words out out r t (Halt k) (halted m k)
+    → (k : Halt) → After m c words out out r t (Err k) (halted m k)
 unfolding halted
-halted_after m c words out r t S k =
-    go (eqb k 13) (eqb k 14) (eqb k 15) (eqb k 16) (eqb k 17) (eqb k 18) (eqb k 19) refl refl refl refl refl refl refl
-  where
-    is : (x : Stop) → eqb k (stop_number x) ≡ true → After m c words out out r t (Halt k) (stop x)
-    is x e = stopped_after m c words out r t S k x (eqb-true _ _ e)
+halted_after m c words out r t S Blank = stopped_after m c words out r t S Blank
+halted_after m c words out r t S PastEnd = stopped_after m c words out r t S PastEnd
+halted_after m c words out r t S InputEnded = stopped_after m c words out r t S InputEnded
+halted_after m c words out r t S OutputFull = stopped_after m c words out r t S OutputFull
+halted_after m c words out r t S MemoryFull = stopped_after m c words out r t S MemoryFull
+halted_after m c words out r t S WrongKind = amiss_after m c words out r t S
+halted_after m c words out r t S MissingRight = stopped_after m c words out r t S MissingRight
 
-    go : (is13 is14 is15 is16 is17 is18 is19 : Bool)
-        → eqb k 13 ≡ is13 → eqb k 14 ≡ is14 → eqb k 15 ≡ is15 → eqb k 16 ≡ is16 → eqb k 17 ≡ is17 → eqb k 18 ≡ is18 → eqb k 19 ≡ is19
-        → After m c words out out r t (Halt k) (stops m is13 is14 is15 is16 is17 is18 is19)
-    go true is14 is15 is16 is17 is18 is19 e13 e14 e15 e16 e17 e18 e19 = is blank e13
-    go false true is15 is16 is17 is18 is19 e13 e14 e15 e16 e17 e18 e19 = is past_end e14
-    go false false true is16 is17 is18 is19 e13 e14 e15 e16 e17 e18 e19 = is input_ended e15
-    go false false false true is17 is18 is19 e13 e14 e15 e16 e17 e18 e19 = is output_full e16
-    go false false false false true is18 is19 e13 e14 e15 e16 e17 e18 e19 = is memory_full e17
-    go false false false false false true is19 e13 e14 e15 e16 e17 e18 e19 = amiss_after m c words out r t S k (eqb-true _ _ e18)
-    go false false false false false false true e13 e14 e15 e16 e17 e18 e19 = is missing_right e19
-    go false false false false false false false e13 e14 e15 e16 e17 e18 e19 = tt
-
-pub does_halt : (m : Mode) (c : Given) (words out : List ℕ) (r : Registers) (k : ℕ) → Does m c words words out out r (Halt k) (halted m k)
+pub does_halt : (m : Mode) (c : Given) (words out : List ℕ) (r : Registers) (k : Halt) → Does m c words words out out r (Err k) (halted m k)
 does_halt m c words out r k t S = rw halted_then (halted_after m c words out r t S k)
 
-pub does_stop : (m : Mode) (c : Given) (words out : List ℕ) (r : Registers) (x : Stop) → Does m c words words out out r (Halt (stop_number x)) (stop x)
+pub does_stop : (m : Mode) (c : Given) (words out : List ℕ) (r : Registers) (k : Halt) → Does m c words words out out r (Err k) (stop (stop_of k))
 unfolding ◌>>=◌
-does_stop m c words out r x t S = stopped_after m c words out r t S (stop_number x) x refl
+does_stop m c words out r k t S = stopped_after m c words out r t S k
 
 -- ---- the gap
 
@@ -252,27 +226,27 @@ module _ {m : Mode} {c : Given} {words out : List ℕ} {r : Registers} {p i : �
   went next j e = goes_on S words next j r.used vs os e refl S.sane.room refl S.objects S.frames
 
 pub does_write : (m : Mode) (c : Given) (words words' out : List ℕ) (r : Registers) (a : ℕ) (d : Cell m) → Put (slot_in m (qual_of c.sheet)) words words' r a (cell d)
-    → Does m c words words' out out r (Go (at_next r (r.next + 1))) (ok (M.write a d))
+    → Does m c words words' out out r (Ok (Go (at_next r (r.next + 1)))) (ok (M.write a d))
 unfolding apply ◌>>=◌
 does_write m c words words' out r a d P (state (frame p i z vs) fs os input put) S = (refl, (refl, wrote S words' a d P))
 
 pub does_take : (m : Mode) (c : Given) (words words' out : List ℕ) (r : Registers) (a : ℕ) (d : Cell m) → Put (slot_in m (qual_of c.sheet)) words words' r a (cell d)
-    → Does m c words words' out out r (Enter (onward r (r.next + 1) r.used (r.taken + 1) r.put)) (ok (M.take a d))
+    → Does m c words words' out out r (Ok (Enter (onward r (r.next + 1) r.used (r.taken + 1) r.put))) (ok (M.take a d))
 unfolding apply ◌>>=◌
 does_take m c words words' out r a d P (state (frame p i z vs) fs os input put) S = took (wrote S words' a d P)
 
 pub does_skip : (m : Mode) (c : Given) (words out : List ℕ) (r : Registers)
-    → Does m c words words out out r (Go (at_next r (r.next + 1))) (ok M.skip)
+    → Does m c words words out out r (Ok (Go (at_next r (r.next + 1)))) (ok M.skip)
 unfolding apply ◌>>=◌
 does_skip m c words out r (state (frame p i z vs) fs os input put) S = (refl, (refl, went S (r.next + 1) (suc i) (add-one r.next ∙ ap suc S.next)))
 
 pub does_jump : (m : Mode) (c : Given) (words out : List ℕ) (r : Registers) (k : ℕ)
-    → Does m c words words out out r (Go (at_next r k)) (ok (M.jump k))
+    → Does m c words words out out r (Ok (Go (at_next r k))) (ok (M.jump k))
 unfolding apply ◌>>=◌
 does_jump m c words out r k (state (frame p i z vs) fs os input put) S = (refl, (refl, went S k k refl))
 
 pub does_put : (m : Mode) (c : Given) (words out : List ℕ) (r : Registers) (x : ℕ) → r.put < length out
-    → Does m c words words out (set out r.put x) r (Enter (onward r (r.next + 1) r.used r.taken (r.put + 1))) (ok (M.put x))
+    → Does m c words words out (set out r.put x) r (Ok (Enter (onward r (r.next + 1) r.used r.taken (r.put + 1)))) (ok (M.put x))
 unfolding apply ◌>>=◌
 does_put m c words out r x h (state (frame p i z vs) fs os input put) S =
     put_one (went S (r.next + 1) (suc i) (add-one r.next ∙ ap suc S.next)) x h
@@ -320,7 +294,7 @@ module _ {m : Mode} {c : Given} {words out : List ℕ} {r : Registers} {p i : �
 
 pub does_store : (m : Mode) (c : Given) (words words' out : List ℕ) (r : Registers) (a j w : ℕ) (d : Cell m) → slot_in m (qual_of c.sheet) w ≡ cell d → InObject (object_part r words) a j
     → words' ≡ set (object_part r words) (a + 1 + j) w ++ drop r.used words
-    → Does m c words words' out out r (Go (at_next r (r.next + 1))) (ok (M.store a j d))
+    → Does m c words words' out out r (Ok (Go (at_next r (r.next + 1)))) (ok (M.store a j d))
 unfolding apply ◌>>=◌
 does_store m c words words' out r a j w d is I e (state (frame p i z vs) fs os input put) S = (refl, (refl, stored_at S words' a j w d is I e))
 
@@ -411,13 +385,13 @@ module _ {m : Mode} {c : Given} {words out : List ℕ} {r : Registers} {p i : �
 module _ (m : Mode) (c : Given) (words words' out : List ℕ) (r : Registers) (a w n v : ℕ) (k : Carried m) (room : r.used + (n + 1) ≤ r.base)
     (named : slot_in m (qual_of c.sheet) v ≡ cell (filled (object r.used) k)) (A : Allotted m (qual_of c.sheet) words words' r a w n v) where
   pub does_array : (e : ElementInfo m) → slot_in m (qual_of c.sheet) w ≡ head (M.array_head e n)
-      → Does m c words words' out out r (Enter (onward r (r.next + 1) (r.used + (n + 1)) r.taken r.put)) (ok (M.new_array a e n k))
+      → Does m c words words' out out r (Ok (Enter (onward r (r.next + 1) (r.used + (n + 1)) r.taken r.put))) (ok (M.new_array a e n k))
   unfolding apply ◌>>=◌
   does_array e is (state (frame p i z vs) fs os input put) S =
       made S words' a w n v (array_of e (replicate n empty)) k room (rw length-replicate is) named refl A
 
   pub does_record : (t : TypeInfo m) → slot_in m (qual_of c.sheet) w ≡ head (M.record_head t n)
-      → Does m c words words' out out r (Enter (onward r (r.next + 1) (r.used + (n + 1)) r.taken r.put)) (ok (M.new_record a t n k))
+      → Does m c words words' out out r (Ok (Enter (onward r (r.next + 1) (r.used + (n + 1)) r.taken r.put))) (ok (M.new_record a t n k))
   unfolding apply ◌>>=◌
   does_record t is (state (frame p i z vs) fs os input put) S =
       made S words' a w n v (record_of t (replicate n empty)) k room (rw length-replicate is) named refl A

@@ -9,7 +9,5 @@ use Rattle.plain_plan.proofs.moved_at.Goals as goal
 pub returns : goal.returns
 unfolding plan
 returns c =
-    let args = c.args in
-    let word_at = c.word_at in
-    let filled_word = c.filled_word in
-    λ q g v h a s. claimed (plan plain g v (Bind a args.x)) (moved_is q g v (declared_as plain g v a) a (s.variable args.x) word_at.ensures filled_word.ensures refl)
+    let x = c.args.x in
+    λ q g v h a s. claimed (plan plain g v (Bind a x)) (moved_is q g v (declared_as plain g v a) a (s.variable x) c.word_at.ensures c.filled.ensures refl)
