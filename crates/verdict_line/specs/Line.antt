@@ -1,6 +1,6 @@
 -- What the checking program writes: a word, a number and a place in decimal, parted by one space, and the end of the line.
-use Rattle.model.specs.Refusal.{Accepted, Refused, Verdict}
-use Rattle.std.specs.Prelude.{ℕ, zero, suc, ◌+◌, ◌/◌, ◌%◌, cond, List, [], ◌∷◌, ◌++◌, ltb}
+use Rattle.model.specs.Refusal.{Verdict, refusal_number}
+use Rattle.std.specs.Prelude.{ℕ, zero, suc, ◌+◌, ◌/◌, ◌%◌, cond, List, [], ◌∷◌, ◌++◌, ltb, Ok, Err}
 use Prim.Native.String.{String, [] as no_text, ◌∷◌ as ◌then◌}
 use Prim.Native.Char.{code}
 
@@ -20,5 +20,5 @@ decimal n = digits_within 20 n
 
 -- "The word, the number and the place are parted by one space; an accepted sheet is `accepted 0 0`."
 unfoldable pub line : Verdict → List ℕ
-line Accepted = ascii "accepted 0 0\n"
-line (Refused number place) = ascii "refused " ++ decimal number ++ ascii " " ++ decimal place ++ ascii "\n"
+line (Ok u) = ascii "accepted 0 0\n"
+line (Err r) = ascii "refused " ++ decimal (refusal_number r.reason) ++ ascii " " ++ decimal r.place ++ ascii "\n"

@@ -1,12 +1,11 @@
 // A verdict as the checking program writes it: one line, made whole before it is written.
 #![tactic(auto)]
 
-ghost use Rattle.model.specs.Refusal.{Refused};
 ghost use Rattle.std.specs.Prelude.{◌+◌, ◌≤◌, ◌≡◌, ◌++◌, length, take};
 ghost use Rattle.io.specs.Counts.{IsPrefixLen};
 ghost use Rattle.verdict_line.specs.Line.{decimal, line};
 
-use model::Verdict;
+use model::{Refusal, Verdict};
 
 // No line is longer: twenty digits hold every number.
 pub const LINE_BYTES: usize = 64;
@@ -23,6 +22,7 @@ fn append(out: &mut [u8], at: usize, part: &[u8]) -> usize
 }
 
 // Puts a number after the first `at` bytes of the line, in decimal, and gives how many it has then.
+#[tactic(auto, using(crate::proofs::Digits::few, crate::proofs::Digits::digits_decimal))]
 fn append_decimal(out: &mut [u8], at: usize, n: u64) -> usize
     requires { at + 20 ≤ length out.old }
     ensures upper_bound { result ≤ at + 20 }
@@ -34,24 +34,26 @@ fn append_decimal(out: &mut [u8], at: usize, n: u64) -> usize
 }
 
 // Puts the line of a verdict at the start of what is lent, and gives how many bytes it has.
+#[tactic(auto, unfolding(crate::specs::Line::ascii, crate::specs::Line::line))]
 pub fn put_line(v: Verdict, out: &mut [u8; LINE_BYTES]) -> usize
     ensures prefix_len { IsPrefixLen result out.new }
     ensures out_after { take result out.new ≡ line v }
 {
     match v {
-        Verdict::Accepted => append(out, 0, b"accepted 0 0\n"),
-        Verdict::Refused(number, place) => put_refusal(number, place, out),
+        Ok(()) => append(out, 0, b"accepted 0 0\n"),
+        Err(r) => put_refusal(r, out),
     }
 }
 
-fn put_refusal(number: u8, place: usize, out: &mut [u8]) -> usize
+#[tactic(auto, unfolding(crate::specs::Line::ascii, crate::specs::Line::line))]
+fn put_refusal(r: Refusal, out: &mut [u8]) -> usize
     requires { 64 ≤ length out.old }
     ensures upper_bound { result ≤ length out.old }
-    ensures out_after { take result out.new ≡ line (Refused number place) }
+    ensures out_after { take result out.new ≡ line (Err r) }
 {
     let word = append(out, 0, b"refused ");
-    let numbered = append_decimal(out, word, number as u64);
+    let numbered = append_decimal(out, word, u64::from(r.reason.number()));
     let parted = append(out, numbered, b" ");
-    let placed = append_decimal(out, parted, place as u64);
+    let placed = append_decimal(out, parted, r.place as u64);
     append(out, placed, b"\n")
 }
