@@ -7,7 +7,7 @@ ghost use Rattle.model.specs.Rights.{within};
 ghost use Rattle.model.specs.Qualified.{same, order, elements};
 ghost use Rattle.model.specs.Refusal.{failure};
 ghost use Rattle.model.specs.Rules.{moves, owned_by, amplifies};
-ghost use Rattle.index.specs.Types.{word_in, shape_of, rights_of, element_below, qual_in, type_in, word_as};
+ghost use Rattle.index.specs.Types.{word_in, shape_of, rights_of, element_below, qual_in, type_in, word_as, UsesTold};
 ghost use Rattle.order.specs.Words.{same_heads, alike_heads, covered_heads, type_of, ElementThere};
 
 use index::Index;
@@ -189,29 +189,39 @@ fn movement_of_words(index: &Index, m: u64, i: u8, n: u64, j: u8) -> Result<(), 
 }
 
 // A QT read alike as two names, as one without ?R always is.
-fn is_read_alike(s: Sheet, m: u64, n: u64, i: u8) -> bool
-    ensures { result ≡ true → type_in s.entry.index.now m i ≡ type_in s.entry.index.now n i }
+fn is_read_alike(index: &Index, m: u64, n: u64, i: u8) -> bool
+    requires { UsesTold index.now }
+    ensures { result ≡ true → type_in index.now m i ≡ type_in index.now n i }
 {
-    (m == n) | !uses_name(s.index, i)
+    (m == n) | !uses_name(index, i)
 }
 
 // The refusal of a movement from QT i to QT j: of type, then of rights; none where the type moves to itself. Two calls, so that the compiler keeps the words
 // out of the way of most movements, which are of one type.
+pub fn movement_in(index: &Index, m: u64, i: u8, n: u64, j: u8) -> Result<(), Reason>
+    requires { UsesTold index.now }
+    ensures { result ≡ failure (moves (type_in index.now m i) (type_in index.now n j)) }
+{
+    if i == j {
+        if is_read_alike(index, m, n, i) {
+            return Ok(());
+        }
+        return movement_of_words(index, m, i, n, i);
+    }
+    movement_of_words(index, m, i, n, j)
+}
+
+// The same in a sheet's index, which tells of ?R.
 pub fn movement(s: Sheet, m: u64, i: u8, n: u64, j: u8) -> Result<(), Reason>
     ensures { result ≡ failure (moves (type_in s.entry.index.now m i) (type_in s.entry.index.now n j)) }
 {
-    if i == j {
-        if is_read_alike(s, m, n, i) {
-            return Ok(());
-        }
-        return movement_of_words(s.index, m, i, n, i);
-    }
-    movement_of_words(s.index, m, i, n, j)
+    movement_in(s.index, m, i, n, j)
 }
 
 // QT i ≥ QT j.
-pub fn is_above(s: Sheet, m: u64, i: u8, n: u64, j: u8) -> bool
-    ensures { result ≡ order (type_in s.entry.index.now m i) (type_in s.entry.index.now n j) }
+pub fn is_above(index: &Index, m: u64, i: u8, n: u64, j: u8) -> bool
+    requires { UsesTold index.now }
+    ensures { result ≡ order (type_in index.now m i) (type_in index.now n j) }
 {
-    movement(s, m, i, n, j).is_ok()
+    movement_in(index, m, i, n, j).is_ok()
 }

@@ -5,4 +5,4 @@ use Rattle.model.proofs.Order.{moves_order}
 use Rattle.order.proofs.is_above.Goals as goal
 
 pub returns : goal.returns
-returns c = c.is_ok.ensures.value ∙ ap is_ok c.movement.ensures ∙ moves_order _ _
+returns c = c.is_ok.ensures.value ∙ ap is_ok c.movement_in.ensures ∙ moves_order _ _
