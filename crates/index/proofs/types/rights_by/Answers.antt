@@ -1,10 +1,9 @@
 -- An integer has no rights; of any other type they stand in its word.
 use mathlib.Core.Path.{sym, ◌∙◌}
-use borrow.Author.Tests.{ne_eqb}
 use Rattle.index.proofs.types.rights_by.Goals as goal
 
-pub returns-then-shape_in-eq0 : goal.returns-then-shape_in-eq0
-returns-then-shape_in-eq0 c = rw (sym c.shape_in.ensures ∙ c.if-shape_in-eq0.true)
+pub returns-then-is_integer_type : goal.returns-then-is_integer_type
+returns-then-is_integer_type c = rw (sym c.is_integer_type.ensures ∙ c.if-is_integer_type.true)
 
 pub returns : goal.returns
-returns c = rw (c.rights_in.ensures, sym c.shape_in.ensures, ne_eqb _ _ c.if-shape_in-eq0.false)
+returns c = rw (c.rights_in.ensures, sym c.is_integer_type.ensures ∙ c.if-is_integer_type.false)
