@@ -7,7 +7,7 @@ ghost use Rattle.std.specs.Fmt.{DisplaysOnOk};
 ghost use Rattle.io.specs.Counts.{IsPrefixLen};
 ghost use Rattle.verdict_line.specs.Line.{decimal, line};
 
-use model::{Reason, Refusal, Verdict};
+use model::{Reason, Verdict};
 use std::fmt;
 
 // No line is longer: twenty digits hold every number.
@@ -45,21 +45,14 @@ pub fn put_line(v: Verdict, out: &mut [u8; LINE_BYTES]) -> usize
 {
     match v {
         Ok(()) => append(out, 0, b"accepted 0 0\n"),
-        Err(r) => put_refusal(r, out),
+        Err(r) => {
+            let word = append(out, 0, b"refused ");
+            let numbered = append_decimal(out, word, u64::from(r.reason.number()));
+            let parted = append(out, numbered, b" ");
+            let placed = append_decimal(out, parted, r.place as u64);
+            append(out, placed, b"\n")
+        }
     }
-}
-
-#[tactic(auto, unfolding(crate::specs::Line::ascii, crate::specs::Line::line))]
-fn put_refusal(r: Refusal, out: &mut [u8]) -> usize
-    requires { 64 ≤ length out.old }
-    ensures upper_bound { result ≤ length out.old }
-    ensures out_after { take result out.new ≡ line (Err r) }
-{
-    let word = append(out, 0, b"refused ");
-    let numbered = append_decimal(out, word, u64::from(r.reason.number()));
-    let parted = append(out, numbered, b" ");
-    let placed = append_decimal(out, parted, r.place as u64);
-    append(out, placed, b"\n")
 }
 
 // A verdict, shown as its line.
