@@ -1,12 +1,12 @@
 -- Accepted sheets, to which condition 3 applies, and how they run, so that what it supposes is seen to be met. The first two use all seventeen codes.
 -- Bytes in decimal, one record a line; 255 is none or unused.
+use Rattle.model.specs.Refusal.{Accepted}
 use Rattle.std.specs.Prelude.{ℕ, ◌≡◌, List, [], ◌∷◌}
 use Rattle.model.specs.Qualified.{declared}
 use Rattle.model.specs.Outcome.{done, past_end}
 use Rattle.model.specs.Modes.{plain, watched}
 use Rattle.model.specs.Machine.{word, object, empty, filled, array_of, record_of, frame}
 use Rattle.model.specs.Run.{End, stopped, Snapshot, snapshot, run, state_after}
-use Rattle.model.specs.declared.Verdict.TheVariants.{Accepted}
 use Rattle.sheet.specs.Meaning.{program_of}
 use Rattle.checking.specs.Check.{check}
 

@@ -1,12 +1,13 @@
 -- Document 02, S-5: one program in both editions, with the highest right that each has, 15 or 31. All that is claimed is claimed once, over the edition.
 -- Bytes in decimal, one record a line; 255 is none or unused.
+use Rattle.model.specs.Refusal.{Accepted, Refused}
 use Rattle.std.specs.Prelude.{ℕ, ◌+◌, ◌^◌, ◌≡◌, List, [], ◌∷◌, ◌++◌}
 use Rattle.model.specs.Qualified.{declared}
 use Rattle.model.specs.Outcome.{done}
 use Rattle.model.specs.Modes.{watched}
 use Rattle.model.specs.Machine.{word, object, empty, filled, array_of, record_of, frame}
+use Rattle.model.specs.declared.Reason.TheVariants.{BadEdition}
 use Rattle.model.specs.Run.{stopped, Snapshot, snapshot, state_after}
-use Rattle.model.specs.declared.Verdict.TheVariants.{Accepted, Refused}
 use Rattle.sheet.specs.Meaning.{program_of}
 use Rattle.checking.specs.Check.{check}
 use Rattle.cases.specs.Accepted.{Runs}
@@ -22,8 +23,8 @@ smallest_in edition =
 pub record Editions : Type 0 where
   pub first : check (smallest_in 1) ≡ Accepted
   pub second : check (smallest_in 2) ≡ Accepted
-  pub none : check (smallest_in 0) ≡ Refused 4 0
-  pub third : check (smallest_in 3) ≡ Refused 4 0
+  pub none : check (smallest_in 0) ≡ Refused BadEdition 0
+  pub third : check (smallest_in 3) ≡ Refused BadEdition 0
 
 -- ---- A call is made, stored, handed to a procedure for any rights, fetched, and read in its own module. `set` gives the bytes of a set of rights
 -- by its lowest byte, `sealed` those with the highest right besides.

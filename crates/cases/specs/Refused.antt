@@ -4,18 +4,19 @@
 use Rattle.std.specs.Prelude.{ℕ, ◌≡◌, List, [], ◌∷◌}
 use Rattle.model.specs.Outcome.{done, wrong_kind, missing_right}
 use Rattle.model.specs.Modes.{plain, watched}
-use Rattle.model.specs.Refusal.{verdict}
+use Rattle.model.specs.Refusal.{Accepted, Refused, verdict}
+use Rattle.model.specs.declared.Reason.{Reason}
+use Rattle.model.specs.declared.Reason.TheVariants.{TypeMismatch, InsufficientRights, Unsettled, ShortSet}
 use Rattle.model.specs.Run.{End, stopped, stuck_at, run}
-use Rattle.model.specs.declared.Verdict.TheVariants.{Accepted, Refused}
 use Rattle.sheet.specs.Meaning.{program_of}
 use Rattle.form.specs.WellFormed.{form_tests}
 use Rattle.checking.specs.Check.{check}
 
--- a sheet that watch runs and that check refuses with a number at a place, and how each machine ends on it, in 20 words of memory, with nothing to read and
+-- a sheet that watch runs and that check refuses for a reason at a place, and how each machine ends on it, in 20 words of memory, with nothing to read and
 -- no word of output
-pub record Parts (sheet : List ℕ) (number place : ℕ) (by_plain by_watched : End) : Type 0 where
+pub record Parts (sheet : List ℕ) (reason : Reason) (place : ℕ) (by_plain by_watched : End) : Type 0 where
   pub well_formed : verdict (form_tests sheet) ≡ Accepted
-  pub refused : check sheet ≡ Refused number place
+  pub refused : check sheet ≡ Refused reason place
   pub on_plain : run plain (program_of sheet) 20 0 [] 100 ≡ by_plain
   pub on_watched : run watched (program_of sheet) 20 0 [] 100 ≡ by_watched
 
@@ -35,7 +36,7 @@ array_put =
     []
 
 abbrev pub ArrayPut : Type 0
-ArrayPut = Parts array_put 8 50 (stuck_at 2 [] 0 2) (stopped wrong_kind 2 [] 0 2)
+ArrayPut = Parts array_put TypeMismatch 50 (stuck_at 2 [] 0 2) (stopped wrong_kind 2 [] 0 2)
 
 -- ---- "or the reverse"
 unfoldable pub integer_sized : List ℕ
@@ -50,7 +51,7 @@ integer_sized =
     []
 
 abbrev pub IntegerSized : Type 0
-IntegerSized = Parts integer_sized 8 32 (stuck_at 1 [] 0 1) (stopped wrong_kind 1 [] 0 1)
+IntegerSized = Parts integer_sized TypeMismatch 32 (stuck_at 1 [] 0 1) (stopped wrong_kind 1 [] 0 1)
 
 -- ---- an array is due and a record found
 unfoldable pub record_sized : List ℕ
@@ -72,7 +73,7 @@ record_sized =
     []
 
 abbrev pub RecordSized : Type 0
-RecordSized = Parts record_sized 8 54 (stuck_at 3 [] 0 1) (stopped wrong_kind 3 [] 0 1)
+RecordSized = Parts record_sized TypeMismatch 54 (stuck_at 3 [] 0 1) (stopped wrong_kind 3 [] 0 1)
 
 -- ---- "or the reverse"
 unfoldable pub array_opened : List ℕ
@@ -94,7 +95,7 @@ array_opened =
     []
 
 abbrev pub ArrayOpened : Type 0
-ArrayOpened = Parts array_opened 8 86 (stuck_at 3 [] 1 2) (stopped wrong_kind 3 [] 1 2)
+ArrayOpened = Parts array_opened TypeMismatch 86 (stuck_at 3 [] 1 2) (stopped wrong_kind 3 [] 1 2)
 
 -- ---- a record has no such slot: one of type 2, which has none, in a procedure of type 3, which has one
 unfoldable pub stranger_opened : List ℕ
@@ -121,7 +122,7 @@ stranger_opened =
     []
 
 abbrev pub StrangerOpened : Type 0
-StrangerOpened = Parts stranger_opened 8 122 (stuck_at 4 [] 2 0) (stopped wrong_kind 4 [] 2 0)
+StrangerOpened = Parts stranger_opened TypeMismatch 122 (stuck_at 4 [] 2 0) (stopped wrong_kind 4 [] 2 0)
 
 -- ---- a kept result has no value: the watched machine stops at the call, the plain one is stuck at the return
 unfoldable pub nothing_kept : List ℕ
@@ -137,7 +138,7 @@ nothing_kept =
     []
 
 abbrev pub NothingKept : Type 0
-NothingKept = Parts nothing_kept 8 24 (stuck_at 1 [] 1 0) (stopped wrong_kind 0 [] 0 0)
+NothingKept = Parts nothing_kept TypeMismatch 24 (stuck_at 1 [] 1 0) (stopped wrong_kind 0 [] 0 0)
 
 -- ---- a right is lacking: the watched machine stops with 19, the plain one tests no right and is done
 unfoldable pub stored_unlicensed : List ℕ
@@ -156,7 +157,7 @@ stored_unlicensed =
     []
 
 abbrev pub StoredUnlicensed : Type 0
-StoredUnlicensed = Parts stored_unlicensed 9 58 (stopped done 5 [] 0 4) (stopped missing_right 3 [] 0 3)
+StoredUnlicensed = Parts stored_unlicensed InsufficientRights 58 (stopped done 5 [] 0 4) (stopped missing_right 3 [] 0 3)
 
 -- ---- document 02, S-1: two actuals settle ?R differently; "watch stops there with 18", while the plain machine reads no type and is done
 unfoldable pub two_settlings : List ℕ
@@ -187,7 +188,7 @@ two_settlings =
     []
 
 abbrev pub TwoSettlings : Type 0
-TwoSettlings = Parts two_settlings 20 104 (stopped done 6 [] 0 4) (stopped wrong_kind 3 [] 0 3)
+TwoSettlings = Parts two_settlings Unsettled 104 (stopped done 6 [] 0 4) (stopped wrong_kind 3 [] 0 3)
 
 -- ---- S-1: the settled set lacks a least right; "with 19"
 unfoldable pub short_settling : List ℕ
@@ -215,7 +216,7 @@ short_settling =
     []
 
 abbrev pub ShortSettling : Type 0
-ShortSettling = Parts short_settling 21 92 (stopped done 5 [] 0 3) (stopped missing_right 2 [] 0 2)
+ShortSettling = Parts short_settling ShortSet 92 (stopped done 5 [] 0 3) (stopped missing_right 2 [] 0 2)
 
 -- ---- S-3: the reader of Accepted.antt with store, which is the incident: the plain machine would go on
 unfoldable pub storing_reader : List ℕ
@@ -254,4 +255,4 @@ storing_reader =
     []
 
 abbrev pub StoringReader : Type 0
-StoringReader = Parts storing_reader 8 112 (stopped done 13 [] 0 7) (stopped wrong_kind 7 [] 0 5)
+StoringReader = Parts storing_reader TypeMismatch 112 (stopped done 13 [] 0 7) (stopped wrong_kind 7 [] 0 5)

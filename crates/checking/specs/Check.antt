@@ -1,8 +1,7 @@
 -- What `check` says of any bytes: the first of refusals 1 to 9, 20 and 21 in the papers' order, or accepted.
 use Rattle.std.specs.Prelude.{ℕ, ◌<◌, ◌≡◌, Bool, ◌||◌, List, ◌++◌, length}
-use Rattle.model.specs.Refusal.{Tests, between, Gives, verdict}
+use Rattle.model.specs.Refusal.{Verdict, Tests, between, Gives, verdict}
 use Rattle.model.specs.Rules.{access_rules}
-use Rattle.model.specs.declared.Verdict.{Verdict}
 use Rattle.sheet.specs.Meaning.{program_of, place_of}
 use Rattle.form.specs.WellFormed.{form_tests}
 

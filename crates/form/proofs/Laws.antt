@@ -9,8 +9,9 @@ use lib.ListN.{length, get_or}
 use lib.Dec.{eqb}
 use borrow.Author.Count.{below_more}
 use borrow.Author.Tests.{leb-true, ltb-true, eq-eqb, ne_eqb, le-leb, lt-ltb, le-ltb}
-use Rattle.model.specs.Refusal.{Torn, StrayMark, BadEdition, OffScale, Tests, tests, failure, verdict, each}
-use Rattle.model.specs.declared.Verdict.TheVariants.{Accepted}
+use Rattle.model.specs.Refusal.{Accepted, Tests, tests, failure, verdict, each}
+use Rattle.model.specs.declared.Reason.TheVariants.{Torn, StrayMark, BadEdition, OffScale}
+use Rattle.std.specs.Prelude.{Ok, Err}
 use Rattle.model.proofs.Verdicts.{left_accepted, right_accepted, accepted_tests, passed_test, both_true, all_held}
 use Rattle.sheet.specs.Bytes.{byte_at, word_at, whole_at, Mark, mark, marked_at}
 use Rattle.sheet.specs.Layout.{hd_mark, edition_of, types_of, quals_of, procedures_of, formals_at, variables_field, instructions_at, is_bounded, start_from, instruction_from, code_at, k_at, procedure_at, start_at}
@@ -125,17 +126,17 @@ header_small s h =
 
 -- the tests of a call, from what was read: no call, no such procedure, and else its actuals
 module _ (s : List ℕ) (v at : ℕ) where
-  pub call_none : (code : ℕ) → code ≡ byte_at s at 2 → (code ≡ 16 → ⊥) → 0 ≡ failure (call_tests_at s v at)
+  pub call_none : (code : ℕ) → code ≡ byte_at s at 2 → (code ≡ 16 → ⊥) → Ok tt ≡ failure (call_tests_at s v at)
   unfolding call_tests_at code_at failure
   call_none code e h = rw (← e, ne_eqb code 16 h)
 
   module _ (code k p : ℕ) (e : code ≡ byte_at s at 2) (c : code ≡ 16) (d : k ≡ word_at s at 6) (q : p ≡ byte_at s 0 5) where
-    pub call_outside : p ≤ k → 5 ≡ failure (call_tests_at s v at)
+    pub call_outside : p ≤ k → Err OffScale ≡ failure (call_tests_at s v at)
     unfolding call_tests_at code_at k_at procedures_of failure
     call_outside h = rw (← e, eq-eqb code 16 c, ← d, ← q, le-ltb k p h)
 
     pub call_inside : k < p → (f b : ℕ) → f ≡ formals_at s (procedure_at s k) → b ≡ byte_at s at 4 → (t : Bool) → t ≡ actuals_scale f b v
-        → cond t 0 5 ≡ failure (call_tests_at s v at)
+        → cond t (Ok tt) (Err OffScale) ≡ failure (call_tests_at s v at)
     unfolding call_tests_at code_at k_at procedures_of failure
     call_inside h f b g i t j = rw (← e, eq-eqb code 16 c, ← d, ← q, lt-ltb k p h, ← g, ← i, ← j)
 

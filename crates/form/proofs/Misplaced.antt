@@ -8,8 +8,10 @@ use native.Mathlib.Omega.{arith}
 use lib.Dec.{eqb}
 use borrow.Author.Tests.{eqb-true}
 use Rattle.model.specs.Generic.{uses}
-use Rattle.model.specs.Refusal.{OffScale, Test, test, Tests, tests, failure, verdict, each}
-use Rattle.model.specs.declared.Verdict.{Verdict}
+use Rattle.model.specs.Refusal.{Verdict, Test, test, Tests, tests, failure, verdict, each}
+use Rattle.model.specs.declared.Reason.TheVariants.{OffScale}
+use Rattle.std.specs.Prelude.{Result, Ok, Err}
+use Rattle.model.specs.declared.Reason.{Reason}
 use Rattle.sheet.specs.Bytes.{byte_at}
 use Rattle.sheet.specs.Layout.{type_at, slots_of, slot_of, result_at, is_bounded, variable_at, inner_at, need_at}
 use Rattle.sheet.specs.Meaning.{qual_of, slot_in_sheet, inner_in, need_in, result_in}
@@ -22,13 +24,10 @@ use Rattle.form.specs.WellFormed.{slot_uses, result_uses, head_uses, variable_us
 abbrev pub slot_test : List ℕ → (at k : ℕ) → List Test
 slot_test s at k = test OffScale (not (uses (qual_of s (byte_at s at (4 + k))))) ∷ []
 
-refused : (u : Bool) → ◌≡◌ {A = ℕ} (cond u 5 0) (cond (not u) 0 5)
-refused true = refl
-refused false = refl
-
-pub slot_here : (s : List ℕ) (t : List ℕ) (x : Ready s t) (at k j : ℕ) (b : Bool) → j ≡ byte_at s at (4 + k) → b ≡ uses_of (word_in t j) → cond b 5 0 ≡ failure (slot_test s at k)
+pub slot_here : (s : List ℕ) (t : List ℕ) (x : Ready s t) (at k j : ℕ) (b : Bool) (f : Result (Unit {0}) Reason) → j ≡ byte_at s at (4 + k) → b ≡ uses_of (word_in t j)
+    → f ≡ cond (not b) (Ok tt) (Err OffScale) → f ≡ failure (slot_test s at k)
 unfolding failure
-slot_here s t x at k j b e h = rw (h, name_used x j, e) (refused (uses (qual_of s (byte_at s at (4 + k)))))
+slot_here s t x at k j b f e h g = g ∙ rw (h, name_used x j, e)
 
 pub slots_here : (s : List ℕ) (i at : ℕ) → at ≡ 6 + 12 * i → ◌≡◌ {A = List Tests} (tests at (each (byte_at s at 3) (slot_test s at)) ∷ []) (slot_uses s i)
 unfolding slot_uses slot_in_sheet slots_of slot_of type_at

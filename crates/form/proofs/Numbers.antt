@@ -4,7 +4,8 @@ use mathlib.Core.Path.{◌≡◌, refl}
 use mathlib.Core.Bool.{Bool, true, false, not, cond}
 use mathlib.Core.List.{List, [], ◌∷◌, ◌++◌}
 use lib.Dec.{eqb}
-use Rattle.model.specs.Refusal.{Torn, StrayMark, OffScale, between, Test, test, tests, each}
+use Rattle.model.specs.Refusal.{between, Test, test, tests, each}
+use Rattle.model.specs.declared.Reason.TheVariants.{Torn, StrayMark, OffScale}
 use Rattle.model.specs.Generic.{uses}
 use Rattle.model.proofs.Numbers.{in_range, all_in_range, range_span, all_append, all_each, all_one}
 use Rattle.sheet.specs.Layout.{types_of, quals_of, procedures_of, type_at, slots_of, variables_field, instructions_at, is_bounded, start_from, instruction_from, code_at, procedure_at}

@@ -6,8 +6,7 @@ use mathlib.Core.Bool.{true}
 use native.Mathlib.Omega.{arith}
 use lib.ListN.{length}
 use borrow.Author.Tests.{leb-true}
-use Rattle.model.specs.Refusal.{verdict, each}
-use Rattle.model.specs.declared.Verdict.TheVariants.{Accepted}
+use Rattle.model.specs.Refusal.{Accepted, verdict, each}
 use Rattle.model.proofs.Verdicts.{left_accepted, right_accepted, each_accepted, all_held}
 use Rattle.sheet.specs.Layout.{pr_mark, gn_mark, gn_size, edition_in, in_mark, types_of, quals_of, procedures_of, named_of, owner_at, formals_at, variables_field, result_at, instructions_at, bound_base_at, least_at, is_bounded, instruction_from, procedure_at, start_at}
 use Rattle.sheet.specs.Reader.{record_bytes, past_at}

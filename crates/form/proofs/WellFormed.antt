@@ -12,9 +12,10 @@ use borrow.Author.Tests.{ltb-true, leb-true, eqb-true, eq-eqb, ne_eqb, lt-ltb}
 use Rattle.model.specs.Rules.{callee}
 use Rattle.model.specs.Rights.{has, none_above, open_right}
 use Rattle.model.specs.Generic.{no_bound, at_least, bound_base, least, uses}
-use Rattle.model.specs.Refusal.{Overlong, Torn, OffScale, test, failure, verdict, each}
+use Rattle.model.specs.Refusal.{Accepted, test, failure, verdict, each}
+use Rattle.model.specs.declared.Reason.TheVariants.{Overlong, Torn, OffScale}
 use Rattle.model.specs.declared.Operation.TheVariants.{Call}
-use Rattle.model.specs.declared.Verdict.TheVariants.{Accepted}
+use Rattle.std.specs.Prelude.{Ok}
 use Rattle.model.proofs.Verdicts.{left_accepted, right_accepted, each_accepted, accepted_tests, passed_span, passed_test, both_true, either_true, implied, Held, all_held}
 use Rattle.sheet.specs.Layout.{ty_mark, qt_mark, vr_mark, in_mark, qt_size, most_named, edition_in, types_of, quals_of, procedures_of, type_at, named_of, slots_of, slot_of, qual_at, base_of, rights_field, element_field, owner_at, formals_at, variables_field, result_at, instructions_at, bound_base_at, least_at, is_bounded, variable_at, inner_at, need_at, code_at, k_at, procedure_at, start_at, instruction_at}
 use Rattle.sheet.specs.Instructions.{Line, table, line_in, line_of}
@@ -178,7 +179,7 @@ module _ (s : List ℕ) (wf : verdict (form_tests s) ≡ Accepted) where
         (all_below_true (λ k. below_or_none (quals_of s) (ltb k (slots_of s t)) (slot_of s t k)) 8 type_held.1.1.0 k (omega (arith, slots_few)))
         (lt-ltb k (slots_of s t) m)
 
-    slots_passed : failure (each (slots_of s t) (λ k. test OffScale (not (uses (slot_in_sheet s t k))) ∷ [])) ≡ 0
+    slots_passed : failure (each (slots_of s t) (λ k. test OffScale (not (uses (slot_in_sheet s t k))) ∷ [])) ≡ Ok tt
     unfolding calls_tests slot_uses
     slots_passed =
         let e : 2 + (t - 2) ≡ t = omega arith in
@@ -371,7 +372,7 @@ module _ (s : List ℕ) (wf : verdict (form_tests s) ≡ Accepted) where
           let n = instructions_at s (procedure_at s p) in
           eqb-true (fields_in s p i).code 17 (implied (eqb (i + 1) n) _ instruction_held.1 (eq-eqb (i + 1) n e))
 
-      call_passed : failure (call_tests_at s (variables_field s (procedure_at s p)) (instruction_at s p i)) ≡ 0
+      call_passed : failure (call_tests_at s (variables_field s (procedure_at s p)) (instruction_at s p i)) ≡ Ok tt
       unfolding call_tests instruction_at
       call_passed =
           let v = variables_field s (procedure_at s p) in

@@ -2,7 +2,8 @@
 -- then, call by call, the 5s that wait for the procedure called"; document 02, S-1: "in the pass for calls, which goes record by record".
 use Rattle.std.specs.Prelude.{ℕ, ◌+◌, List, [], ◌∷◌, ◌++◌, Bool, false, not, ◌||◌, cond, length, leb, ltb, eqb}
 use Rattle.std.proofs.Math.Option.{Option, none, some}
-use Rattle.model.specs.Refusal.{Overlong, Torn, StrayMark, BadEdition, OffScale, Test, test, Tests, tests, each}
+use Rattle.model.specs.Refusal.{Test, test, Tests, tests, each}
+use Rattle.model.specs.declared.Reason.TheVariants.{Overlong, Torn, StrayMark, BadEdition, OffScale}
 use Rattle.model.specs.Qualified.{Qual}
 use Rattle.model.specs.Generic.{uses}
 use Rattle.sheet.specs.Bytes.{byte_at, whole_at, Mark, marked_at}

@@ -92,4 +92,4 @@ pub same_types : {s t : List ℕ} → Ready s t → qual_in t ≡ qual_of s
 same_types ready = λ i j. ready.types j i
 
 pub of_sheet : (s : Sheet) → Ready s.bytes.now s.index.now
-of_sheet s = ready _ _ s.indexed s.few_quals s.few_procedures
+of_sheet s = s.ready

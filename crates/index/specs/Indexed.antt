@@ -1,5 +1,7 @@
 -- What it is for an index to be that of a sheet.
 use Rattle.std.specs.Prelude.{ℕ, ◌≤◌, ◌<◌, ◌≡◌, List, cond, eqb, length, get_or}
+use Rattle.std.specs.Coded.{Coded-set, coded_bool, coded_ℕ, le_prop}
+use Rattle.model.specs.Set.{Qual-set}
 use Rattle.sheet.specs.Layout.{quals_of, base_of, rights_field, element_field, procedures_of, formals_at, variables_field, bound_size, procedure_at, start_at, instruction_at}
 use Rattle.sheet.specs.Meaning.{qual_of}
 use Rattle.index.specs.Types.{rights_of, shape_of, element_of, qual_in, UseTold, UsesTold}
@@ -60,3 +62,6 @@ pub record Ready (s t : List ℕ) : Type 0 where
   pub uses_told : UsesTold t
   pub places : (k : ℕ) → k ≤ procedures_of s → place_of (procedure_in t k) ≡ procedure_at s k
   pub procedures : (k : ℕ) → k < procedures_of s → ProcedureWord s k (procedure_in t k)
+
+pub Ready-prop : (s t : List ℕ) → IsProp (Ready s t)
+Ready-prop s t = hlevel (le_prop, Coded-set coded_bool, Coded-set coded_ℕ, Qual-set)

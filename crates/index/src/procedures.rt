@@ -11,7 +11,7 @@ ghost use Rattle.index.specs.Scope.{bound_of_procedure, Bounded, ScopeOf};
 
 use crate::Index;
 use crate::sheets::Sheet;
-use sheet::edition::rights_at;
+use sheet::edition::{Encoded, rights_at};
 use sheet::fields::field;
 use words::{bound_in, first_in, variables_in};
 
@@ -103,11 +103,11 @@ pub fn base_in(s: &[u8], w: u64, pr: u32) -> u8
 }
 
 // Its least set; empty where it has none.
-pub fn least_in(s: Sheet, w: u64, pr: u32) -> u32
-    ensures { (k : ℕ) → PlacedWord s.entry.bytes.now k w → pr ≡ procedure_at s.entry.bytes.now k → result ≡ least (bound_in_sheet s.entry.bytes.now k pr) }
+pub fn least_in(s: &[u8], w: u64, pr: u32) -> u32
+    ensures { (k : ℕ) → PlacedWord s.now k w → pr ≡ procedure_at s.now k → result ≡ least (bound_in_sheet s.now k pr) }
 {
     if is_bounded_in(w) {
-        return rights_at(s.encoded(), (pr as usize) + 8);
+        return rights_at(Encoded::new(s), (pr as usize) + 8);
     }
     0
 }
@@ -118,7 +118,7 @@ pub fn own_scope(s: Sheet, w: u64) -> Scope
 {
     let head = place_in(w);
     let start = start_in(w);
-    let name = own_name(base_in(s.bytes, w, head), least_in(s, w, head));
+    let name = own_name(base_in(s.bytes, w, head), least_in(s.bytes, w, head));
     Scope { head, start, name }
 }
 

@@ -1,7 +1,7 @@
 // A sheet with its index, as all that is above takes it.
 ghost use Rattle.std.specs.Prelude.{◌≡◌, ◌≤◌};
 ghost use Rattle.sheet.specs.Layout.{rights_size, edition_in, quals_of, procedures_of};
-ghost use Rattle.index.specs.Indexed.{Indexed};
+ghost use Rattle.index.specs.Indexed.{Indexed, Ready, Ready-prop};
 
 use crate::Index;
 use sheet::edition::Encoded;
@@ -17,8 +17,7 @@ pub struct AnySheet<'a> {
     ghost indexed: { Indexed bytes.now index.now },
 }
 
-// Of bytes that have no more types and procedures than there is room for, so that the index is ready for them (`Ready`): all that stands above well-formedness
-// leans on this alone.
+// Of bytes that have no more types and procedures than there is room for: all that stands above well-formedness leans on this alone.
 #[derive(Clone, Copy)]
 pub struct Sheet<'a> {
     pub bytes: &'a [u8],
@@ -26,9 +25,7 @@ pub struct Sheet<'a> {
     pub index: &'a Index,
     ghost by_edition: { rights ≡ rights_size (edition_in bytes.now) },
     ghost few: { (2 ≤ rights) × (rights ≤ 4) },
-    ghost indexed: { Indexed bytes.now index.now },
-    ghost few_quals: { quals_of bytes.now ≤ 64 },
-    ghost few_procedures: { procedures_of bytes.now ≤ 64 },
+    ghost ready: { Ready bytes.now index.now } by { Ready-prop bytes.now index.now },
 }
 
 impl<'a> AnySheet<'a> {

@@ -1,6 +1,7 @@
 pub mod Rights
 pub mod Qualified
 pub mod OutsideIn
+pub mod Set
 pub mod Generic
 pub mod Program
 pub mod Refusal

@@ -5,10 +5,9 @@ use mathlib.Core.List.{List}
 use mathlib.Core.Option.{some}
 use lib.ListN.{length, get_or, replicate}
 use Rattle.model.specs.Modes.{plain}
-use Rattle.model.specs.Refusal.{verdict}
+use Rattle.model.specs.Refusal.{Accepted, verdict}
 use Rattle.model.specs.Rules.{access_rules}
 use Rattle.model.specs.Run.{End, stopped, stuck_at, run}
-use Rattle.model.specs.declared.Verdict.TheVariants.{Accepted}
 use Rattle.sheet.specs.Meaning.{program_of, place_of}
 use Rattle.form.specs.WellFormed.{form_tests}
 use Rattle.model.proofs.Verdicts.{left_accepted}

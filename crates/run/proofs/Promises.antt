@@ -10,10 +10,9 @@ use lib.Dec.{leb}
 use lib.ListN.{length}
 use Rattle.model.specs.Modes.{Mode, plain, watched}
 use Rattle.model.specs.Outcome.{Stop, done, fuel_spent, blank, past_end, input_ended, output_full, memory_full, wrong_kind, missing_right, stop_number}
-use Rattle.model.specs.Refusal.{between, Gives, verdict, BigMemory, refusal_number}
+use Rattle.model.specs.Refusal.{Accepted, Refused, Verdict, between, Gives, verdict, refusal_number}
+use Rattle.model.specs.declared.Reason.TheVariants.{BigMemory}
 use Rattle.model.specs.Run.{End, stopped, stuck_at, run}
-use Rattle.model.specs.declared.Verdict.{Verdict}
-use Rattle.model.specs.declared.Verdict.TheVariants.{Accepted, Refused}
 use Rattle.model.proofs.Comes.{Stops}
 use Rattle.model.proofs.AnyProgram.{watched_not_stuck}
 use Rattle.model.proofs.Ends.{run_ended}

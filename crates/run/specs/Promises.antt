@@ -1,9 +1,9 @@
 -- What the answers of `run` and `watch` come to for every sheet (document 01), beside the contracts and in their words. Proved in proofs/.
 -- Input words have 32 bits, as the contracts' slices have them.
+use Rattle.model.specs.Refusal.{Accepted}
 use Rattle.std.specs.Prelude.{ℕ, ◌≤◌, ◌<◌, ◌^◌, ◌≡◌, List, ◌⊎◌, length, get_or}
 use Rattle.std.proofs.Math.Option.{Option, none, some}
 use Rattle.model.specs.Modes.{Mode, plain, watched}
-use Rattle.model.specs.declared.Verdict.TheVariants.{Accepted}
 use Rattle.checking.specs.Check.{check}
 use Rattle.run.specs.Run.{Answer, answer}
 

@@ -4,10 +4,9 @@ use Rattle.std.specs.Prelude.{ℕ, Bool, cond, List, leb, length, replicate}
 use Rattle.std.proofs.Math.Option.{Option, none, some}
 use Rattle.model.specs.Modes.{Mode, plain, watched}
 use Rattle.model.specs.Outcome.{stop_number}
-use Rattle.model.specs.Refusal.{BigMemory, refusal_number}
+use Rattle.model.specs.Refusal.{Accepted, Refused, Verdict, refusal_number}
+use Rattle.model.specs.declared.Reason.TheVariants.{BigMemory}
 use Rattle.model.specs.Run.{End, stopped, stuck_at, run, written}
-use Rattle.model.specs.declared.Verdict.{Verdict}
-use Rattle.model.specs.declared.Verdict.TheVariants.{Accepted, Refused}
 use Rattle.sheet.specs.Meaning.{program_of}
 use Rattle.checking.specs.Check.{form_verdict, check}
 use Rattle.run.specs.declared.Reply.{Reply}

@@ -1,12 +1,12 @@
 // A run of any bytes: check them, then a machine in the lent memory.
 #![tactic(auto)]
 
+ghost use Rattle.model.specs.Refusal.{Accepted};
 ghost use Rattle.std.specs.Prelude.{◌≡◌, ◌≤◌, length};
 ghost use Rattle.std.proofs.Math.Option.{some};
 ghost use Rattle.model.specs.Modes.{plain, watched};
-ghost use Rattle.model.specs.declared.Verdict.TheVariants.{Accepted};
 ghost use Rattle.frames.specs.Performs.{Loaded};
-ghost use Rattle.run_by_frames.specs.Turn.{mode_of, NeverStuck};
+ghost use Rattle.run_by_frames.specs.Turn.{NeverStuck};
 ghost use Rattle.run.specs.Run.{answered, refused, stopped_at, end, answer_by, answer};
 
 use checking::check_indexed;
@@ -14,6 +14,7 @@ use index::Index;
 use index::make::indexed;
 use model::Verdict;
 use run_by_frames::Ended;
+use run_by_frames::machine::{Machine, Plain, Watched};
 use run_by_frames::run::run_in;
 use well_formed::well_formed;
 use words::clear;
@@ -55,24 +56,23 @@ fn stop(e: Ended) -> Reply
     }
 }
 
-// The run of a sheet that is not refused: 10 and nothing touched, or the machine's stop. Each library sees the flag as a constant.
-fn run_lent(
+// The run of a sheet that is not refused: 10 and nothing touched, or the machine's stop.
+fn run_lent<M: Machine>(
     sheet: &[u8],
     index: &Index,
     input: &[u32],
     fuel: u64,
     memory: &mut [u64],
     output: &mut [u32],
-    watch: bool,
 ) -> Reply
     requires loaded { Loaded sheet.now index.now }
-    requires never_stuck { length memory.old ≤ 65536 → NeverStuck (end (mode_of watch) sheet.now input.now fuel memory.old output.old) }
-    ensures { answer_by (mode_of watch) sheet.now input.now fuel memory.old output.old Accepted ≡ some (answered result memory.new output.new) }
+    requires never_stuck { length memory.old ≤ 65536 → NeverStuck (end M.mode sheet.now input.now fuel memory.old output.old) }
+    ensures { answer_by M.mode sheet.now input.now fuel memory.old output.old Accepted ≡ some (answered result memory.new output.new) }
 {
     if 65536 < memory.len() {
         return refusal(10, 0);
     }
-    let e = run_in(sheet, index, input, fuel, memory, output, watch);
+    let e = run_in::<M>(sheet, index, input, fuel, memory, output);
     clear(memory);
     stop(e)
 }
@@ -84,7 +84,7 @@ pub fn run(sheet: &[u8], input: &[u32], fuel: u64, memory: &mut [u64], output: &
     let index = indexed(sheet);
     match check_indexed(sheet, &index) {
         Verdict::Refused(number, place) => refusal(number, place),
-        Verdict::Accepted => run_lent(sheet, &index, input, fuel, memory, output, false),
+        Verdict::Accepted => run_lent::<Plain>(sheet, &index, input, fuel, memory, output),
     }
 }
 
@@ -101,6 +101,6 @@ pub fn watch(
     let index = indexed(sheet);
     match well_formed(sheet, &index) {
         Verdict::Refused(number, place) => refusal(number, place),
-        Verdict::Accepted => run_lent(sheet, &index, input, fuel, memory, output, true),
+        Verdict::Accepted => run_lent::<Watched>(sheet, &index, input, fuel, memory, output),
     }
 }

@@ -6,12 +6,11 @@ use mathlib.Core.List.{List, [], ◌∷◌, ◌++◌, map, append-nil}
 use borrow.Rule.Slice.PartMut.{mid_of, put_mid, post_of, mid_len, Post-is, same_len_mid}
 use lib.ListN.{length, take, drop, replicate, length-replicate}
 use lib.Seq.{drop_at, drop-length, length-take-le}
-use Rattle.model.specs.Refusal.{verdict}
+use Rattle.model.specs.Refusal.{Accepted, verdict}
 use Rattle.model.specs.Modes.{Mode}
 use Rattle.model.specs.Qualified.{Qual}
 use Rattle.model.specs.Machine.{empty}
 use Rattle.model.specs.Run.{opened}
-use Rattle.model.specs.declared.Verdict.TheVariants.{Accepted}
 use Rattle.sheet.specs.Layout.{variables_field, procedure_at}
 use Rattle.index.specs.Indexed.{ProcedureWord}
 use Rattle.sheet.specs.Meaning.{program_of, qual_of}

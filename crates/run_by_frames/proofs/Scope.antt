@@ -1,10 +1,9 @@
 -- The scope of a frame is the same as long as the frame runs on: its procedure and its set are.
 use Prim.Native.Nat.{ℕ, ◌+◌, ◌<◌}
 use mathlib.Core.Path.{◌≡◌, refl, sym, ap, ◌∙◌}
-use mathlib.Core.Bool.{Bool, true, false}
 use mathlib.Core.List.{List}
 use lib.ListN.{length, get_or}
-use Rattle.model.specs.Modes.{watched}
+use Rattle.model.specs.Modes.{Mode, plain, watched}
 use Rattle.model.specs.Machine.{frame, State, state}
 use Rattle.index.specs.declared.procedures.Scope.{Scope}
 use Rattle.words.specs.Word.{low, number_of}
@@ -18,7 +17,7 @@ use Rattle.frames.specs.Frames.{SetIn}
 use Rattle.frames.proofs.Returning.{sets_in}
 use Rattle.watched_calls.specs.Calls.{ScopeHere}
 use Rattle.lent_step.specs.Counts.{TurnIs}
-use Rattle.run_by_frames.specs.Turn.{mode_of, ScopeFor, Begun}
+use Rattle.run_by_frames.specs.Turn.{ScopeFor, Begun}
 use Rattle.run_by_frames.proofs.Turn.{Kept, begun_kept, kept_with, goes_on}
 
 -- the words tell the set of the running frame, so that one state of a run speaks for all that they stand for
@@ -34,13 +33,13 @@ scope_kept {s} {words} {words'} {r} {q} {p} c out out' (state (frame k₀ i₀ z
     rw (same_set, same_procedure) before
 
 -- one turn of the frame that was entered with the registers `start`
-pub scope_stays : (watch : Bool) (p : Scope) {s index input : List ℕ} (loaded : Loaded s index) {until : ℕ} {words₀ out₀ words out : List ℕ} {start r : Registers}
-    (K : Kept (mode_of watch) s input until (length words₀) words₀ out₀ start words out r) (B : Begun (mode_of watch) s input until words₀ out₀ start) (h : r.steps < until)
-    {words' out' : List ℕ} {o : Stepped} (did : TurnIs (mode_of watch) s input words words' out out' r o)
+pub scope_stays : (m : Mode) (p : Scope) {s index input : List ℕ} (loaded : Loaded s index) {until : ℕ} {words₀ out₀ words out : List ℕ} {start r : Registers}
+    (K : Kept m s input until (length words₀) words₀ out₀ start words out r) (B : Begun m s input until words₀ out₀ start) (h : r.steps < until)
+    {words' out' : List ℕ} {o : Stepped} (did : TurnIs m s input words words' out out' r o)
     → length words' ≡ length words → length out' ≡ length out → (q : Registers) → r ≡ kept_with start r → o ≡ S.Go q
-    → ScopeFor watch s words r p → ScopeFor watch s words' (kept_with start q) p
-scope_stays false p loaded K B h did lw lo q e is here = tt
-scope_stays true p {s} {index} {input} loaded {until} {words₀} {out₀} {words} {out} {start} {r} K B h {words'} {out'} {o} did lw lo q e is here =
+    → ScopeFor m s words r p → ScopeFor m s words' (kept_with start q) p
+scope_stays plain p loaded K B h did lw lo q e is here = tt
+scope_stays watched p {s} {index} {input} loaded {until} {words₀} {out₀} {words} {out} {start} {r} K B h {words'} {out'} {o} did lw lo q e is here =
     let G = begun_kept K B in
     let N = (goes_on watched s index input loaded until B.some_run (length words₀) words out r G h words' out' o did lw lo start q e is).1 in
     scope_kept B.some_run.given out out' G.now N.0.now B.some_run.same_sheet G.stands N.0.stands N.1

@@ -7,7 +7,7 @@ use mathlib.Core.List.{List, []}
 use borrow.Author.Tests.{le-leb, lt-leb}
 use lib.ListN.{length, drop}
 use Rattle.model.specs.Outcome.{Stop, done, fuel_spent, memory_full, stop_number, Res, ok, stop, stuck}
-use Rattle.model.specs.Refusal.{verdict}
+use Rattle.model.specs.Refusal.{Accepted, verdict}
 use Rattle.model.specs.Program.{Program}
 use Rattle.model.specs.Modes.{Mode}
 use Rattle.model.specs.Machine.{frame, State, state, Next, go, finished, view, plan, step}
@@ -15,7 +15,6 @@ use Rattle.model.specs.Run.{End, stopped, end_in, stuck_in, snapshot, running, o
 use Rattle.model.specs.Inside.{Inside}
 use Rattle.model.proofs.AnyProgram.{IsOver, over_run}
 use Rattle.model.proofs.Inside.{yielded, step_inside, opened_inside}
-use Rattle.model.specs.declared.Verdict.TheVariants.{Accepted}
 use Rattle.sheet.specs.Layout.{variables_field, instruction_at, procedure_at}
 use Rattle.sheet.specs.Decode.{operation_at}
 use Rattle.sheet.specs.Meaning.{program_of}

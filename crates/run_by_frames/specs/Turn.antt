@@ -1,5 +1,5 @@
 -- A run on its way, of either machine, and what it comes to in one frame or in a number of steps.
-use Rattle.std.specs.Prelude.{ℕ, ◌≤◌, ◌<◌, ◌≡◌, Bool, true, false, List, length}
+use Rattle.std.specs.Prelude.{ℕ, ◌≤◌, ◌<◌, ◌≡◌, List, length}
 use Rattle.model.specs.Modes.{Mode, plain, watched}
 use Rattle.model.specs.Machine.{State}
 use Rattle.model.specs.Run.{End, stuck_at, running, trace, run}
@@ -15,15 +15,10 @@ use Rattle.run_by_frames.specs.declared.Halted.{Halted}
 use Rattle.run_by_frames.specs.declared.Halted.TheVariants as H
 use Rattle.run_by_frames.specs.Reply.{EndedIs}
 
--- the machine that a flag names
-abbrev pub mode_of : Bool → Mode
-mode_of false = plain
-mode_of true = watched
-
 -- p is the scope of the running frame of the watched machine; the plain one asks for none
-abbrev pub ScopeFor : Bool → (s words : List ℕ) → Registers → Scope → Type 0
-ScopeFor false s words r p = Unit {0}
-ScopeFor true s words r p = ScopeHere s words r p
+abbrev pub ScopeFor : Mode → (s words : List ℕ) → Registers → Scope → Type 0
+ScopeFor plain s words r p = Unit {0}
+ScopeFor watched s words r p = ScopeHere s words r p
 
 -- an end that is a stop; condition 3 says that an accepted sheet has no other
 abbrev pub NeverStuck : End → Type 0

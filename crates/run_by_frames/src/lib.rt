@@ -1,6 +1,7 @@
 // A whole run inside the lent memory, one frame after another.
 #![tactic(auto)]
 
+pub mod machine; // the plain machine and the watched one
 pub mod run; // from main's frame to the stop, or to a number of steps
 
 use writers::Registers;

@@ -4,19 +4,18 @@ ghost use Rattle.model.specs.Modes.{Mode};
 ghost use Rattle.model.specs.Run.{run, opened};
 ghost use Rattle.sheet.specs.Layout.{variables_field, procedure_at};
 ghost use Rattle.sheet.specs.Meaning.{program_of};
-ghost use Rattle.writers.specs.Memory.{Sane, StandsFor, number_in};
+ghost use Rattle.writers.specs.Memory.{StandsFor, number_in};
 ghost use Rattle.frames.specs.Performs.{Loaded};
 ghost use Rattle.frames.specs.Fetch.{CodeOf};
-ghost use Rattle.lent_step.specs.Counts.{Steppable, TurnIs, turned};
 ghost use Rattle.run_by_frames.specs.Reply.{EndedIs};
-ghost use Rattle.run_by_frames.specs.Turn.{mode_of, ScopeFor, NeverStuck, Begun, FrameRuns, RunsUntil};
+ghost use Rattle.run_by_frames.specs.Turn.{NeverStuck, Begun, FrameRuns, RunsUntil};
 
+use crate::machine::Machine;
 use crate::{Ended, Halted, Paused};
-use frames::{instructions_of, set_in};
+use frames::instructions_of;
 use index::Index;
-use index::procedures::{Scope, frame_scope, procedure_in};
-use lent_step::{count, step_by};
-use watched_step::step::guarded_step;
+use index::procedures::procedure_in;
+use lent_step::count;
 use words::{clear, first_in, number_in, variables_in};
 use writers::{Registers, Stepped};
 
@@ -54,47 +53,9 @@ fn ended(number: u8, r: Registers) -> Ended
     }
 }
 
-// The scope of the running frame, for the watched machine alone: it is the same as long as the frame runs on.
-fn scope_of(s: &[u8], memory: &[u64], r: Registers, watch: bool) -> Scope
-    requires { Sane (length memory.now) r }
-    ensures { (index : List ℕ) → Loaded s.now index → ScopeFor watch s.now memory.now r result }
-{
-    if watch {
-        return frame_scope(s, r.procedure, set_in(memory, r));
-    }
-    Scope {
-        head: 0,
-        start: 0,
-        name: 0,
-    }
-}
-
-// One step of the watched machine, in the scope of the running frame, or of the plain one, which counts itself: its caller counts either. Each library has
-// the flag as a constant, so that neither pays for the other.
-fn turn(
-    s: &[u8],
-    index: &Index,
-    code: &[u8],
-    p: Scope,
-    input: &[u32],
-    memory: &mut [u64],
-    output: &mut [u32],
-    r: Registers,
-    watch: bool,
-) -> Stepped
-    requires steppable { Steppable s.now index.now code.now memory.old r }
-    requires scope_for { ScopeFor watch s.now memory.old r p }
-    ensures { TurnIs (mode_of watch) s.now input.now memory.old memory.new output.old output.new r (turned r result) }
-{
-    if watch {
-        return guarded_step(s, index, code, p, input, memory, output, r);
-    }
-    step_by(s, index, code, input, memory, output, r)
-}
-
 // The run of one frame: to other registers, to a number of steps, or to the end. Only the next instruction and the count of steps change in it, which is what
 // makes the loop fast.
-fn run_frame(
+fn run_frame<M: Machine>(
     s: &[u8],
     index: &Index,
     code: &[u8],
@@ -103,22 +64,21 @@ fn run_frame(
     output: &mut [u32],
     start: Registers,
     until: u64,
-    watch: bool,
 ) -> Paused
     requires loaded { Loaded s.now index.now }
     requires code_of { CodeOf s.now start code.now }
-    requires begun { Begun (mode_of watch) s.now input.now until memory.old output.old start }
-    ensures { FrameRuns (mode_of watch) s.now input.now until memory.old memory.new output.old output.new start result }
+    requires begun { Begun M.mode s.now input.now until memory.old output.old start }
+    ensures { FrameRuns M.mode s.now input.now until memory.old memory.new output.old output.new start result }
 {
     let procedure = start.procedure;
     let base = start.base;
     let used = start.used;
     let taken = start.taken;
     let put = start.put;
-    let p = scope_of(s, memory, start, watch);
+    let p = M::scope(s, memory, start);
     let mut r = start;
     while r.steps < until {
-        match turn(s, index, code, p, input, memory, output, r, watch) {
+        match M::turn(s, index, code, p, input, memory, output, r) {
             Stepped::Go(q) => {
                 r = Registers {
                     procedure,
@@ -145,7 +105,7 @@ fn run_frame(
 }
 
 // From registers and memory that stand where a run does, to where it stands after `until` steps, or to its end.
-pub fn run_until(
+pub fn run_until<M: Machine>(
     s: &[u8],
     index: &Index,
     input: &[u32],
@@ -153,16 +113,15 @@ pub fn run_until(
     output: &mut [u32],
     start: Registers,
     until: u64,
-    watch: bool,
 ) -> Halted
     requires loaded { Loaded s.now index.now }
-    requires begun { Begun (mode_of watch) s.now input.now until memory.old output.old start }
-    ensures { RunsUntil (mode_of watch) s.now input.now until memory.old memory.new output.old output.new start result }
+    requires begun { Begun M.mode s.now input.now until memory.old output.old start }
+    ensures { RunsUntil M.mode s.now input.now until memory.old memory.new output.old output.new start result }
 {
     let mut r = start;
     loop {
         let code = instructions_of(s, first_in(r.procedure) as usize);
-        match run_frame(s, index, code, input, memory, output, r, until, watch) {
+        match run_frame::<M>(s, index, code, input, memory, output, r, until) {
             Paused::Enter(q) => {
                 r = q;
             }
@@ -177,19 +136,18 @@ pub fn run_until(
 }
 
 // A run of a sheet that is never stuck, in a memory of at most 65,536 words, which holds nothing of account before or after.
-pub fn run_in(
+pub fn run_in<M: Machine>(
     s: &[u8],
     index: &Index,
     input: &[u32],
     fuel: u64,
     memory: &mut [u64],
     output: &mut [u32],
-    watch: bool,
 ) -> Ended
     requires loaded { Loaded s.now index.now }
     requires memory_len_bound { length memory.old ≤ 65536 }
-    requires never_stuck { NeverStuck (run (mode_of watch) (program_of s.now) (length memory.old) (length output.old) input.now fuel) }
-    ensures { EndedIs result output.old output.new (run (mode_of watch) (program_of s.now) (length memory.old) (length output.old) input.now fuel) }
+    requires never_stuck { NeverStuck (run M.mode (program_of s.now) (length memory.old) (length output.old) input.now fuel) }
+    ensures { EndedIs result output.old output.new (run M.mode (program_of s.now) (length memory.old) (length output.old) input.now fuel) }
 {
     let v = variables_in(procedure_in(index, 0)) as usize;
     if memory.len() < v + 2 {
@@ -202,7 +160,7 @@ pub fn run_in(
         };
     }
     let start = open_main(s, index, memory, v);
-    match run_until(s, index, input, memory, output, start, fuel, watch) {
+    match run_until::<M>(s, index, input, memory, output, start, fuel) {
         Halted::Rest(r) => ended(12, r),
         Halted::End(e) => e,
     }

@@ -6,8 +6,7 @@ use mathlib.Core.Logic.{⊎_elim}
 use native.Mathlib.Omega.{arith}
 use borrow.Author.Tests.{ltb-true, leb-true}
 use Rattle.model.proofs.Formed.{FormedAt, Formed, Numbered}
-use Rattle.model.specs.Refusal.{verdict}
-use Rattle.model.specs.declared.Verdict.TheVariants.{Accepted}
+use Rattle.model.specs.Refusal.{Accepted, verdict}
 use Rattle.sheet.specs.Layout.{types_of, procedures_of, owner_at, variables_field, instructions_at, inner_at, procedure_at, start_at, instruction_at}
 use Rattle.sheet.specs.Instructions.{table, line_in}
 use Rattle.sheet.specs.Decode.{unlisted, operation_by, decode, operation_at}

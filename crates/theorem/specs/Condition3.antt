@@ -1,11 +1,11 @@
 -- Condition 3 of the customer, over the bytes of a worksheet (document 01: "Condition 3 is a single claim about the whole run").
 -- `check` is the definition that the contract of the checker names; `run`, `state_after`, `Typed` and `OpenStays` are those of the machines
 -- (crates/model/specs: Run, Claim).
+use Rattle.model.specs.Refusal.{Accepted}
 use Rattle.std.specs.Prelude.{ℕ, ◌≤◌, ◌<◌, ◌^◌, ◌≡◌, List, length, get_or}
 use Rattle.model.specs.Modes.{watched}
 use Rattle.model.specs.Run.{state_after}
 use Rattle.model.specs.Claim.{Condition3, OpenStays}
-use Rattle.model.specs.declared.Verdict.TheVariants.{Accepted}
 use Rattle.sheet.specs.Meaning.{program_of}
 use Rattle.checking.specs.Check.{check}
 

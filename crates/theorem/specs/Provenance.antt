@@ -1,7 +1,7 @@
 -- Where a right came from, over the bytes of a worksheet (document 02, S-4), of the same run as condition 3: `check` is the definition that the contract of
 -- the checker names, `RightsTraced` is stated of the watched machine's run (crates/provenance/specs/Claim.antt).
+use Rattle.model.specs.Refusal.{Accepted}
 use Rattle.std.specs.Prelude.{ℕ, ◌≡◌, List, length}
-use Rattle.model.specs.declared.Verdict.TheVariants.{Accepted}
 use Rattle.provenance.specs.Claim.{RightsTraced}
 use Rattle.sheet.specs.Meaning.{program_of}
 use Rattle.checking.specs.Check.{check}

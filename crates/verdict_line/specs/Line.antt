@@ -1,9 +1,8 @@
 -- What the checking program writes: a word, a number and a place in decimal, parted by one space, and the end of the line.
+use Rattle.model.specs.Refusal.{Accepted, Refused, Verdict}
 use Rattle.std.specs.Prelude.{ℕ, zero, suc, ◌+◌, ◌/◌, ◌%◌, cond, List, [], ◌∷◌, ◌++◌, ltb}
 use Prim.Native.String.{String, [] as no_text, ◌∷◌ as ◌then◌}
 use Prim.Native.Char.{code}
-use Rattle.model.specs.declared.Verdict.{Verdict}
-use Rattle.model.specs.declared.Verdict.TheVariants.{Accepted, Refused}
 
 -- the bytes of a text of ASCII
 unfoldable pub ascii : String → List ℕ

@@ -1,8 +1,8 @@
 // A verdict as the checking program writes it: one line, made whole before it is written.
 #![tactic(auto)]
 
+ghost use Rattle.model.specs.Refusal.{Refused};
 ghost use Rattle.std.specs.Prelude.{◌+◌, ◌≤◌, ◌≡◌, ◌++◌, length, take};
-ghost use Rattle.model.specs.declared.Verdict.TheVariants.{Refused};
 ghost use Rattle.io.specs.Counts.{IsPrefixLen};
 ghost use Rattle.verdict_line.specs.Line.{decimal, line};
 

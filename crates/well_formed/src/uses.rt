@@ -1,6 +1,7 @@
 // Where ?R may not stand (document 02, S-1): in a slot, and in a procedure without a GN.
 ghost use Rattle.std.specs.Prelude.{◌≡◌, not, cond, [], ◌∷◌, ℕ, ◌+◌};
-ghost use Rattle.model.specs.Refusal.{verdict, failure, test, tests, OffScale, each};
+ghost use Rattle.model.specs.Refusal.{verdict, failure, test, tests, each};
+ghost use Rattle.model.specs.declared.Reason.TheVariants.{OffScale};
 ghost use Rattle.model.specs.Generic as generic;
 ghost use Rattle.sheet.specs.Bytes.{byte_at};
 ghost use Rattle.sheet.specs.Layout.{variables_field, is_bounded};

@@ -1,9 +1,8 @@
 -- Well-formedness first; where it accepts, it also gives what the access rules lean on: an index that has room, bounds of declared types, and callees that
 -- are there.
 use mathlib.Core.Path.{◌≡◌, sym, ◌∙◌}
-use Rattle.model.specs.Refusal.{verdict}
+use Rattle.model.specs.Refusal.{Accepted, verdict}
 use Rattle.model.specs.Rules.{access_rules}
-use Rattle.model.specs.declared.Verdict.TheVariants.{Accepted}
 use Rattle.sheet.specs.Meaning.{program_of, place_of}
 use Rattle.form.specs.WellFormed.{form_tests}
 use Rattle.model.proofs.Verdicts.{stop_here, go_on}

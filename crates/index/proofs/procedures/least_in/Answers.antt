@@ -7,7 +7,7 @@ use Rattle.index.proofs.procedures.least_in.Goals as goal
 pub returns-then-is_bounded_in : goal.returns-then-is_bounded_in
 returns-then-is_bounded_in c k p e =
     let told = sym (c.is_bounded_in.ensures _ k p) ∙ c.if-is_bounded_in.true in
-    rw (← ap (λ (b : _). b.now) c.encoded.ensures) c.rights_at.ensures ∙ sym (least_some _ _ _ (ap (is_bounded _ k) e ∙ told))
+    rw (← ap (λ (b : _). b.now) c.new.ensures) c.rights_at.ensures ∙ sym (least_some _ _ _ (ap (is_bounded _ k) e ∙ told))
 
 pub returns : goal.returns
 returns c k p e = sym (least_none _ _ _ (ap (is_bounded _ k) e ∙ sym (c.is_bounded_in.ensures _ k p) ∙ c.if-is_bounded_in.false))

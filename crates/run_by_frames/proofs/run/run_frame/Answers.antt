@@ -8,15 +8,15 @@ use native.Mathlib.Omega.{arith}
 use Rattle.run_by_frames.proofs.run.run_frame.Goals as goal
 
 pub loop-r-init : goal.loop-r-init
-loop-r-init c =
-    (omega arith, (c.requires.begun.soon, (refl, (λ d G. G, c.scope_of-p.ensures _ c.requires.loaded))))
+loop-r-init g c =
+    (omega arith, (c.requires.begun.soon, (refl, (λ d G. G, c.scope-p.ensures _ c.requires.loaded))))
 
-pub scope_of-p-requires : goal.scope_of-p-requires
-scope_of-p-requires c =
+pub scope-p-requires : goal.scope-p-requires
+scope-p-requires g c =
     sane _ _ _ _ _ c.requires.begun.going.now c.requires.begun.going.stands
 
 pub turn-requires : goal.turn-requires
-turn-requires c =
+turn-requires g c =
     let l = c.loop-r.invariant in
     record {
       steppable = ready _ _ _ _ c.requires.loaded _ c.requires.begun.some_run _ _ _ _ (begun_kept l.1.1.1.0 c.requires.begun) c.loop-r-test.true c.ranges.until.fits _
@@ -25,15 +25,15 @@ turn-requires c =
     }
 
 pub overflow_add-r : goal.overflow_add-r
-overflow_add-r c = omega (arith, c.loop-r-test.true, c.ranges.until.fits)
+overflow_add-r g c = omega (arith, c.loop-r-test.true, c.ranges.until.fits)
 
 pub loop-r-smaller : goal.loop-r-smaller
-loop-r-smaller c =
+loop-r-smaller g c =
     let h = c.loop-r-test.true in
     omega arith
 
 pub loop-r-preserved : goal.loop-r-preserved
-loop-r-preserved c =
+loop-r-preserved g c =
     let l = c.loop-r.invariant in
     let u = c.loop-r-test.true in
     let r = c.loop-r.r in
@@ -47,27 +47,27 @@ loop-r-preserved c =
           refl,
           (
             a.1,
-            scope_stays c.args.watch c.scope_of-p.result c.requires.loaded l.1.1.1.0 c.requires.begun u c.turn.ensures c.turn.auto.memory c.turn.auto.output _ l.1.1.0 is l.1.1.1.1,
+            scope_stays g.M.Machine.mode c.scope-p.result c.requires.loaded l.1.1.1.0 c.requires.begun u c.turn.ensures c.turn.auto.memory c.turn.auto.output _ l.1.1.0 is l.1.1.1.1,
           ),
         ),
       ),
     )
 
 pub count-requires : goal.count-requires
-count-requires c = omega (arith, c.loop-r-test.true, c.ranges.until.fits)
+count-requires g c = omega (arith, c.loop-r-test.true, c.ranges.until.fits)
 
 pub shape_of-memory-in-Enter : goal.shape_of-memory-in-Enter
-shape_of-memory-in-Enter c =
+shape_of-memory-in-Enter g c =
     let l = c.loop-r.invariant in
     c.turn.auto.memory ∙ (begun_kept l.1.1.1.0 c.requires.begun).long
 
 pub shape_of-output-in-Enter : goal.shape_of-output-in-Enter
-shape_of-output-in-Enter c =
+shape_of-output-in-Enter g c =
     let l = c.loop-r.invariant in
     c.turn.auto.output ∙ (begun_kept l.1.1.1.0 c.requires.begun).put_long ∙ sym c.requires.begun.going.put_long
 
 pub returns-in-Enter : goal.returns-in-Enter
-returns-in-Enter c =
+returns-in-Enter g c =
     let l = c.loop-r.invariant in
     let u = c.loop-r-test.true in
     let is = ap (turned c.loop-r.r) c.in-Enter.is in
@@ -75,49 +75,49 @@ returns-in-Enter c =
     λ d G. rw c.count.ensures (omega arith, (omega arith, (enters _ _ _ _ c.requires.loaded _ d _ _ _ _ (l.1.1.1.0 d G) u _ _ _ c.turn.ensures c.turn.auto.memory c.turn.auto.output _ is).1))
 
 pub shape_of-memory-in-Halt : goal.shape_of-memory-in-Halt
-shape_of-memory-in-Halt c =
+shape_of-memory-in-Halt g c =
     let l = c.loop-r.invariant in
     c.turn.auto.memory ∙ (begun_kept l.1.1.1.0 c.requires.begun).long
 
 pub shape_of-output-in-Halt : goal.shape_of-output-in-Halt
-shape_of-output-in-Halt c =
+shape_of-output-in-Halt g c =
     let l = c.loop-r.invariant in
     c.turn.auto.output ∙ (begun_kept l.1.1.1.0 c.requires.begun).put_long ∙ sym c.requires.begun.going.put_long
 
 pub returns-in-Halt : goal.returns-in-Halt
-returns-in-Halt c =
+returns-in-Halt g c =
     let l = c.loop-r.invariant in
     let is = ap (turned c.loop-r.r) c.in-Halt.is in
     λ d G. rw c.ended.ensures (halts _ _ _ _ c.requires.loaded _ d _ _ _ _ (l.1.1.1.0 d G) c.loop-r-test.true _ _ _ c.turn.ensures _ is)
 
 pub count-requires-in-Done : goal.count-requires-in-Done
-count-requires-in-Done c = omega (arith, c.loop-r-test.true)
+count-requires-in-Done g c = omega (arith, c.loop-r-test.true)
 
 pub shape_of-memory-in-Done : goal.shape_of-memory-in-Done
-shape_of-memory-in-Done c =
+shape_of-memory-in-Done g c =
     let l = c.loop-r.invariant in
     c.turn.auto.memory ∙ (begun_kept l.1.1.1.0 c.requires.begun).long
 
 pub shape_of-output-in-Done : goal.shape_of-output-in-Done
-shape_of-output-in-Done c =
+shape_of-output-in-Done g c =
     let l = c.loop-r.invariant in
     c.turn.auto.output ∙ (begun_kept l.1.1.1.0 c.requires.begun).put_long ∙ sym c.requires.begun.going.put_long
 
 pub returns-in-Done : goal.returns-in-Done
-returns-in-Done c =
+returns-in-Done g c =
     let l = c.loop-r.invariant in
     let is = ap (turned c.loop-r.r) c.in-Done.is in
     λ d G. rw (c.ended-in-Done.ensures, c.count-in-Done.ensures) (completes _ _ _ _ c.requires.loaded _ d _ _ _ _ (l.1.1.1.0 d G) c.loop-r-test.true _ _ _ c.turn.ensures is)
 
 pub shape_of-memory : goal.shape_of-memory
-shape_of-memory c = (begun_kept c.loop-r.invariant.1.1.1.0 c.requires.begun).long
+shape_of-memory g c = (begun_kept c.loop-r.invariant.1.1.1.0 c.requires.begun).long
 
 pub shape_of-output : goal.shape_of-output
-shape_of-output c =
+shape_of-output g c =
     (begun_kept c.loop-r.invariant.1.1.1.0 c.requires.begun).put_long ∙ sym c.requires.begun.going.put_long
 
 pub returns : goal.returns
-returns c =
+returns g c =
     let inv = c.loop-r.invariant in
     let h = inv.1.0 in
     let l = c.loop-r-test.false in

@@ -1,15 +1,15 @@
 use Prim.Native.Nat.{◌-◌, ◌≤◌}
 use mathlib.Core.Path.{◌≡◌}
 use lib.ListN.{length}
-use Rattle.run_by_frames.specs.Turn.{mode_of, ScopeFor}
+use Rattle.run_by_frames.specs.Turn.{ScopeFor}
 use Rattle.run_by_frames.proofs.Turn.{Kept, kept_with}
 use Rattle.run_by_frames.proofs.run.run_frame.Given as goal
 
 abbrev pub invariant-loop-r : goal.invariant-loop-r
-invariant-loop-r l =
+invariant-loop-r g l =
     (l.initial.r.steps ≤ l.r.steps)
     × ((l.r.steps ≤ l.until)
-    × ((l.r ≡ kept_with l.initial.r l.r) × (Kept (mode_of l.watch) l.s l.input l.until (length l.initial.memory) l.initial.memory l.initial.output l.initial.r l.memory l.output l.r × ScopeFor l.watch l.s l.memory l.r l.p)))
+    × ((l.r ≡ kept_with l.initial.r l.r) × (Kept g.M.Machine.mode l.s l.input l.until (length l.initial.memory) l.initial.memory l.initial.output l.initial.r l.memory l.output l.r × ScopeFor g.M.Machine.mode l.s l.memory l.r l.p)))
 
 abbrev pub decreases-loop-r : goal.decreases-loop-r
-decreases-loop-r l = l.until - l.r.steps
+decreases-loop-r g l = l.until - l.r.steps

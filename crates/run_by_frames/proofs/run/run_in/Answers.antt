@@ -10,7 +10,7 @@ use Rattle.index.specs.Procedures.{procedure_in}
 use Rattle.frames.specs.Performs.{Loaded}
 use Rattle.form.proofs.WellFormed.{form_small}
 use Rattle.run_by_frames.specs.Reply.{ended}
-use Rattle.run_by_frames.specs.Turn.{mode_of, Going}
+use Rattle.run_by_frames.specs.Turn.{Going}
 use Rattle.run_by_frames.proofs.Turn.{no_room, starts, begins_frame, begun, rested, stopped_run}
 use native.Mathlib.Omega.{arith}
 use Rattle.run_by_frames.proofs.run.run_in.Goals as goal
@@ -20,50 +20,50 @@ main_variables : (s index : List ℕ) {w n : ℕ} → Loaded s index → w ≡ p
 main_variables s index loaded e f = f ∙ ap variables_of e ∙ (loaded.ready.procedures 0 (form_small s loaded.formed).2).variables
 
 pub returns-then-memory-v : goal.returns-then-memory-v
-returns-then-memory-v c =
+returns-then-memory-v g c =
     let a = c.args in
     let h : length a.memory.now < variables_field a.s.now (procedure_at a.s.now 0) + 2 = omega (arith, (main_variables c.args.s.now c.args.index.now c.requires.loaded c.procedure_in.ensures c.variables_in-v.ensures), c.if-memory-v.true) in
     rw (no_room _ (record { sheet = a.s.now; input = a.input.now; output = a.output.now }) _ a.fuel h) (ended refl refl refl refl refl refl)
 
 pub open_main-start-requires : goal.open_main-start-requires
-open_main-start-requires c =
+open_main-start-requires g c =
     record { loaded = c.requires.loaded; v_value = ((main_variables c.args.s.now c.args.index.now c.requires.loaded c.procedure_in.ensures c.variables_in-v.ensures), omega arith); v_in_bounds = (omega arith, c.requires.memory_len_bound) }
 
 pub run_until-requires : goal.run_until-requires
 unfolding opened
-run_until-requires c =
+run_until-requires g c =
     let args = c.args in
     let loaded = c.requires.loaded in
     let v = main_variables args.s.now args.index.now loaded c.procedure_in.ensures c.variables_in-v.ensures in
     let h : variables_field args.s.now (procedure_at args.s.now 0) + 2 ≤ length args.memory.now = omega (arith, v, c.if-memory-v.false) in
     let start = c.open_main-start in
     -- where the run stands with main's frame open
-    let going : Going (mode_of args.watch) (record { sheet = args.s.now; input = args.input.now; output = args.output.now }) (length start.new.memory) args.fuel start.new.memory args.output.now start.result =
+    let going : Going g.M.Machine.mode (record { sheet = args.s.now; input = args.input.now; output = args.output.now }) (length start.new.memory) args.fuel start.new.memory args.output.now start.result =
     begins_frame (starts _ _ _ _ _ args.fuel loaded.formed h start.auto.memory start.ensures.steps_value (start.ensures.stands_for _ _ _) c.requires.never_stuck) in
     record { loaded = loaded; begun = begun going }
 
 pub returns-in-Rest : goal.returns-in-Rest
 unfolding opened
-returns-in-Rest c =
+returns-in-Rest g c =
     let args = c.args in
     let loaded = c.requires.loaded in
     let v = main_variables args.s.now args.index.now loaded c.procedure_in.ensures c.variables_in-v.ensures in
     let h : variables_field args.s.now (procedure_at args.s.now 0) + 2 ≤ length args.memory.now = omega (arith, v, c.if-memory-v.false) in
     let start = c.open_main-start in
     -- where the run stands with main's frame open
-    let going : Going (mode_of args.watch) (record { sheet = args.s.now; input = args.input.now; output = args.output.now }) (length start.new.memory) args.fuel start.new.memory args.output.now start.result =
+    let going : Going g.M.Machine.mode (record { sheet = args.s.now; input = args.input.now; output = args.output.now }) (length start.new.memory) args.fuel start.new.memory args.output.now start.result =
     begins_frame (starts _ _ _ _ _ args.fuel loaded.formed h start.auto.memory start.ensures.steps_value (start.ensures.stands_for _ _ _) c.requires.never_stuck) in
     rw (c.ended.ensures, ← c.open_main-start.auto.memory) (rested going _ _ _ c.run_until.ensures _ c.in-Rest.is)
 
 pub returns-in-End : goal.returns-in-End
 unfolding opened
-returns-in-End c =
+returns-in-End g c =
     let args = c.args in
     let loaded = c.requires.loaded in
     let v = main_variables args.s.now args.index.now loaded c.procedure_in.ensures c.variables_in-v.ensures in
     let h : variables_field args.s.now (procedure_at args.s.now 0) + 2 ≤ length args.memory.now = omega (arith, v, c.if-memory-v.false) in
     let start = c.open_main-start in
     -- where the run stands with main's frame open
-    let going : Going (mode_of args.watch) (record { sheet = args.s.now; input = args.input.now; output = args.output.now }) (length start.new.memory) args.fuel start.new.memory args.output.now start.result =
+    let going : Going g.M.Machine.mode (record { sheet = args.s.now; input = args.input.now; output = args.output.now }) (length start.new.memory) args.fuel start.new.memory args.output.now start.result =
     begins_frame (starts _ _ _ _ _ args.fuel loaded.formed h start.auto.memory start.ensures.steps_value (start.ensures.stands_for _ _ _) c.requires.never_stuck) in
     rw (← c.open_main-start.auto.memory) (stopped_run going _ _ _ c.run_until.ensures _ c.in-End.is)
