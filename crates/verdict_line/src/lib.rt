@@ -1,14 +1,11 @@
 // A verdict as the checking program writes it: one line, made whole before it is written.
 #![tactic(auto)]
 
-ghost use Rattle.model.specs.Refusal.{Refused};
-ghost use Rattle.std.specs.Prelude.{◌+◌, ◌≤◌, ◌≡◌, ◌++◌, length, take, Some};
-ghost use Rattle.std.specs.Fmt.{DisplaysOnOk};
+ghost use Rattle.std.specs.Prelude.{◌+◌, ◌≤◌, ◌≡◌, ◌++◌, length, take};
 ghost use Rattle.io.specs.Counts.{IsPrefixLen};
 ghost use Rattle.verdict_line.specs.Line.{decimal, line};
 
-use model::{Reason, Verdict};
-use std::fmt;
+use model::Verdict;
 
 // No line is longer: twenty digits hold every number.
 pub const LINE_BYTES: usize = 64;
@@ -37,7 +34,7 @@ fn append_decimal(out: &mut [u8], at: usize, n: u64) -> usize
 }
 
 // Puts the line of a verdict at the start of what is lent, and gives how many bytes it has.
-// By hand, since it cannot fail: no clause says that `write!` gives no error where all fits.
+// It is no `Display`, which would have to fit: no clause of `write!` says that it gives no error where there is room.
 #[tactic(auto, unfolding(crate::specs::Line::ascii, crate::specs::Line::line))]
 pub fn put_line(v: Verdict, out: &mut [u8; LINE_BYTES]) -> usize
     ensures prefix_len { IsPrefixLen result out.new }
@@ -53,32 +50,4 @@ pub fn put_line(v: Verdict, out: &mut [u8; LINE_BYTES]) -> usize
             append(out, placed, b"\n")
         }
     }
-}
-
-// A verdict, shown as its line.
-#[derive(Clone, Copy)]
-pub struct Line(pub Verdict);
-
-impl fmt::Display for Line {
-    ghost output = { λ l. Some (line l.0) };
-
-    #[tactic(auto, unfolding(crate::specs::Line::ascii, crate::specs::Line::line))]
-    fn fmt<W: fmt::Write>(&self, f: &mut fmt::Formatter<W>) -> fmt::Result {
-        match self.0 {
-            Ok(()) => write!(f, "accepted 0 0\n"),
-            Err(r) => show_refusal(r.reason, r.place, f),
-        }
-    }
-}
-
-// Takes the place itself: of a number behind a reference the proof does not learn that it fits.
-#[tactic(auto, unfolding(crate::specs::Line::ascii, crate::specs::Line::line), using(crate::proofs::Shown::shown_refusal))]
-fn show_refusal<W: fmt::Write>(
-    reason: Reason,
-    place: usize,
-    f: &mut fmt::Formatter<W>,
-) -> fmt::Result
-    ensures { DisplaysOnOk W.write_str_gives f.old result (Some (line (Refused reason place))) f.new }
-{
-    write!(f, "refused {} {place}\n", reason.number())
 }
