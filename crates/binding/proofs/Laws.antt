@@ -2,17 +2,22 @@
 use Prim.Native.Nat.{ℕ, ◌+◌, ◌%◌}
 use native.Mathlib.Omega.{arith}
 use mathlib.Core.Path.{◌≡◌, refl, sym, ap, subst, ◌∙◌}
-use mathlib.Core.Bool.{Bool, true, false, ◌&&◌, cond, false≢true}
+use mathlib.Core.Bool.{Bool, true, false, not, ◌&&◌, cond, false≢true}
 use mathlib.Core.List.{List}
 use mathlib.Core.Option.{Option, none, some}
+use Rattle.std.specs.Prelude.{Result, Ok, Err}
+use Rattle.std.specs.Result.{IsErrAnd}
+use Rattle.std.proofs.lemmas.Result.{err_from_is_err_and}
 use lib.Dec.{eqb, leb}
 use lib.ListN.{get_or}
 use borrow.Author.Tests.{ne_eqb, eqb-true}
+use Rattle.model.specs.declared.Halt.{Halt}
+use Rattle.model.specs.declared.Halt.TheVariants.{Blank, PastEnd, InputEnded, OutputFull, MemoryFull, WrongKind, MissingRight}
 use Rattle.model.specs.Rights.{Rights, within, has, store_right}
 use Rattle.model.specs.Qualified.{Qual, integer, declared, base, rights, element, is_integer, is_array, elements}
 use Rattle.model.specs.Generic.{instance, read, read_result}
 use Rattle.model.specs.Rules.{amplifies}
-use Rattle.model.specs.Outcome.{blank, past_end, input_ended, output_full, memory_full, wrong_kind, missing_right, Res, ok, stop, stuck, ◌>>=◌, ◌>>◌, ensure}
+use Rattle.model.specs.Outcome.{wrong_kind, missing_right, Res, ok, stop, stuck, ◌>>=◌, ◌>>◌, ensure}
 use Rattle.model.specs.Program.{Program}
 use Rattle.model.specs.Modes.{watched, Kind, amiss, fits, bind, is_record_of, raise_if, raise, bind_result}
 use Rattle.model.specs.Machine.{Value, word, object, Cell, empty, filled, Head, array_head, record_head, no_head, View, held, kind_of_head, kind_at, moved, actual, handed}
@@ -31,9 +36,7 @@ use Rattle.order.proofs.Laws.{base_part}
 use Rattle.words.specs.Word.{tag, low, payload, info_of, settled_base, cell, slot_in, as_cell, as_head}
 use Rattle.words.specs.Sees.{heads_in}
 use Rattle.words.specs.Answers.{halted, IsCell, MovedOk}
-use Rattle.words.specs.declared.Moved.{Moved}
-use Rattle.words.specs.declared.Moved.TheVariants.{To, Halt}
-use Rattle.words.proofs.Laws.{slot_array, slot_record, blank_word}
+use Rattle.words.proofs.Laws.{slot_array, blank_word}
 use Rattle.binding.specs.Binds.{kind_in, Heads, moved_cell, handed_cell, raised, FrameScope, InScope, BindsFilled, BindsWord, BindsTwice, Raises}
 use Rattle.binding.proofs.Views.{ValueOf, integer_in, object_in, value_word, CellOf, blank_in, value_in, cell_word, HeadOf, array_in, record_in, no_head_in, head_word}
 
@@ -87,20 +90,17 @@ module _ (t : List ℕ) (n q head : ℕ) where
       go true told = is-r ∙ rw (own, element_there told, stores_there told)
       go false told = refl
 
-  pub fits_record : {u b k : ℕ} → tag head ≡ 4 → u ≡ word_as t n q → b ≡ shape_of u → k ≡ info_of head
-      → leb 2 k && eqb (b % 256) k ≡ fits (type_in t n q) (kind_in (qual_in t) head)
+  -- no array's: a record's, by its two tests, or none
+  pub fits_other : {u b k : ℕ} {r : Bool} → (tag head ≡ 3 → ⊥) → r ≡ eqb (tag head) 4 → u ≡ word_as t n q → b ≡ shape_of u → k ≡ info_of head
+      → (r && leb 2 k) && eqb (b % 256) k ≡ fits (type_in t n q) (kind_in (qual_in t) head)
   unfolding fits
-  fits_record is-record is-u is_b is-k =
-      rw (slot_record watched (qual_in t) head is-record, base_part t n q, is_b, is-u, is-k)
-
-  pub fits_nothing : (tag head ≡ 3 → ⊥) → (tag head ≡ 4 → ⊥) → false ≡ fits (type_in t n q) (kind_in (qual_in t) head)
-  unfolding fits
-  fits_nothing not3 not4 = by (head_word (qual_in t) head)
+  fits_other not3 is-r is-u is_b is-k = rw (is-r, is_b, is-u, is-k, sym (base_part t n q)) (by (head_word (qual_in t) head))
     where
-      by : {d : Head watched} → HeadOf (qual_in t) head d → false ≡ fits (type_in t n q) (kind_of_head d)
+      by : {d : Head watched} → HeadOf (qual_in t) head d
+          → (eqb (tag head) 4 && leb 2 (info_of head)) && eqb (base (type_in t n q)) (info_of head) ≡ fits (type_in t n q) (kind_of_head d)
       by (array_in i) = absurd (not3 i)
-      by (record_in i) = absurd (not4 i)
-      by (no_head_in a b) = refl
+      by (record_in i) = rw i
+      by (no_head_in a b) = rw (ne_eqb (tag head) 4 b)
 
 -- no object is of the integer type
 object_misfit : (d : Head watched) → fits integer (kind_of_head d) ≡ false
@@ -135,11 +135,11 @@ module _ (g : Program) (v : View watched) (q : Qual) (x : Value) (m : Rights) wh
 -- of the word of a filled cell
 module _ (qual : ℕ → Qual) (h : List ℕ) (q : Qual) (w : ℕ) (g : Program) (v : View watched) (x : Value) (m : Rights)
     (heads : Heads qual v h) (e : slot_in watched qual w ≡ cell (filled x m)) where
-  bind_misfit : fits q (kind_at v.head x) ≡ false → moved_cell qual (Halt 18) ≡ moved watched g v q (filled x m)
+  bind_misfit : fits q (kind_at v.head x) ≡ false → moved_cell qual (Err WrongKind) ≡ moved watched g v q (filled x m)
   unfolding moved_cell halted amiss
   bind_misfit misfit = sym (bound_misfit g v q x m misfit)
 
-  pub bind_integer : tag w ≡ 1 → q ≡ integer → moved_cell qual (To w) ≡ moved watched g v q (filled x m)
+  pub bind_integer : tag w ≡ 1 → q ≡ integer → moved_cell qual (Ok w) ≡ moved watched g v q (filled x m)
   unfolding moved_cell fits is_integer rights
   bind_integer i b = rw (e, b) (by (value_word qual w x m e))
     where
@@ -147,7 +147,7 @@ module _ (qual : ℕ → Qual) (h : List ℕ) (q : Qual) (w : ℕ) (g : Program)
       by (integer_in j) = sym (bound g v integer (word (low w)) 0 refl (within_refl 0))
       by (object_in j) = absurd (omega arith)
 
-  pub bind_no_integer : tag w ≡ 1 → is_integer q ≡ false → moved_cell qual (Halt 18) ≡ moved watched g v q (filled x m)
+  pub bind_no_integer : tag w ≡ 1 → is_integer q ≡ false → moved_cell qual (Err WrongKind) ≡ moved watched g v q (filled x m)
   unfolding fits
   bind_no_integer i b = bind_misfit (by (value_word qual w x m e))
     where
@@ -168,7 +168,7 @@ module _ (qual : ℕ → Qual) (h : List ℕ) (q : Qual) (w : ℕ) (g : Program)
     fits_seen : fits q (kind_at v.head x) ≡ b
     fits_seen = sym (is ∙ rw (at, name, object_kind not1))
 
-    pub object_misfits : b ≡ false → moved_cell qual (Halt 18) ≡ moved watched g v q (filled x m)
+    pub object_misfits : b ≡ false → moved_cell qual (Err WrongKind) ≡ moved watched g v q (filled x m)
     object_misfits told = bind_misfit (fits_seen ∙ told)
 
     module _ {r l : ℕ} {d : Bool} (told : b ≡ true) (is-r : r ≡ rights q) (is-l : l ≡ low w) (is-d : d ≡ within r l) where
@@ -176,13 +176,13 @@ module _ (qual : ℕ → Qual) (h : List ℕ) (q : Qual) (w : ℕ) (g : Program)
       within_seen (integer_in i) = absurd (not1 i)
       within_seen (object_in i) = rw (is-d, is-r, is-l)
 
-      pub object_without : d ≡ false → moved_cell qual (Halt 19) ≡ moved watched g v q (filled x m)
+      pub object_without : d ≡ false → moved_cell qual (Err MissingRight) ≡ moved watched g v q (filled x m)
       unfolding moved_cell halted
       object_without short =
           sym (bound_without g v q x m (fits_seen ∙ told) (within_seen (value_word qual w x m e) ∙ short))
 
       pub object_bound : (z : ℕ) {k : ℕ} → d ≡ true → k ≡ payload w → slot_in watched qual z ≡ cell (filled (object k) r)
-          → moved_cell qual (To z) ≡ moved watched g v q (filled x m)
+          → moved_cell qual (Ok z) ≡ moved watched g v q (filled x m)
       unfolding moved_cell
       object_bound z {k} enough name_is new =
           rw (new, name_is, is-r) (by (value_word qual w x m e))
@@ -205,11 +205,11 @@ rights_there t n q head is told is-r is-u = is-r ∙ ap rights_of is-u ∙ sym (
 
 -- of any cell by its word
 module _ (qual : ℕ → Qual) (g : Program) (v : View watched) (q : Qual) {w : ℕ} {c : Cell watched} where
-  pub bind_blank : w ≡ 0 → slot_in watched qual w ≡ cell c → moved_cell qual (Halt 13) ≡ moved watched g v q c
+  pub bind_blank : w ≡ 0 → slot_in watched qual w ≡ cell c → moved_cell qual (Err Blank) ≡ moved watched g v q c
   unfolding moved_cell halted moved held ◌>>=◌
   bind_blank z e = rw (blank_word watched qual w e z)
 
-  pub bind_value : (r : Moved) {x : ℕ} → (x ≡ w) × (w ≡ 0 → ⊥) → slot_in watched qual w ≡ cell c
+  pub bind_value : (r : Result ℕ Halt) {x : ℕ} → (x ≡ w) × (w ≡ 0 → ⊥) → slot_in watched qual w ≡ cell c
       → ((y : Value) (m : ℕ) → slot_in watched qual x ≡ cell (filled y m) → moved_cell qual r ≡ moved watched g v q (filled y m))
       → moved_cell qual r ≡ moved watched g v q c
   bind_value r {x} told e rest = by c (cell_word qual w c e) e
@@ -231,9 +231,9 @@ module _ (o : ℕ) (inner q : Qual) (x : Value) (m : Rights) where
   raised_bound g v e = rw e
 
 -- the tests of the code
-pub own_record : (qual : ℕ → Qual) (h : List ℕ) (o w : ℕ) {x : Value} {m : Rights} {n head k tw th : ℕ} → slot_in watched qual w ≡ cell (filled x m)
-    → n ≡ payload w → head ≡ get_or h n 0 → tw ≡ tag w → th ≡ tag head → k ≡ info_of head
-    → ((eqb tw 2 && eqb th 4) && leb 2 o) && eqb k o ≡ is_record_of o (kind_at (heads_in watched qual h) x)
+pub own_record : (qual : ℕ → Qual) (h : List ℕ) (o w : ℕ) {x : Value} {m : Rights} {n head k : ℕ} {a b : Bool} → slot_in watched qual w ≡ cell (filled x m)
+    → n ≡ payload w → head ≡ get_or h n 0 → a ≡ eqb (tag w) 2 → b ≡ eqb (tag head) 4 → k ≡ info_of head
+    → ((a && b) && leb 2 o) && eqb k o ≡ is_record_of o (kind_at (heads_in watched qual h) x)
 unfolding is_record_of
 own_record qual h o w {x} {m} e name at is-w is-h is-k =
     rw (is-w, is-h, is-k, at, name) (by (value_word qual w x m e))
@@ -263,7 +263,7 @@ module _ (qual : ℕ → Qual) (h : List ℕ) (v : View watched) (o w : ℕ) (in
   own_seen = rw (own, is-n, kind_seen x)
 
   pub raise_own : (z : ℕ) {k r : ℕ} → b && n ≡ true → slot_in watched qual w ≡ cell (filled x m) → k ≡ payload w → r ≡ rights q
-      → slot_in watched qual z ≡ cell (filled (object k) r) → moved_cell qual (To z) ≡ raised o inner q (kind_at v.head x) x m
+      → slot_in watched qual z ≡ cell (filled (object k) r) → moved_cell qual (Ok z) ≡ raised o inner q (kind_at v.head x) x m
   unfolding moved_cell is_record_of
   raise_own z told e name is-r new =
       rw (new, name, is-r) (by (value_word qual w x m e) (own_seen ∙ told)) ∙ sym (raised_own o inner q x m (kind_at v.head x) (own_seen ∙ told))
@@ -273,13 +273,13 @@ module _ (qual : ℕ → Qual) (h : List ℕ) (v : View watched) (o w : ℕ) (in
       by (integer_in i) f = absurd (false≢true f)
       by (object_in i) f = refl
 
-  pub raise_bound : (g : Program) (r : Moved) → b && n ≡ false → moved_cell qual r ≡ moved watched g v q (filled x m)
+  pub raise_bound : (g : Program) (r : Result ℕ Halt) → b && n ≡ false → moved_cell qual r ≡ moved watched g v q (filled x m)
       → moved_cell qual r ≡ raised o inner q (kind_at v.head x) x m
   raise_bound g r told is = is ∙ sym (raised_bound o inner q x m g v (own_seen ∙ told))
 
 -- ---- the same over the sheet, of which the index is ready
 
-module _ {s t h : List ℕ} {q : Qual} {w : ℕ} {r : Moved} (ready : Ready s t) where
+module _ {s t h : List ℕ} {q : Qual} {w : ℕ} {r : Result ℕ Halt} (ready : Ready s t) where
   pub filled_of_sheet : BindsFilled (qual_in t) h q w r → BindsFilled (qual_of s) h q w r
   filled_of_sheet = subst (λ (f : ℕ → Qual). BindsFilled f h q w r) (same_types ready)
 
@@ -292,37 +292,44 @@ module _ {s t h : List ℕ} {q : Qual} {w : ℕ} {r : Moved} (ready : Ready s t)
   pub raises_of_sheet : {o : ℕ} {p : Qual} → Raises (qual_in t) h o p q w r → Raises (qual_of s) h o p q w r
   raises_of_sheet {o} {p} = subst (λ (f : ℕ → Qual). Raises f h o p q w r) (same_types ready)
 
--- ---- stops
+-- ---- tests and stops
 
-abbrev stops : {C : Type 0} → (b13 b14 b15 b16 b17 b18 b19 : Bool) → Res C
-stops b13 b14 b15 b16 b17 b18 b19 =
-    cond b13 (stop blank)
-    (cond b14 (stop past_end)
-    (cond b15 (stop input_ended)
-    (cond b16 (stop output_full)
-    (cond b17 (stop memory_full)
-    (cond b18 (stop wrong_kind)
-    (cond b19 (stop missing_right)
-    stuck))))))
+-- what is required
+pub passed : (b : Bool) {r : Result (Unit {0}) Halt} (e : Halt) {u : Unit {0}} → r ≡ cond b (Ok tt) (Err e) → r ≡ Ok u → b ≡ true
+passed true e is was = refl
+passed false e is was = absurd (let z : ◌≡◌ {A = ℕ} 0 1 = cc in omega arith)
+
+pub refused : (b : Bool) {r : Result (Unit {0}) Halt} (e : Halt) {k : Halt} → r ≡ cond b (Ok tt) (Err e) → r ≡ Err k → (k ≡ e) × (b ≡ false)
+refused true e is was = absurd (let z : ◌≡◌ {A = ℕ} 0 1 = cc in omega arith)
+refused false e is was = (cc, refl)
+
+-- where a test denies
+pub denied : (b : Bool) → not b ≡ true → b ≡ false
+denied true e = sym e
+denied false e = refl
+
+pub allowed : (b : Bool) → not b ≡ false → b ≡ true
+allowed true e = refl
+allowed false e = sym e
+
+-- what the exit of a `?` returns
+pub exit_is : {A : Type 0} {r : Result A Halt} {k : Halt} → IsErrAnd r (λ e. e ≡ k) → r ≡ Err k
+exit_is {r = r} is = let p = err_from_is_err_and r is in p.1 ∙ ap Err p.2
 
 -- a stop stays what it is, whatever would come next
-pub halted_then : {A B : Type 0} (k : ℕ) (f : A → Res B) → (halted watched k >>= f) ≡ halted watched k
+pub halted_then : {A B : Type 0} (k : Halt) (f : A → Res B) → (halted watched k >>= f) ≡ halted watched k
 unfolding halted amiss ◌>>=◌
-halted_then {A} {B} k f = by (eqb k 13) (eqb k 14) (eqb k 15) (eqb k 16) (eqb k 17) (eqb k 18) (eqb k 19)
-  where
-    by : (b13 b14 b15 b16 b17 b18 b19 : Bool) → (stops {C = A} b13 b14 b15 b16 b17 b18 b19 >>= f) ≡ stops b13 b14 b15 b16 b17 b18 b19
-    by true b14 b15 b16 b17 b18 b19 = refl
-    by false true b15 b16 b17 b18 b19 = refl
-    by false false true b16 b17 b18 b19 = refl
-    by false false false true b17 b18 b19 = refl
-    by false false false false true b18 b19 = refl
-    by false false false false false true b19 = refl
-    by false false false false false false true = refl
-    by false false false false false false false = refl
+halted_then Blank f = refl
+halted_then PastEnd f = refl
+halted_then InputEnded f = refl
+halted_then OutputFull f = refl
+halted_then MemoryFull f = refl
+halted_then WrongKind f = refl
+halted_then MissingRight f = refl
 
 -- ---- actuals and results
 
-pub moved_ok_to : {r : Moved} {w : ℕ} → r ≡ To w → MovedOk r → IsCell w
+pub moved_ok_to : {r : Result ℕ Halt} {w : ℕ} → r ≡ Ok w → MovedOk r → IsCell w
 moved_ok_to is o = rw is at o
 
 -- a cell that was bound to q: it fits and carries what q says
@@ -348,20 +355,20 @@ module _ (qual : ℕ → Qual) (g : Program) (v : View watched) (e q : Qual) (c 
   abbrev twice : Res (Cell watched)
   twice = moved watched g v e c >>= λ d. moved watched g v q d
 
-  pub twice_to : (r : Moved) (x : ℕ) → moved_cell qual (To x) ≡ moved watched g v e c → moved_cell qual r ≡ moved watched g v q (as_cell (slot_in watched qual x))
+  pub twice_to : (r : Result ℕ Halt) (x : ℕ) → moved_cell qual (Ok x) ≡ moved watched g v e c → moved_cell qual r ≡ moved watched g v q (as_cell (slot_in watched qual x))
       → moved_cell qual r ≡ twice
   unfolding moved_cell ◌>>=◌
   twice_to r x first rest = rest ∙ rw (sym first)
 
   -- to the type that it was bound to: it is as it was
-  pub twice_same : (x : ℕ) → e ≡ q → moved_cell qual (To x) ≡ moved watched g v e c → moved_cell qual (To x) ≡ twice
+  pub twice_same : (x : ℕ) → e ≡ q → moved_cell qual (Ok x) ≡ moved watched g v e c → moved_cell qual (Ok x) ≡ twice
   unfolding moved_cell ◌>>=◌
   twice_same x is first = rw (sym first, sym is) (again (moved_bound g v e c _ (sym first)))
     where
       again : {d : Cell watched} → BoundTo v e d → ok d ≡ moved watched g v e d
       again (bound_to y f) = sym (bound g v e y (rights e) f (within_refl (rights e)))
 
-  pub twice_halt : (k : ℕ) → moved_cell qual (Halt k) ≡ moved watched g v e c → moved_cell qual (Halt k) ≡ twice
+  pub twice_halt : (k : Halt) → moved_cell qual (Err k) ≡ moved watched g v e c → moved_cell qual (Err k) ≡ twice
   unfolding moved_cell
   twice_halt k first = rw (sym first) (sym (halted_then k _))
 
@@ -369,7 +376,7 @@ module _ (qual : ℕ → Qual) (g : Program) (v : View watched) (e q : Qual) (c 
 abbrev then_raise : View watched → (o : ℕ) → (inner as_read : Qual) → Cell watched → Res (Cell watched)
 then_raise v o inner q c = held c >>= λ h. raise watched o inner q (kind_at v.head h.0) h.1 >>= λ r. ok (filled h.0 r)
 
-raised_next : (qual : ℕ → Qual) (v : View watched) (o : ℕ) (inner p q : Qual) (r : Moved) (w : ℕ) {d : Cell watched}
+raised_next : (qual : ℕ → Qual) (v : View watched) (o : ℕ) (inner p q : Qual) (r : Result ℕ Halt) (w : ℕ) {d : Cell watched}
     → BoundTo v q d → slot_in watched qual w ≡ cell d
     → ((y : Value) (m : ℕ) → slot_in watched qual w ≡ cell (filled y m) → moved_cell qual r ≡ raised o inner p (kind_at v.head y) y m)
     → moved_cell qual r ≡ then_raise v o inner p d
@@ -400,8 +407,8 @@ module _ {s t : List ℕ} (k : ℕ) (z : Rights) {c : Scope} (ready : Ready s t)
 module _ {s t : List ℕ} (v : View watched) (k b : ℕ) (z : Rights) (j : ℕ) {c : Scope} {need : ℕ} (ready : Ready s t) (in_scope : FrameScope s k z c)
     (is-need : need ≡ need_at s c.start j) where
   module _ (w : ℕ) {inner : ℕ} (is-inner : inner ≡ inner_at s c.start j) (is_cell : IsCell w)
-      (bound-word : moved_cell (qual_of s) (To w) ≡ moved watched (program_of s) v (type_in t c.name need) (v.variable (b + j))) where
-    pub actual_to : (r : Moved) {owner : ℕ} → owner ≡ byte_at s c.head 2
+      (bound-word : moved_cell (qual_of s) (Ok w) ≡ moved watched (program_of s) v (type_in t c.name need) (v.variable (b + j))) where
+    pub actual_to : (r : Result ℕ Halt) {owner : ℕ} → owner ≡ byte_at s c.head 2
         → ((y : Value) (m : ℕ) → slot_in watched (qual_of s) w ≡ cell (filled y m)
         → moved_cell (qual_of s) r ≡ raised owner (qual_in t inner) (type_in t c.name inner) (kind_at v.head y) y m)
         → moved_cell (qual_of s) r ≡ actual watched (program_of s) v k b z j
@@ -410,22 +417,22 @@ module _ {s t : List ℕ} (v : View watched) (k b : ℕ) (z : Rights) (j : ℕ) 
         raised_next (qual_of s) v _ _ _ (type_in t c.name need) r w (moved_bound (program_of s) v (type_in t c.name need) _ _ (sym bound-word)) (is_cell watched (qual_of s)) rest
         ∙ rw (need_there k z ready in_scope j is-need, inner_there k z ready in_scope j is-inner, inner_unread k z ready in_scope j is-inner, sym in_scope.head, sym is-owner, sym bound-word)
 
-    pub actual_same : need ≡ inner → moved_cell (qual_of s) (To w) ≡ actual watched (program_of s) v k b z j
+    pub actual_same : need ≡ inner → moved_cell (qual_of s) (Ok w) ≡ actual watched (program_of s) v k b z j
     unfolding actual moved_cell ◌>>=◌
     actual_same same-type =
         raised_same v ((program_of s).owner k) ((program_of s).inner k j) (type_in t c.name need) (moved_bound (program_of s) v (type_in t c.name need) _ _ (sym bound-word))
         ∙ rw (need_there k z ready in_scope j is-need, inner_there k z ready in_scope j is-inner, sym same-type, sym bound-word)
 
-  pub actual_halt : (n : ℕ) → moved_cell (qual_of s) (Halt n) ≡ moved watched (program_of s) v (type_in t c.name need) (v.variable (b + j))
-      → moved_cell (qual_of s) (Halt n) ≡ actual watched (program_of s) v k b z j
+  pub actual_halt : (n : Halt) → moved_cell (qual_of s) (Err n) ≡ moved watched (program_of s) v (type_in t c.name need) (v.variable (b + j))
+      → moved_cell (qual_of s) (Err n) ≡ actual watched (program_of s) v k b z j
   unfolding actual moved_cell
   actual_halt n e = rw (need_there k z ready in_scope j is-need, sym e) (sym (halted_then n _))
 
 -- a result: a moved cell, handed over
-pub handed_moved : (qual : ℕ → Qual) (r : Moved) → handed_cell qual r ≡ (moved_cell qual r >>= λ d. ok (some d))
+pub handed_moved : (qual : ℕ → Qual) (r : Result ℕ Halt) → handed_cell qual r ≡ (moved_cell qual r >>= λ d. ok (some d))
 unfolding handed_cell moved_cell ◌>>=◌
-handed_moved qual (To w) = refl
-handed_moved qual (Halt k) = sym (halted_then k (λ d. ok (some d)))
+handed_moved qual (Ok w) = refl
+handed_moved qual (Err k) = sym (halted_then k (λ d. ok (some d)))
 
 module _ (s : List ℕ) (v : View watched) (a : ℕ) where
   -- what ?R stands for in the running frame
@@ -451,13 +458,13 @@ module _ (s : List ℕ) (v : View watched) (a : ℕ) where
       by_cell (filled x m) = by_res x (bind watched q (kind_at v.head x) m)
 
   pub result_blank : {w : ℕ} → w ≡ 0 → slot_in watched (qual_of s) w ≡ cell (v.variable a)
-      → handed_cell (qual_of s) (Halt 13) ≡ handed watched (program_of s) v (some a)
+      → handed_cell (qual_of s) (Err Blank) ≡ handed watched (program_of s) v (some a)
   unfolding handed_cell halted handed held ◌>>=◌
   result_blank {w} z e = rw (blank_word watched (qual_of s) w e z)
 
   pub result_none : {w x n : ℕ} {c : Scope} → InScope s v c → n ≡ byte_at s c.head 5 → n ≡ 255
       → (x ≡ w) × (w ≡ 0 → ⊥) → slot_in watched (qual_of s) w ≡ cell (v.variable a)
-      → handed_cell (qual_of s) (Halt 18) ≡ handed watched (program_of s) v (some a)
+      → handed_cell (qual_of s) (Err WrongKind) ≡ handed watched (program_of s) v (some a)
   unfolding handed_cell halted amiss handed held bind_result result_in result_at read_result ◌>>=◌
   result_none {w} in_scope is none_there told e = rw (sym in_scope.head, sym is ∙ none_there) (by (v.variable a) (cell_word (qual_of s) w _ e))
     where
@@ -467,7 +474,7 @@ module _ (s : List ℕ) (v : View watched) (a : ℕ) where
       by empty (blank_in z) = absurd (told.1 z)
       by (filled y m) f = refl
 
-  pub result_value : (r : Moved) {w x n : ℕ} {c : Scope} {t : List ℕ} → Ready s t → InScope s v c → n ≡ byte_at s c.head 5 → (n ≡ 255 → ⊥)
+  pub result_value : (r : Result ℕ Halt) {w x n : ℕ} {c : Scope} {t : List ℕ} → Ready s t → InScope s v c → n ≡ byte_at s c.head 5 → (n ≡ 255 → ⊥)
       → (x ≡ w) × (w ≡ 0 → ⊥) → slot_in watched (qual_of s) w ≡ cell (v.variable a)
       → ((y : Value) (m : ℕ) → slot_in watched (qual_of s) x ≡ cell (filled y m)
       → moved_cell (qual_of s) r ≡ moved watched (program_of s) v (type_in t c.name n) (filled y m))

@@ -1,9 +1,11 @@
 -- The watched machine's plans, by what the words that an instruction reads are known to be.
-use Rattle.std.proofs.Common.{◌≡◌, ℕ, ◌+◌, ◌%◌, ◌^◌, ◌<◌, ◌≤◌, Bool, true, false, cond, ◌&&◌, ◌||◌, eqb, ltb, ◌⊎◌, List, get_or, sym, refl, ap, ◌∙◌, inl, inr, mod-lt, arith, pow_pos, le-ltb, lt-ltb, eq-eqb, eqb-true}
+use Rattle.std.proofs.Common.{◌≡◌, ℕ, ◌+◌, ◌%◌, ◌^◌, ◌<◌, Bool, true, false, cond, ◌&&◌, ◌||◌, eqb, ltb, ◌⊎◌, List, get_or, sym, refl, ap, ◌∙◌, inl, inr, mod-lt, arith, pow_pos, eq-eqb, eqb-true, Result, Ok, Err}
 use native.Mathlib.Nat.{div-eq_of_lt}
 use mathlib.Core.Bool.{false≢true}
 use lib.Bits.{and_mask}
 use borrow.Author.Tests.{eqb-false}
+use Rattle.model.specs.declared.Halt.{Halt}
+use Rattle.model.specs.declared.Halt.TheVariants.{Blank, PastEnd, WrongKind, MissingRight}
 use Rattle.model.specs.Rights.{Rights, within, has, none_above, record_rights, fetch_right, store_right, size_right, open_right}
 use Rattle.model.specs.Qualified.{Qual, integer, array, declared, generic, rights, element, is_integer, is_array}
 use Rattle.model.specs.Outcome.{blank, past_end, wrong_kind, missing_right, Res, ok, stop, stuck, ◌>>=◌, ◌>>◌, ensure}
@@ -24,26 +26,16 @@ use Rattle.index.specs.declared.procedures.Scope.{Scope}
 use Rattle.index.proofs.Reading.{type_integer, type_array, type_read, inner_read, slot_read, inner_type, slot_type}
 use Rattle.words.specs.Word.{tag, low, payload, size_of, info_of as kind-number, cell, slot_in, as_head}
 use Rattle.words.specs.Sees.{head_size, Sees}
-use Rattle.words.specs.Answer.{read_as}
+use Rattle.words.specs.Answer.{read_filled}
 use Rattle.words.specs.Answers.{MovedOk, InObject, StoredOk, halted, number_as, given, moved_to, stored}
-use Rattle.words.specs.declared.Cell.{Cell as Read}
-use Rattle.words.specs.declared.Cell.TheVariants.{Blank, Filled}
-use Rattle.words.specs.declared.Number.{Number}
-use Rattle.words.specs.declared.Moved.{Moved}
 use Rattle.words.specs.declared.Stored.{Stored}
 use Rattle.words.proofs.Laws.{told_blank, told_filled, blank_word, slot_array, slot_record}
 use Rattle.binding.specs.Binds.{InScope, Heads, moved_cell}
 use Rattle.binding.proofs.Views.{ValueOf, integer_in, object_in, value_word, CellOf, blank_in, cell_word, HeadOf, array_in, record_in, no_head_in, head_word}
 use Rattle.binding.proofs.Laws.{bound, bound_misfit, halted_then}
 use Rattle.watched_plan.specs.Spots.{pair_as, element_in, element_as, slot_as, SpotOk, storing, made, index_of, element_at, slot_of_record, slot_at, size_for}
-use Rattle.watched_plan.specs.declared.Pair.{Pair}
 use Rattle.watched_plan.specs.declared.Spot.{Spot}
 use Rattle.model.specs.declared.Operation.TheVariants as Op
-use Rattle.words.specs.declared.Number.TheVariants as N
-use Rattle.words.specs.declared.Moved.TheVariants as M
-use Rattle.words.specs.declared.Stored.TheVariants as T
-use Rattle.watched_plan.specs.declared.Pair.TheVariants as P
-use Rattle.watched_plan.specs.declared.Spot.TheVariants as S
 
 -- the type of variable a, by its number in the index, as the scope reads it
 module _ (s : List ℕ) (p : Scope) (a : ℕ) {t : List ℕ} {q : ℕ} (ready : Ready s t) (is : q ≡ inner_at s p.start a) where
@@ -113,11 +105,11 @@ tagged : (w : ℕ) → tag w ≡ 1 → w ≡ 0 → ⊥
 unfolding tag
 tagged w t z = omega arith
 
-module _ {q : ℕ → Qual} {v : View watched} {f h : List ℕ} (s : Sees watched q v f h) {x w : ℕ} {r : Read} (at : w ≡ get_or f x 0) (is : r ≡ read_as w) where
-  pub blank_seen : r ≡ Blank → v.variable x ≡ empty
-  blank_seen told = zero_seen s at (told_blank is told)
+module _ {q : ℕ → Qual} {v : View watched} {f h : List ℕ} (s : Sees watched q v f h) {x w : ℕ} {r : Result ℕ Halt} (at : w ≡ get_or f x 0) (is : r ≡ read_filled w) where
+  pub blank_seen : {k : Halt} → r ≡ Err k → (k ≡ Blank) × (v.variable x ≡ empty)
+  blank_seen told = let k = told_blank is told in (k.0, zero_seen s at k.1)
 
-  pub filled_seen : {y : ℕ} → r ≡ Filled y → Found q y (v.variable x)
+  pub filled_seen : {y : ℕ} → r ≡ Ok y → Found q y (v.variable x)
   filled_seen {y} told =
       let k = told_filled is told in
       found_word q y (v.variable x) (λ z. k.1 (sym k.0 ∙ z)) (ap (slot_in watched q) (k.0 ∙ at) ∙ s.variable x)
@@ -125,7 +117,7 @@ module _ {q : ℕ → Qual} {v : View watched} {f h : List ℕ} (s : Sees watche
 -- ---- integers
 
 module _ (q : ℕ → Qual) (w : ℕ) {x : Value} {m : ℕ} (e : slot_in watched q w ≡ cell (filled x m)) where
-  pub integer_is : {n : ℕ} → n ≡ low w → tag w ≡ 1 → number_as watched (N.Is n) ≡ as_integer watched x
+  pub integer_is : {n : ℕ} → n ≡ low w → tag w ≡ 1 → number_as watched (Ok n) ≡ as_integer watched x
   unfolding number_as as_integer
   integer_is {n} is t = by (value_word q w x m e)
     where
@@ -133,7 +125,7 @@ module _ (q : ℕ → Qual) (w : ℕ) {x : Value} {m : ℕ} (e : slot_in watched
       by (integer_in i) = rw is
       by (object_in i) = absurd (omega arith)
 
-  pub no_integer : (tag w ≡ 1 → ⊥) → number_as watched (N.Halt 18) ≡ as_integer watched x
+  pub no_integer : (tag w ≡ 1 → ⊥) → number_as watched (Err WrongKind) ≡ as_integer watched x
   unfolding number_as halted as_integer amiss
   no_integer not1 = by (value_word q w x m e)
     where
@@ -142,11 +134,11 @@ module _ (q : ℕ → Qual) (w : ℕ) {x : Value} {m : ℕ} (e : slot_in watched
       by (object_in i) = refl
 
 module _ (g : Program) (v : View watched) (b : ℕ) where
-  pub one_blank : v.variable b ≡ empty → number_as watched (N.Halt 13) ≡ one_integer watched g v b
+  pub one_blank : v.variable b ≡ empty → number_as watched (Err Blank) ≡ one_integer watched g v b
   unfolding one_integer number_as halted held ◌>>=◌
   one_blank e = rw e
 
-  pub one_found : {q : ℕ → Qual} {y : ℕ} (n : Number) → Found q y (v.variable b)
+  pub one_found : {q : ℕ → Qual} {y : ℕ} (n : Result ℕ Halt) → Found q y (v.variable b)
       → ((x : Value) (m : ℕ) → slot_in watched q y ≡ cell (filled x m) → number_as watched n ≡ as_integer watched x)
       → number_as watched n ≡ one_integer watched g v b
   unfolding one_integer held ◌>>=◌
@@ -156,20 +148,20 @@ module _ (g : Program) (v : View watched) (b : ℕ) where
       by (found x m e) = is x m e
 
 -- by the word that a variable has
-module _ {q : ℕ → Qual} {v : View watched} {f h : List ℕ} (s : Sees watched q v f h) (g : Program) (b : ℕ) {w t : ℕ} (at : w ≡ get_or f b 0) (is : t ≡ tag w) where
-  pub one_word : {n : ℕ} → n ≡ low w → t ≡ 1 → number_as watched (N.Is n) ≡ one_integer watched g v b
-  one_word n told = one_found g v b _ (word_seen s at (tagged w (sym is ∙ told))) (λ x m e. integer_is q w e n (sym is ∙ told))
+module _ {q : ℕ → Qual} {v : View watched} {f h : List ℕ} (s : Sees watched q v f h) (g : Program) (b : ℕ) {w : ℕ} {t : Bool} (at : w ≡ get_or f b 0) (is : t ≡ eqb (tag w) 1) where
+  pub one_word : {n : ℕ} → n ≡ low w → t ≡ true → number_as watched (Ok n) ≡ one_integer watched g v b
+  one_word n told = one_found g v b _ (word_seen s at (tagged w (eqb-true _ 1 (sym is ∙ told)))) (λ x m e. integer_is q w e n (eqb-true _ 1 (sym is ∙ told)))
 
-  pub no_word : {n : ℕ} → (t ≡ 1 → ⊥) → n ≡ cond (eqb w 0) 13 18 → number_as watched (N.Halt n) ≡ one_integer watched g v b
-  no_word {n} told why = go (eqb w 0) refl
+  pub no_word : {k : Halt} → t ≡ false → k ≡ cond (eqb w 0) Blank WrongKind → number_as watched (Err k) ≡ one_integer watched g v b
+  no_word {k} told why = go (eqb w 0) refl
     where
-      go : (z : Bool) → eqb w 0 ≡ z → number_as watched (N.Halt n) ≡ one_integer watched g v b
+      go : (z : Bool) → eqb w 0 ≡ z → number_as watched (Err k) ≡ one_integer watched g v b
       go true e = rw (why, e) (one_blank g v b (zero_seen s at (eqb-true w 0 e)))
-      go false e = rw (why, e) (one_found g v b (N.Halt 18) (word_seen s at (eqb-false w 0 e)) (λ x m k. no_integer q w k (λ l. told (is ∙ l))))
+      go false e = rw (why, e) (one_found g v b (Err WrongKind) (word_seen s at (eqb-false w 0 e)) (λ x m k. no_integer q w k (eqb-false _ 1 (sym is ∙ told))))
 
 -- the two that an instruction reads, b before c
 module _ (g : Program) (v : View watched) (b c : ℕ) where
-  pub first_blank : v.variable b ≡ empty → pair_as (P.Halt 13) ≡ integers watched g v b c
+  pub first_blank : v.variable b ≡ empty → pair_as (Err Blank) ≡ integers watched g v b c
   unfolding integers pair_as halted held ◌>>=◌
   first_blank e = rw e
 
@@ -181,20 +173,20 @@ module _ (g : Program) (v : View watched) (b c : ℕ) where
     j ← as_integer watched y.0
     ok (i, j)
 
-  pub second_blank : {q : ℕ → Qual} {x : ℕ} → Found q x (v.variable b) → v.variable c ≡ empty → pair_as (P.Halt 13) ≡ integers watched g v b c
+  pub second_blank : {q : ℕ → Qual} {x : ℕ} → Found q x (v.variable b) → v.variable c ≡ empty → pair_as (Err Blank) ≡ integers watched g v b c
   unfolding integers pair_as halted held ◌>>=◌
   second_blank {q} {x} here e = rw e (by here)
     where
       by : {d : Cell watched} → Found q x d → stop blank ≡ both d empty
       by (found z m k) = refl
 
-  module _ {q : ℕ → Qual} {x y t u : ℕ} (one : Found q x (v.variable b)) (two : Found q y (v.variable c)) (tx : t ≡ tag x) (ty : u ≡ tag y) where
-    pub two_words : {m n : ℕ} → m ≡ low x → n ≡ low y → eqb t 1 && eqb u 1 ≡ true → pair_as (P.Are m n) ≡ integers watched g v b c
+  module _ {q : ℕ → Qual} {x y : ℕ} {t u : Bool} (one : Found q x (v.variable b)) (two : Found q y (v.variable c)) (tx : t ≡ eqb (tag x) 1) (ty : u ≡ eqb (tag y) 1) where
+    pub two_words : {m n : ℕ} → m ≡ low x → n ≡ low y → t && u ≡ true → pair_as (Ok (m, n)) ≡ integers watched g v b c
     unfolding integers pair_as held as_integer ◌>>=◌
     two_words {m} {n} is_m is-n told = by one two
       where
         tests : (tag x ≡ 1) × (tag y ≡ 1)
-        tests = let k = both_true (eqb t 1) (eqb u 1) told in (sym tx ∙ eqb-true t 1 k.0, sym ty ∙ eqb-true u 1 k.1)
+        tests = let k = both_true t u told in (eqb-true _ 1 (sym tx ∙ k.0), eqb-true _ 1 (sym ty ∙ k.1))
 
         inner : {z w : Value} {k l : ℕ} → ValueOf x z k → ValueOf y w l → ◌≡◌ {A = Res (ℕ × ℕ)} (ok (m, n)) (as_integer watched z >>= λ i. as_integer watched w >>= λ j. ok (i, j))
         inner (integer_in i) (integer_in j) = rw (is_m, is-n)
@@ -204,7 +196,7 @@ module _ (g : Program) (v : View watched) (b c : ℕ) where
         by : {d e : Cell watched} → Found q x d → Found q y e → ok (m, n) ≡ both d e
         by (found z k a) (found w l b) = inner (value_word q x z k a) (value_word q y w l b)
 
-    pub not_two_words : eqb t 1 && eqb u 1 ≡ false → pair_as (P.Halt 18) ≡ integers watched g v b c
+    pub not_two_words : t && u ≡ false → pair_as (Err WrongKind) ≡ integers watched g v b c
     unfolding integers pair_as halted held as_integer amiss ◌>>=◌
     not_two_words told = by one two
       where
@@ -217,17 +209,17 @@ module _ (g : Program) (v : View watched) (b c : ℕ) where
         by (found z k a) (found w l b) = inner (value_word q x z k a) (value_word q y w l b)
 
 -- by the words that they have
-module _ {q : ℕ → Qual} {v : View watched} {f h : List ℕ} (s : Sees watched q v f h) (g : Program) (b c : ℕ) {x y t u : ℕ}
-    (at_b : x ≡ get_or f b 0) (at_c : y ≡ get_or f c 0) (tx : t ≡ tag x) (ty : u ≡ tag y) where
-  pub both_words : {m n : ℕ} → m ≡ low x → n ≡ low y → eqb t 1 && eqb u 1 ≡ true → pair_as (P.Are m n) ≡ integers watched g v b c
+module _ {q : ℕ → Qual} {v : View watched} {f h : List ℕ} (s : Sees watched q v f h) (g : Program) (b c : ℕ) {x y : ℕ} {t u : Bool}
+    (at_b : x ≡ get_or f b 0) (at_c : y ≡ get_or f c 0) (tx : t ≡ eqb (tag x) 1) (ty : u ≡ eqb (tag y) 1) where
+  pub both_words : {m n : ℕ} → m ≡ low x → n ≡ low y → t && u ≡ true → pair_as (Ok (m, n)) ≡ integers watched g v b c
   both_words m n told =
-      let k = both_true (eqb t 1) (eqb u 1) told in
-      two_words g v b c (word_seen s at_b (tagged x (sym tx ∙ eqb-true t 1 k.0))) (word_seen s at_c (tagged y (sym ty ∙ eqb-true u 1 k.1))) tx ty m n told
+      let k = both_true t u told in
+      two_words g v b c (word_seen s at_b (tagged x (eqb-true _ 1 (sym tx ∙ k.0)))) (word_seen s at_c (tagged y (eqb-true _ 1 (sym ty ∙ k.1)))) tx ty m n told
 
-  pub no_words : {n : ℕ} → eqb t 1 && eqb u 1 ≡ false → n ≡ cond (eqb x 0 || eqb y 0) 13 18 → pair_as (P.Halt n) ≡ integers watched g v b c
+  pub no_words : {n : Halt} → t && u ≡ false → n ≡ cond (eqb x 0 || eqb y 0) Blank WrongKind → pair_as (Err n) ≡ integers watched g v b c
   no_words {n} told why = go (eqb x 0) refl (eqb y 0) refl
     where
-      go : (i : Bool) → eqb x 0 ≡ i → (j : Bool) → eqb y 0 ≡ j → pair_as (P.Halt n) ≡ integers watched g v b c
+      go : (i : Bool) → eqb x 0 ≡ i → (j : Bool) → eqb y 0 ≡ j → pair_as (Err n) ≡ integers watched g v b c
       go true e j k = rw (why, e) (first_blank g v b c (zero_seen s at_b (eqb-true x 0 e)))
       go false e true k = rw (why, e, k) (second_blank g v b c (word_seen s at_b (eqb-false x 0 e)) (zero_seen s at_c (eqb-true y 0 k)))
       go false e false k = rw (why, e, k) (not_two_words g v b c (word_seen s at_b (eqb-false x 0 e)) (word_seen s at_c (eqb-false y 0 k)) tx ty told)
@@ -251,36 +243,36 @@ no_rights (declared t r) e = absurd (false≢true e)
 no_rights (generic t l) e = absurd (false≢true e)
 
 module _ (g : Program) (v : View watched) (a n : ℕ) {q : Qual} (is : declared_as watched g v a ≡ q) where
-  pub gives_integer : is_integer q ≡ true → given watched a (N.Is n) ≡ gives watched g v a n
+  pub gives_integer : is_integer q ≡ true → given watched a (Ok n) ≡ gives watched g v a n
   unfolding given gives give fits ◌>>=◌
   gives_integer e =
       let enough : within (rights q) 0 ≡ true = rw (no_rights q e) (within_refl 0) in
       let here : moved watched g v q (filled (word n) 0) ≡ ok (filled (word n) 0) = bound g v q (word n) 0 e enough ∙ rw (no_rights q e) in
       rw (is, here)
 
-  pub gives_misfit : is_integer q ≡ false → given watched a (N.Halt 18) ≡ gives watched g v a n
+  pub gives_misfit : is_integer q ≡ false → given watched a (Err WrongKind) ≡ gives watched g v a n
   unfolding given halted amiss gives give fits ◌>>=◌
   gives_misfit e = rw (is, bound_misfit g v q (word n) 0 e)
 
 -- an instruction that computes one from two
-module _ (g : Program) (v : View watched) (a b c : ℕ) (op : ℕ → ℕ → ℕ) {r : Pair} (is : pair_as r ≡ integers watched g v b c) where
-  pub computed : {m n k : ℕ} (x : Number) → r ≡ P.Are m n → k ≡ op m n → given watched a x ≡ gives watched g v a k
+module _ (g : Program) (v : View watched) (a b c : ℕ) (op : ℕ → ℕ → ℕ) {r : Result (ℕ × ℕ) Halt} (is : pair_as r ≡ integers watched g v b c) where
+  pub computed : {p : ℕ × ℕ} {k : ℕ} (x : Result ℕ Halt) → r ≡ Ok p → k ≡ op p.0 p.1 → given watched a x ≡ gives watched g v a k
       → given watched a x ≡ (integers watched g v b c >>= λ p. gives watched g v a (op p.0 p.1))
   unfolding pair_as ◌>>=◌
   computed x told same e = e ∙ rw (same, sym is, told)
 
-  pub not_computed : {k : ℕ} → r ≡ P.Halt k → given watched a (N.Halt k) ≡ (integers watched g v b c >>= λ p. gives watched g v a (op p.0 p.1))
+  pub not_computed : {k : Halt} → r ≡ Err k → given watched a (Err k) ≡ (integers watched g v b c >>= λ p. gives watched g v a (op p.0 p.1))
   unfolding pair_as given
   not_computed {k} told = rw (sym is, told) (sym (halted_then k _))
 
 -- ---- moving a cell
 
-pub moved_into : (q : ℕ → Qual) (a : ℕ) (r : Moved) → moved_to watched q a r ≡ (moved_cell q r >>= λ d. ok (write a d))
+pub moved_into : (q : ℕ → Qual) (a : ℕ) (r : Result ℕ Halt) → moved_to watched q a r ≡ (moved_cell q r >>= λ d. ok (write a d))
 unfolding moved_to moved_cell ◌>>=◌
-moved_into q a (M.To w) = refl
-moved_into q a (M.Halt k) = sym (halted_then k _)
+moved_into q a (Ok w) = refl
+moved_into q a (Err k) = sym (halted_then k _)
 
-pub bind_plan : (q : ℕ → Qual) (g : Program) (v : View watched) (a b : ℕ) (r : Moved) {t : Qual}
+pub bind_plan : (q : ℕ → Qual) (g : Program) (v : View watched) (a b : ℕ) (r : Result ℕ Halt) {t : Qual}
     → declared_as watched g v a ≡ t → moved_cell q r ≡ moved watched g v t (v.variable b) → moved_to watched q a r ≡ plan watched g v (Op.Bind a b)
 unfolding plan
 bind_plan q g v a b r is e = moved_into q a r ∙ rw (e, is)
@@ -304,13 +296,13 @@ three_true a b c e =
     let l = both_true a b k.0 in
     (l.0, l.1, k.1)
 
-pub inside_array : (h : List ℕ) (o w i : ℕ) {n : ℕ} (a c : Bool) {t : ℕ} → w ≡ get_or h o 0 → t ≡ tag w → (a && eqb t 3) && c ≡ true → n ≡ size_of w → i < n → InObject h o i
+pub inside_array : (h : List ℕ) (o w i : ℕ) {n : ℕ} (a c : Bool) {t : Bool} → w ≡ get_or h o 0 → t ≡ eqb (tag w) 3 → (a && t) && c ≡ true → n ≡ size_of w → i < n → InObject h o i
 inside_array h o w i a c {t} at is holds size below =
-    inside_head h o w i at (inl (sym is ∙ eqb-true t 3 (three_true a (eqb t 3) c holds).1)) (rw size at below)
+    inside_head h o w i at (inl (eqb-true _ 3 (sym is ∙ (three_true a t c holds).1))) (rw size at below)
 
-pub inside_record : (h : List ℕ) (o w i : ℕ) {n : ℕ} (a c : Bool) {t : ℕ} → w ≡ get_or h o 0 → t ≡ tag w → (a && eqb t 4) && c ≡ true → n ≡ size_of w → i < n → InObject h o i
+pub inside_record : (h : List ℕ) (o w i : ℕ) {n : ℕ} (a c : Bool) {t : Bool} → w ≡ get_or h o 0 → t ≡ eqb (tag w) 4 → (a && t) && c ≡ true → n ≡ size_of w → i < n → InObject h o i
 inside_record h o w i a c {t} at is holds size below =
-    inside_head h o w i at (inr (sym is ∙ eqb-true t 4 (three_true a (eqb t 4) c holds).1)) (rw size at below)
+    inside_head h o w i at (inr (eqb-true _ 4 (sym is ∙ (three_true a t c holds).1))) (rw size at below)
 
 -- ---- an array's element
 
@@ -334,58 +326,58 @@ module _ (g : Program) (v : View watched) (q : ℕ → Qual) (right x y w : ℕ)
   index_there (object_in i) (integer_in j) (record_in t) e tags = let l = tags.1 in absurd (omega arith)
   index_there (object_in i) (integer_in j) (no_head_in a b) e tags = absurd (a tags.1)
 
-module _ (g : Program) (v : View watched) (q : ℕ → Qual) (h : List ℕ) (right x y : ℕ) {o w : ℕ} {z u : Value} {m n : ℕ} {tx th ty : ℕ}
+module _ (g : Program) (v : View watched) (q : ℕ → Qual) (h : List ℕ) (right x y : ℕ) {o w : ℕ} {z u : Value} {m n : ℕ} {tx th ty : Bool}
     (heads : Heads q v h)
     (first : slot_in watched q x ≡ cell (filled z m)) (second : slot_in watched q y ≡ cell (filled u n))
     (name : o ≡ payload x) (at : w ≡ get_or h o 0)
-    (t-x : tx ≡ tag x) (t-h : th ≡ tag w) (t-y : ty ≡ tag y) where
-  pub index_misfit : (eqb tx 2 && eqb th 3) && eqb ty 1 ≡ false → element_as q h (S.Halt 18) ≡ index_of g v right z m u
+    (t-x : tx ≡ eqb (tag x) 2) (t-h : th ≡ eqb (tag w) 3) (t-y : ty ≡ eqb (tag y) 1) where
+  pub index_misfit : (tx && th) && ty ≡ false → element_as q h (Err WrongKind) ≡ index_of g v right z m u
   unfolding element_as halted amiss
   index_misfit fails =
       index_amiss g v q right x y w (value_word q x z m first) (value_word q y u n second) (head_word q w) (head_seen q v h x heads name at) (rw (t-x, t-h, t-y) at fails)
 
-  index_is : (eqb tx 2 && eqb th 3) && eqb ty 1 ≡ true
+  index_is : (tx && th) && ty ≡ true
       → (ensure missing_right (has right (low x)) >> (ensure past_end (ltb (low y) (size_of w)) >> ok (payload x, element_in q w, low y))) ≡ index_of g v right z m u
   index_is holds =
-      let k = three_true (eqb tx 2) (eqb th 3) (eqb ty 1) holds in
+      let k = three_true tx th ty holds in
       index_there g v q right x y w (value_word q x z m first) (value_word q y u n second) (head_word q w) (head_seen q v h x heads name at)
-      (sym t-x ∙ eqb-true tx 2 k.0, sym t-h ∙ eqb-true th 3 k.1, sym t-y ∙ eqb-true ty 1 k.2)
+      (eqb-true _ 2 (sym t-x ∙ k.0), eqb-true _ 3 (sym t-h ∙ k.1), eqb-true _ 1 (sym t-y ∙ k.2))
 
-  module _ {l : ℕ} {b : Bool} (holds : (eqb tx 2 && eqb th 3) && eqb ty 1 ≡ true) (is-l : l ≡ low x) (is_b : b ≡ has right l) where
-    pub index_without : b ≡ false → element_as q h (S.Halt 19) ≡ index_of g v right z m u
+  module _ {l : ℕ} {b : Bool} (holds : (tx && th) && ty ≡ true) (is-l : l ≡ low x) (is_b : b ≡ has right l) where
+    pub index_without : b ≡ false → element_as q h (Err MissingRight) ≡ index_of g v right z m u
     unfolding element_as halted ensure ◌>>◌
     index_without fails =
         let e : has right (low x) ≡ false = ap (has right) (sym is-l) ∙ sym is_b ∙ fails in
         (rw e at (index_is holds))
 
-    pub index_past : {i k : ℕ} → b ≡ true → i ≡ low y → k ≡ size_of w → k ≤ i → element_as q h (S.Halt 14) ≡ index_of g v right z m u
+    pub index_past : {i k : ℕ} → b ≡ true → i ≡ low y → k ≡ size_of w → ltb i k ≡ false → element_as q h (Err PastEnd) ≡ index_of g v right z m u
     unfolding element_as halted ensure ◌>>◌
     index_past {i} {k} licensed is-i is-k past =
         let e : has right (low x) ≡ true = ap (has right) (sym is-l) ∙ sym is_b ∙ licensed in
-        let p : size_of w ≤ low y = omega arith in
-        (rw (e, le-ltb (low y) (size_of w) p) at (index_is holds))
+        let p : ltb (low y) (size_of w) ≡ false = rw (is-i, is-k) at past in
+        (rw (e, p) at (index_is holds))
 
-    pub index_at : {i k : ℕ} → b ≡ true → i ≡ low y → k ≡ size_of w → i < k → element_as q h (S.At o i) ≡ index_of g v right z m u
+    pub index_at : {i k : ℕ} → b ≡ true → i ≡ low y → k ≡ size_of w → ltb i k ≡ true → element_as q h (Ok (record { object = o; cell = i })) ≡ index_of g v right z m u
     unfolding element_as ensure ◌>>◌
     index_at {i} {k} licensed is-i is-k below =
         let e : has right (low x) ≡ true = ap (has right) (sym is-l) ∙ sym is_b ∙ licensed in
-        let p : low y < size_of w = omega arith in
-        rw (sym at, name, is-i) (rw (e, lt-ltb (low y) (size_of w) p) at (index_is holds))
+        let p : ltb (low y) (size_of w) ≡ true = rw (is-i, is-k) at below in
+        rw (sym at, name, is-i) (rw (e, p) at (index_is holds))
 
 -- of the cells of two variables
 module _ (g : Program) (v : View watched) (q : ℕ → Qual) (h : List ℕ) (right b c : ℕ) where
-  pub element_blank : v.variable b ≡ empty → element_as q h (S.Halt 13) ≡ element_at g v right b c
+  pub element_blank : v.variable b ≡ empty → element_as q h (Err Blank) ≡ element_at g v right b c
   unfolding element_as halted element_at held ◌>>=◌
   element_blank e = rw e
 
-  pub element_blank_index : {x : ℕ} → Found q x (v.variable b) → v.variable c ≡ empty → element_as q h (S.Halt 13) ≡ element_at g v right b c
+  pub element_blank_index : {x : ℕ} → Found q x (v.variable b) → v.variable c ≡ empty → element_as q h (Err Blank) ≡ element_at g v right b c
   unfolding element_as halted element_at held ◌>>=◌
   element_blank_index {x} here e = rw e (by here)
     where
       by : {d : Cell watched} → Found q x d → ◌≡◌ {A = Res (ℕ × Qual × ℕ)} (stop blank) (held d >>= λ x. held {m = watched} empty >>= λ y. index_of g v right x.0 x.1 y.0)
       by (found z m k) = refl
 
-  pub element_found : {x y : ℕ} (r : Spot) → Found q x (v.variable b) → Found q y (v.variable c)
+  pub element_found : {x y : ℕ} (r : Result Spot Halt) → Found q x (v.variable b) → Found q y (v.variable c)
       → ((z u : Value) (m n : ℕ) → slot_in watched q x ≡ cell (filled z m) → slot_in watched q y ≡ cell (filled u n) → element_as q h r ≡ index_of g v right z m u)
       → element_as q h r ≡ element_at g v right b c
   unfolding element_at held ◌>>=◌
@@ -419,39 +411,43 @@ cell_seen : (q : ℕ → Qual) (v : View watched) (f h : List ℕ) (o i w : ℕ)
 cell_seen q v f h o i w s here at =
     ap (slot_in watched q) at ∙ s.cell o i here.size (ap head_size (sym (s.head o)) ∙ here.head watched q) here.below
 
-pub inside_spot : {h : List ℕ} {p : Spot} {o i : ℕ} → p ≡ S.At o i → SpotOk h p → InObject h o i
+pub inside_spot : {h : List ℕ} {p : Result Spot Halt} {at : Spot} → p ≡ Ok at → SpotOk h p → InObject h at.object at.cell
 inside_spot told here = rw told at here
 
-module _ (q : ℕ → Qual) (g : Program) (v : View watched) (f h : List ℕ) (a b c : ℕ) {p : Spot} (is : element_as q h p ≡ element_at g v fetch_right b c) where
-  pub fetch_at : (r : Moved) {o i w : ℕ} {t u : Qual} → p ≡ S.At o i → SpotOk h p → Sees watched q v f h
-      → declared_as watched g v a ≡ t → element (declared_as watched g v b) ≡ u → w ≡ get_or h (o + 1 + i) 0
+module _ (q : ℕ → Qual) (g : Program) (v : View watched) (f h : List ℕ) (a b c : ℕ) {p : Result Spot Halt} (is : element_as q h p ≡ element_at g v fetch_right b c) where
+  pub fetch_at : (r : Result ℕ Halt) {spot : Spot} {w : ℕ} {t u : Qual} → p ≡ Ok spot → SpotOk h p → Sees watched q v f h
+      → declared_as watched g v a ≡ t → element (declared_as watched g v b) ≡ u → w ≡ get_or h (spot.object + 1 + spot.cell) 0
       → ((d : Cell watched) → slot_in watched q w ≡ cell d → moved_cell q r ≡ fetched g v u t d)
       → moved_to watched q a r ≡ plan watched g v (Op.Fetch a b c)
   unfolding element_as ◌>>=◌
-  fetch_at r {o} {i} {w} told here s dec dec-b at rest =
-      let spot : element_at g v fetch_right b c ≡ ok (o, element_in q (get_or h o 0), i) = sym is ∙ ap (element_as q h) told in
+  fetch_at r {spot} {w} told here s dec dec-b at rest =
+      let o = spot.object in
+      let i = spot.cell in
+      let there : element_at g v fetch_right b c ≡ ok (o, element_in q (get_or h o 0), i) = sym is ∙ ap (element_as q h) told in
       moved_into q a r
       ∙ ap (λ (m : Res (Cell watched)). m >>= λ d. ok (write a d)) (rest _ (cell_seen q v f h o i w s (inside_spot told here) at))
-      ∙ sym (fetch_plan g v a b c ∙ rw (spot, dec, dec-b))
+      ∙ sym (fetch_plan g v a b c ∙ rw (there, dec, dec-b))
 
-  pub fetch_halt : {k : ℕ} → p ≡ S.Halt k → moved_to watched q a (M.Halt k) ≡ plan watched g v (Op.Fetch a b c)
+  pub fetch_halt : {k : Halt} → p ≡ Err k → moved_to watched q a (Err k) ≡ plan watched g v (Op.Fetch a b c)
   unfolding element_as moved_to
   fetch_halt {k} told =
       let spot : element_at g v fetch_right b c ≡ halted watched k = sym is ∙ ap (element_as q h) told in
       sym (fetch_plan g v a b c ∙ rw spot (halted_then k _))
 
-module _ (q : ℕ → Qual) (g : Program) (v : View watched) (h : List ℕ) (a b c : ℕ) {p : Spot} (is : element_as q h p ≡ element_at g v store_right a b) where
-  pub store_at : (r : Stored) (m : Moved) {o i w : ℕ} {t : Qual} → p ≡ S.At o i → stored watched q r ≡ storing o i (moved_cell q m)
-      → w ≡ get_or h o 0 → t ≡ element_in q w
+module _ (q : ℕ → Qual) (g : Program) (v : View watched) (h : List ℕ) (a b c : ℕ) {p : Result Spot Halt} (is : element_as q h p ≡ element_at g v store_right a b) where
+  pub store_at : (r : Result Stored Halt) (m : Result ℕ Halt) {spot : Spot} {w : ℕ} {t : Qual} → p ≡ Ok spot → stored watched q r ≡ storing spot.object spot.cell (moved_cell q m)
+      → w ≡ get_or h spot.object 0 → t ≡ element_in q w
       → moved_cell q m ≡ moved watched g v t (v.variable c)
       → stored watched q r ≡ plan watched g v (Op.Store a b c)
   unfolding element_as ◌>>=◌
-  store_at r m {o} {i} {w} {t} told stores at is-element moves =
-      let spot : element_at g v store_right a b ≡ ok (o, element_in q (get_or h o 0), i) = sym is ∙ ap (element_as q h) told in
+  store_at r m {spot} {w} {t} told stores at is-element moves =
+      let o = spot.object in
+      let i = spot.cell in
+      let there : element_at g v store_right a b ≡ ok (o, element_in q (get_or h o 0), i) = sym is ∙ ap (element_as q h) told in
       let same : t ≡ element_in q (get_or h o 0) = is-element ∙ ap (λ (z : ℕ). element_in q z) at in
-      stores ∙ ap (storing o i) (moves ∙ ap (λ (t : Qual). moved watched g v t (v.variable c)) same) ∙ sym (store_plan g v a b c ∙ rw spot)
+      stores ∙ ap (storing o i) (moves ∙ ap (λ (t : Qual). moved watched g v t (v.variable c)) same) ∙ sym (store_plan g v a b c ∙ rw there)
 
-  pub store_halt : {k : ℕ} → p ≡ S.Halt k → stored watched q (T.Halt k) ≡ plan watched g v (Op.Store a b c)
+  pub store_halt : {k : Halt} → p ≡ Err k → stored watched q (Err k) ≡ plan watched g v (Op.Store a b c)
   unfolding element_as stored
   store_halt {k} told =
       let spot : element_at g v store_right a b ≡ halted watched k = sym is ∙ ap (element_as q h) told in
@@ -477,50 +473,50 @@ module _ (g : Program) (v : View watched) (q : ℕ → Qual) (t j x w : ℕ) whe
   slot_there_is (object_in i) (array_in n) e tags = let l = tags.1 in absurd (omega arith)
   slot_there_is (object_in i) (no_head_in a b) e tags = absurd (b tags.1)
 
-module _ (g : Program) (v : View watched) (q : ℕ → Qual) (h : List ℕ) (t j x : ℕ) {o w : ℕ} {z : Value} {m : ℕ} {tx th u : ℕ}
+module _ (g : Program) (v : View watched) (q : ℕ → Qual) (h : List ℕ) (t j x : ℕ) {o w : ℕ} {z : Value} {m u : ℕ} {tx th : Bool}
     (heads : Heads q v h) (first : slot_in watched q x ≡ cell (filled z m))
     (name : o ≡ payload x) (at : w ≡ get_or h o 0)
-    (t-x : tx ≡ tag x) (t-h : th ≡ tag w) (kind : u ≡ kind-number w) where
-  pub slot_misfit : (eqb tx 2 && eqb th 4) && eqb u t ≡ false → slot_as (S.Halt 18) ≡ slot_of_record g v t j z m
+    (t-x : tx ≡ eqb (tag x) 2) (t-h : th ≡ eqb (tag w) 4) (kind : u ≡ kind-number w) where
+  pub slot_misfit : (tx && th) && eqb u t ≡ false → slot_as (Err WrongKind) ≡ slot_of_record g v t j z m
   unfolding slot_as halted amiss
   slot_misfit fails =
       slot_amiss g v q t j x w (value_word q x z m first) (head_word q w) (head_seen q v h x heads name at) (rw (t-x, t-h, kind) at fails)
 
-  slot_is : (eqb tx 2 && eqb th 4) && eqb u t ≡ true
+  slot_is : (tx && th) && eqb u t ≡ true
       → (ensure missing_right (has open_right (low x)) >> (slot_there watched g v (ltb j (size_of w)) >> ok (payload x, j))) ≡ slot_of_record g v t j z m
   slot_is holds =
-      let k = three_true (eqb tx 2) (eqb th 4) (eqb u t) holds in
+      let k = three_true tx th (eqb u t) holds in
       slot_there_is g v q t j x w (value_word q x z m first) (head_word q w) (head_seen q v h x heads name at)
-      (sym t-x ∙ eqb-true tx 2 k.0, sym t-h ∙ eqb-true th 4 k.1, rw kind at k.2)
+      (eqb-true _ 2 (sym t-x ∙ k.0), eqb-true _ 4 (sym t-h ∙ k.1), rw kind at k.2)
 
-  module _ {l : ℕ} {b : Bool} (holds : (eqb tx 2 && eqb th 4) && eqb u t ≡ true) (is-l : l ≡ low x) (is_b : b ≡ has open_right l) where
-    pub slot_without : b ≡ false → slot_as (S.Halt 19) ≡ slot_of_record g v t j z m
+  module _ {l : ℕ} {b : Bool} (holds : (tx && th) && eqb u t ≡ true) (is-l : l ≡ low x) (is_b : b ≡ has open_right l) where
+    pub slot_without : b ≡ false → slot_as (Err MissingRight) ≡ slot_of_record g v t j z m
     unfolding slot_as halted ensure ◌>>◌
     slot_without fails =
         let e : has open_right (low x) ≡ false = ap (has open_right) (sym is-l) ∙ sym is_b ∙ fails in
         (rw e at (slot_is holds))
 
-    pub slot_past : {k : ℕ} → b ≡ true → k ≡ size_of w → k ≤ j → slot_as (S.Halt 18) ≡ slot_of_record g v t j z m
+    pub slot_past : {i k : ℕ} → b ≡ true → i ≡ j → k ≡ size_of w → ltb i k ≡ false → slot_as (Err WrongKind) ≡ slot_of_record g v t j z m
     unfolding slot_as halted amiss ensure slot_there ◌>>◌
-    slot_past licensed is-k past =
+    slot_past licensed is-i is-k past =
         let e : has open_right (low x) ≡ true = ap (has open_right) (sym is-l) ∙ sym is_b ∙ licensed in
-        let p : size_of w ≤ j = omega arith in
-        (rw (e, le-ltb j (size_of w) p) at (slot_is holds))
+        let p : ltb j (size_of w) ≡ false = rw (is-i, is-k) at past in
+        (rw (e, p) at (slot_is holds))
 
-    pub slot_there_at : {k : ℕ} → b ≡ true → k ≡ size_of w → j < k → slot_as (S.At o j) ≡ slot_of_record g v t j z m
+    pub slot_there_at : {i k : ℕ} → b ≡ true → i ≡ j → k ≡ size_of w → ltb i k ≡ true → slot_as (Ok (record { object = o; cell = i })) ≡ slot_of_record g v t j z m
     unfolding slot_as ensure slot_there ◌>>◌
-    slot_there_at licensed is-k below =
+    slot_there_at licensed is-i is-k below =
         let e : has open_right (low x) ≡ true = ap (has open_right) (sym is-l) ∙ sym is_b ∙ licensed in
-        let p : j < size_of w = omega arith in
-        rw name (rw (e, lt-ltb j (size_of w) p) at (slot_is holds))
+        let p : ltb j (size_of w) ≡ true = rw (is-i, is-k) at below in
+        rw (name, is-i) (rw (e, p) at (slot_is holds))
 
 -- of the cell of a variable
 module _ (g : Program) (v : View watched) (t j b : ℕ) where
-  pub slot_blank : v.variable b ≡ empty → slot_as (S.Halt 13) ≡ slot_at g v t j b
+  pub slot_blank : v.variable b ≡ empty → slot_as (Err Blank) ≡ slot_at g v t j b
   unfolding slot_as halted slot_at held ◌>>=◌
   slot_blank e = rw e
 
-  pub slot_found : {q : ℕ → Qual} {x : ℕ} (r : Spot) → Found q x (v.variable b)
+  pub slot_found : {q : ℕ → Qual} {x : ℕ} (r : Result Spot Halt) → Found q x (v.variable b)
       → ((z : Value) (m : ℕ) → slot_in watched q x ≡ cell (filled z m) → slot_as r ≡ slot_of_record g v t j z m)
       → slot_as r ≡ slot_at g v t j b
   unfolding slot_at held ◌>>=◌
@@ -543,52 +539,56 @@ set_plan : (g : Program) (v : View watched) (a b k : ℕ)
 unfolding plan plan_set slot_at slot_of_record storing
 set_plan g v a b k = sym (simp (bind_assoc, then_assoc, bind_ok))
 
-module _ (q : ℕ → Qual) (g : Program) (v : View watched) (f h : List ℕ) (a b k : ℕ) {p : Spot} {owner : ℕ}
+module _ (q : ℕ → Qual) (g : Program) (v : View watched) (f h : List ℕ) (a b k : ℕ) {p : Result Spot Halt} {owner : ℕ}
     (own : g.owner v.procedure ≡ owner) (is : slot_as p ≡ slot_at g v owner k b) where
-  pub get_at : (r : Moved) {o i w : ℕ} {t : Qual} → p ≡ S.At o i → SpotOk h p → Sees watched q v f h
-      → declared_as watched g v a ≡ t → w ≡ get_or h (o + 1 + i) 0
+  pub get_at : (r : Result ℕ Halt) {spot : Spot} {w : ℕ} {t : Qual} → p ≡ Ok spot → SpotOk h p → Sees watched q v f h
+      → declared_as watched g v a ≡ t → w ≡ get_or h (spot.object + 1 + spot.cell) 0
       → ((d : Cell watched) → slot_in watched q w ≡ cell d → moved_cell q r ≡ moved watched g v t d)
       → moved_to watched q a r ≡ plan watched g v (Op.GetSlot a b k)
   unfolding slot_as ◌>>=◌
-  get_at r {o} {i} {w} told here s dec at rest =
-      let spot : slot_at g v (g.owner v.procedure) k b ≡ ok (o, i) = rw own (sym is ∙ ap slot_as told) in
+  get_at r {spot} {w} told here s dec at rest =
+      let o = spot.object in
+      let i = spot.cell in
+      let there : slot_at g v (g.owner v.procedure) k b ≡ ok (o, i) = rw own (sym is ∙ ap slot_as told) in
       moved_into q a r
       ∙ ap (λ (m : Res (Cell watched)). m >>= λ d. ok (write a d)) (rest _ (cell_seen q v f h o i w s (inside_spot told here) at))
-      ∙ sym (get_plan g v a b k ∙ rw (spot, dec))
+      ∙ sym (get_plan g v a b k ∙ rw (there, dec))
 
-  pub get_halt : {n : ℕ} → p ≡ S.Halt n → moved_to watched q a (M.Halt n) ≡ plan watched g v (Op.GetSlot a b k)
+  pub get_halt : {n : Halt} → p ≡ Err n → moved_to watched q a (Err n) ≡ plan watched g v (Op.GetSlot a b k)
   unfolding slot_as moved_to
   get_halt {n} told =
       let spot : slot_at g v (g.owner v.procedure) k b ≡ halted watched n = rw own (sym is ∙ ap slot_as told) in
       sym (get_plan g v a b k ∙ rw spot (halted_then n _))
 
-module _ (q : ℕ → Qual) (g : Program) (v : View watched) (a b k : ℕ) {p : Spot} {owner : ℕ}
+module _ (q : ℕ → Qual) (g : Program) (v : View watched) (a b k : ℕ) {p : Result Spot Halt} {owner : ℕ}
     (own : g.owner v.procedure ≡ owner) (is : slot_as p ≡ slot_at g v owner k a) where
-  pub set_at : (r : Stored) (m : Moved) {o i : ℕ} {t : Qual} → p ≡ S.At o i → stored watched q r ≡ storing o i (moved_cell q m)
+  pub set_at : (r : Result Stored Halt) (m : Result ℕ Halt) {spot : Spot} {t : Qual} → p ≡ Ok spot → stored watched q r ≡ storing spot.object spot.cell (moved_cell q m)
       → read_in watched g v v.procedure v.set_held (g.slot owner k) ≡ t
       → moved_cell q m ≡ moved watched g v t (v.variable b)
       → stored watched q r ≡ plan watched g v (Op.SetSlot a b k)
   unfolding slot_as ◌>>=◌
-  set_at r m {o} {i} told stores is-slot moves =
-      let spot : slot_at g v (g.owner v.procedure) k a ≡ ok (o, i) = rw own (sym is ∙ ap slot_as told) in
-      stores ∙ ap (storing o i) moves ∙ sym (set_plan g v a b k ∙ rw (spot, own, is-slot))
+  set_at r m {spot} told stores is-slot moves =
+      let o = spot.object in
+      let i = spot.cell in
+      let there : slot_at g v (g.owner v.procedure) k a ≡ ok (o, i) = rw own (sym is ∙ ap slot_as told) in
+      stores ∙ ap (storing o i) moves ∙ sym (set_plan g v a b k ∙ rw (there, own, is-slot))
 
-  pub set_halt : {n : ℕ} → p ≡ S.Halt n → stored watched q (T.Halt n) ≡ plan watched g v (Op.SetSlot a b k)
+  pub set_halt : {n : Halt} → p ≡ Err n → stored watched q (Err n) ≡ plan watched g v (Op.SetSlot a b k)
   unfolding slot_as stored
   set_halt {n} told =
       let spot : slot_at g v (g.owner v.procedure) k a ≡ halted watched n = rw own (sym is ∙ ap slot_as told) in
       sym (set_plan g v a b k ∙ rw spot (halted_then n _))
 
 -- what is bound, stored to a cell
-pub stored_to : (q : ℕ → Qual) (o i : ℕ) {m : Moved} {w : ℕ} → m ≡ M.To w → stored watched q (T.At o i w) ≡ storing o i (moved_cell q m)
+pub stored_to : (q : ℕ → Qual) (o i : ℕ) {m : Result ℕ Halt} {w : ℕ} → m ≡ Ok w → stored watched q (Ok (record { object = o; cell = i; word = w })) ≡ storing o i (moved_cell q m)
 unfolding stored storing moved_cell ◌>>=◌
 stored_to q o i told = rw told
 
-pub stored_halt : (q : ℕ → Qual) (o i : ℕ) {m : Moved} {k : ℕ} → m ≡ M.Halt k → stored watched q (T.Halt k) ≡ storing o i (moved_cell q m)
+pub stored_halt : (q : ℕ → Qual) (o i : ℕ) {m : Result ℕ Halt} {k : Halt} → m ≡ Err k → stored watched q (Err k) ≡ storing o i (moved_cell q m)
 unfolding stored storing moved_cell
 stored_halt q o i {k = k} told = rw told (sym (halted_then k _))
 
-pub stored_ok : (h : List ℕ) {o i : ℕ} {m : Moved} {w : ℕ} → m ≡ M.To w → InObject h o i → MovedOk m → StoredOk h (T.At o i w)
+pub stored_ok : (h : List ℕ) {o i : ℕ} {m : Result ℕ Halt} {w : ℕ} → m ≡ Ok w → InObject h o i → MovedOk m → StoredOk h (Ok (record { object = o; cell = i; word = w }))
 stored_ok h told here fine = (rw told at fine, here)
 
 -- ---- the size of an array
@@ -624,31 +624,31 @@ module _ (g : Program) (v : View watched) (q : ℕ → Qual) (a x w : ℕ) where
       by (object_in i) (record_in t) e = let l = tags.1 in absurd (omega arith)
       by (object_in i) (no_head_in c d) e = absurd (c tags.1)
 
-pub size_blank : (g : Program) (v : View watched) (a b : ℕ) → v.variable b ≡ empty → given watched a (N.Halt 13) ≡ plan watched g v (Op.Size a b)
+pub size_blank : (g : Program) (v : View watched) (a b : ℕ) → v.variable b ≡ empty → given watched a (Err Blank) ≡ plan watched g v (Op.Size a b)
 unfolding given halted plan plan_size held ◌>>=◌
 size_blank g v a b e = rw e
 
-module _ (g : Program) (v : View watched) (q : ℕ → Qual) (h : List ℕ) (a b x : ℕ) {o w tx th : ℕ}
+module _ (g : Program) (v : View watched) (q : ℕ → Qual) (h : List ℕ) (a b x : ℕ) {o w : ℕ} {tx th : Bool}
     (heads : Heads q v h) (here : Found q x (v.variable b))
-    (name : o ≡ payload x) (at : w ≡ get_or h o 0) (t-x : tx ≡ tag x) (t-h : th ≡ tag w) where
-  pub size_misfit : eqb tx 2 && eqb th 3 ≡ false → given watched a (N.Halt 18) ≡ plan watched g v (Op.Size a b)
+    (name : o ≡ payload x) (at : w ≡ get_or h o 0) (t-x : tx ≡ eqb (tag x) 2) (t-h : th ≡ eqb (tag w) 3) where
+  pub size_misfit : tx && th ≡ false → given watched a (Err WrongKind) ≡ plan watched g v (Op.Size a b)
   unfolding given halted amiss plan plan_size gives
   size_misfit fails = size_amiss g v q a x w here (head_word q w) (head_seen q v h x heads name at) (rw (t-x, t-h) at fails)
 
-  size_is : eqb tx 2 && eqb th 3 ≡ true → (ensure missing_right (has size_right (low x)) >> gives watched g v a (size_of w)) ≡ plan watched g v (Op.Size a b)
+  size_is : tx && th ≡ true → (ensure missing_right (has size_right (low x)) >> gives watched g v a (size_of w)) ≡ plan watched g v (Op.Size a b)
   unfolding plan plan_size gives
   size_is holds =
-      let k = both_true (eqb tx 2) (eqb th 3) holds in
-      size_there g v q a x w here (head_word q w) (head_seen q v h x heads name at) (sym t-x ∙ eqb-true tx 2 k.0, sym t-h ∙ eqb-true th 3 k.1)
+      let k = both_true tx th holds in
+      size_there g v q a x w here (head_word q w) (head_seen q v h x heads name at) (eqb-true _ 2 (sym t-x ∙ k.0), eqb-true _ 3 (sym t-h ∙ k.1))
 
-  module _ {l : ℕ} {c : Bool} (holds : eqb tx 2 && eqb th 3 ≡ true) (is-l : l ≡ low x) (is_c : c ≡ has size_right l) where
-    pub size_without : c ≡ false → given watched a (N.Halt 19) ≡ plan watched g v (Op.Size a b)
+  module _ {l : ℕ} {c : Bool} (holds : tx && th ≡ true) (is-l : l ≡ low x) (is_c : c ≡ has size_right l) where
+    pub size_without : c ≡ false → given watched a (Err MissingRight) ≡ plan watched g v (Op.Size a b)
     unfolding given halted ensure ◌>>◌
     size_without fails =
         let e : has size_right (low x) ≡ false = ap (has size_right) (sym is-l) ∙ sym is_c ∙ fails in
         (rw e at (size_is holds))
 
-    pub size_given : (r : Number) {n : ℕ} → c ≡ true → n ≡ size_of w → given watched a r ≡ gives watched g v a n → given watched a r ≡ plan watched g v (Op.Size a b)
+    pub size_given : (r : Result ℕ Halt) {n : ℕ} → c ≡ true → n ≡ size_of w → given watched a r ≡ gives watched g v a n → given watched a r ≡ plan watched g v (Op.Size a b)
     unfolding ensure ◌>>◌
     size_given r licensed is-n gave =
         let e : has size_right (low x) ≡ true = ap (has size_right) (sym is-l) ∙ sym is_c ∙ licensed in
@@ -656,29 +656,30 @@ module _ (g : Program) (v : View watched) (q : ℕ → Qual) (h : List ℕ) (a b
 
 -- ---- new objects
 
-module _ (g : Program) (v : View watched) (b : ℕ) (q : Qual) {n : Number} (is : number_as watched n ≡ one_integer watched g v b) where
-  pub size_halts : {k : ℕ} → n ≡ N.Halt k → number_as watched n ≡ size_for g v q b
+module _ (g : Program) (v : View watched) (b : ℕ) (q : Qual) {n : Result ℕ Halt} (is : number_as watched n ≡ one_integer watched g v b) where
+  pub size_halts : {k : Halt} → n ≡ Err k → number_as watched (Err k) ≡ size_for g v q b
   unfolding number_as size_for
   size_halts {k} told = rw (sym is, told) (sym (halted_then k _))
 
-  pub size_asked : {k : ℕ} {t : Bool} → n ≡ N.Is k → t ≡ is_array q → t ≡ true → number_as watched n ≡ size_for g v q b
+  pub size_asked : {k : ℕ} {t : Bool} → n ≡ Ok k → t ≡ is_array q → t ≡ true → number_as watched (Ok k) ≡ size_for g v q b
   unfolding number_as size_for demand ensure ◌>>=◌ ◌>>◌
   size_asked told kind fits_array = rw (sym is, told, sym kind ∙ fits_array)
 
-  pub size_refused : {k : ℕ} {t : Bool} → n ≡ N.Is k → t ≡ is_array q → t ≡ false → number_as watched (N.Halt 18) ≡ size_for g v q b
+  pub size_refused : {k : ℕ} {t : Bool} → n ≡ Ok k → t ≡ is_array q → t ≡ false → number_as watched (Err WrongKind) ≡ size_for g v q b
   unfolding number_as halted amiss size_for demand ensure ◌>>=◌ ◌>>◌
   size_refused told kind misfits = rw (sym is, told, sym kind ∙ misfits)
 
 module _ (q : Qual) (k : Kind watched) (r : Rights) where
-  pub made_fit : fits q k ≡ true → within (rights q) r ≡ true → made q 0 ≡ bind watched q k r
-  unfolding made bind ensure ◌>>◌
-  made_fit fit enough = rw (fit, enough)
-
-  pub made_without : fits q k ≡ true → within (rights q) r ≡ false → made q 19 ≡ bind watched q k r
+  pub made_required : {t : Bool} {e : Result (Unit {0}) Halt} → fits q k ≡ true → t ≡ within (rights q) r → e ≡ cond t (Ok tt) (Err MissingRight)
+      → made q e ≡ bind watched q k r
   unfolding made halted bind ensure ◌>>◌
-  made_without fit short = rw (fit, short)
+  made_required {t} fit is asked = rw (asked, fit, sym is) (by t)
+    where
+      by : (b : Bool) → made q (cond b (Ok tt) (Err MissingRight)) ≡ (ensure missing_right b >> ok (rights q))
+      by true = refl
+      by false = refl
 
-  pub made_misfit : fits q k ≡ false → made q 18 ≡ bind watched q k r
+  pub made_misfit : fits q k ≡ false → made q (Err WrongKind) ≡ bind watched q k r
   unfolding made halted amiss bind ensure ◌>>◌
   made_misfit misfit = rw misfit
 

@@ -1,5 +1,6 @@
 -- What the definition's plans ask before a value moves, each a part of a plan of Machine.antt, and what the code answers there.
-use Rattle.std.specs.Prelude.{◌≡◌, ℕ, zero, suc, List, nat_lt, slice_index}
+use Rattle.std.specs.Prelude.{◌≡◌, ℕ, List, Result, Ok, Err, nat_lt, slice_index}
+use Rattle.model.specs.declared.Halt.{Halt}
 use Rattle.model.specs.Rights.{Rights, open_right, array_rights, record_rights}
 use Rattle.model.specs.Qualified.{Qual, declared, rights, element, is_array}
 use Rattle.model.specs.Generic.{read}
@@ -12,42 +13,39 @@ use Rattle.words.specs.Word.{low, info_of, settled_base, cell, slot_in}
 use Rattle.words.specs.Sees.{Sees}
 use Rattle.words.specs.Answers.{halted, InObject}
 use Rattle.binding.specs.Binds.{Heads}
-use Rattle.watched_plan.specs.declared.Pair.{Pair}
 use Rattle.watched_plan.specs.declared.Spot.{Spot}
-use Rattle.watched_plan.specs.declared.Pair.TheVariants as P
-use Rattle.watched_plan.specs.declared.Spot.TheVariants as S
 
 -- two integers, or why there are none
-unfoldable pub pair_as : Pair → Res (ℕ × ℕ)
-pair_as (P.Are m n) = ok (m, n)
-pair_as (P.Halt k) = halted watched k
+unfoldable pub pair_as : Result (ℕ × ℕ) Halt → Res (ℕ × ℕ)
+pair_as (Ok p) = ok p
+pair_as (Err k) = halted watched k
 
 -- the element of an array, by its head
 abbrev pub element_in : (ℕ → Qual) → ℕ → Qual
 element_in qual w = read (declared (settled_base w) (low w)) (qual (info_of w))
 
 -- an object, its element and an index; an object and a slot
-unfoldable pub element_as : (ℕ → Qual) → List ℕ → Spot → Res (ℕ × Qual × ℕ)
-element_as qual h (S.At o i) = ok (o, element_in qual (slice_index h o), i)
-element_as qual h (S.Halt k) = halted watched k
+unfoldable pub element_as : (ℕ → Qual) → List ℕ → Result Spot Halt → Res (ℕ × Qual × ℕ)
+element_as qual h (Ok s) = ok (s.object, element_in qual (slice_index h s.object), s.cell)
+element_as qual h (Err k) = halted watched k
 
-unfoldable pub slot_as : Spot → Res (ℕ × ℕ)
-slot_as (S.At o i) = ok (o, i)
-slot_as (S.Halt k) = halted watched k
+unfoldable pub slot_as : Result Spot Halt → Res (ℕ × ℕ)
+slot_as (Ok s) = ok (s.object, s.cell)
+slot_as (Err k) = halted watched k
 
 -- such a cell is one of the object's
-abbrev pub SpotOk : List ℕ → Spot → Type 0
-SpotOk h (S.At o i) = InObject h o i
-SpotOk h (S.Halt k) = Unit {0}
+abbrev pub SpotOk : List ℕ → Result Spot Halt → Type 0
+SpotOk h (Ok s) = InObject h s.object s.cell
+SpotOk h (Err k) = Unit {0}
 
 -- what is bound is stored to cell i of an object
 unfoldable pub storing : (o i : ℕ) → Res (Cell watched) → Res (Effect watched)
 storing o i r = r >>= λ d. ok (store o i d)
 
--- a new object's rights are those of the declared type where the answer is 0, else that is the stop's number
-unfoldable pub made : Qual → ℕ → Res Rights
-made q zero = ok (rights q)
-made q (suc k) = halted watched (suc k)
+-- a new object's rights are those of the declared type, or there is a stop
+unfoldable pub made : Qual → Result (Unit {0}) Halt → Res Rights
+made q (Ok u) = ok (rights q)
+made q (Err k) = halted watched k
 
 module _ (g : Program) (v : View watched) where
   -- fetch and store: the kinds of array and index, the right, the size
@@ -88,31 +86,31 @@ module _ (g : Program) (v : View watched) where
 -- ---- An answer is a cell of an object, and the one that the definition gives in every view that sees these words
 
 -- the element of the array of a filled cell, x, by the index in another, y
-pub record FindsIndexed (h : List ℕ) (x y right : ℕ) (r : Spot) : Type 0 where
+pub record FindsIndexed (h : List ℕ) (x y right : ℕ) (r : Result Spot Halt) : Type 0 where
   pub inside : SpotOk h r
   pub finds : (q : ℕ → Qual) (g : Program) (v : View watched) (z u : Value) (m n : ℕ) → Heads q v h
       → slot_in watched q x ≡ cell (filled z m) → slot_in watched q y ≡ cell (filled u n) → element_as q h r ≡ index_of g v right z m u
 
 -- of the array in variable b by the index in variable c
-pub record FindsElement (f h : List ℕ) (b c right : ℕ) (r : Spot) : Type 0 where
+pub record FindsElement (f h : List ℕ) (b c right : ℕ) (r : Result Spot Halt) : Type 0 where
   pub inside : SpotOk h r
   pub finds : (q : ℕ → Qual) (g : Program) (v : View watched) → Sees watched q v f h → element_as q h r ≡ element_at g v right b c
 
 -- slot k of the record of a filled cell, x, of type t
-pub record FindsOpened (h : List ℕ) (x t k : ℕ) (r : Spot) : Type 0 where
+pub record FindsOpened (h : List ℕ) (x t k : ℕ) (r : Result Spot Halt) : Type 0 where
   pub inside : SpotOk h r
   pub finds : (q : ℕ → Qual) (g : Program) (v : View watched) (z : Value) (m : ℕ) → Heads q v h
       → slot_in watched q x ≡ cell (filled z m) → slot_as r ≡ slot_of_record g v t k z m
 
 -- of the record in variable b
-pub record FindsSlot (f h : List ℕ) (t b k : ℕ) (r : Spot) : Type 0 where
+pub record FindsSlot (f h : List ℕ) (t b k : ℕ) (r : Result Spot Halt) : Type 0 where
   pub inside : SpotOk h r
   pub finds : (q : ℕ → Qual) (g : Program) (v : View watched) → Sees watched q v f h → slot_as r ≡ slot_at g v t k b
 
 -- ---- A new object with all its rights, bound to a declared type: of that type's element, or of type t
 
-abbrev pub MakesArray : Qual → ℕ → Type 0
+abbrev pub MakesArray : Qual → Result (Unit {0}) Halt → Type 0
 MakesArray q r = made q r ≡ bind watched q (array_kind (element q)) array_rights
 
-abbrev pub MakesRecord : (s : List ℕ) → Qual → (t r : ℕ) → Type 0
+abbrev pub MakesRecord : (s : List ℕ) → Qual → (t : ℕ) → Result (Unit {0}) Halt → Type 0
 MakesRecord s q t r = made q r ≡ bind watched q (record_kind t) (record_rights (named_of s t))

@@ -1,13 +1,14 @@
-// What each instruction of the watched machine asks for, with every test of kind and right, found by reading alone: f is the running frame's part of the
-// memory, h the objects' part, p the scope in which it reads its types. Every test reads carried rights.
+// What each instruction of the watched machine asks for, with every test of kind and right, found by reading alone: v is what it reads of the memory, f the
+// variables alone, h the objects alone, p the scope in which it reads its types. Every test reads carried rights.
 #![tactic(auto)]
 
-ghost use Rattle.std.specs.Prelude.{◌≡◌, ℕ, ◌<◌, List, length, if◌then◌else◌, nat_lt};
+ghost use Rattle.std.specs.Prelude.{◌≡◌, ℕ, ◌+◌, ◌<◌, List, length, get_or, if◌then◌else◌};
 ghost use Rattle.model.specs.Qualified.{Qual, rights, element, is_integer};
 ghost use Rattle.model.specs.Generic as generic;
 ghost use Rattle.model.specs.Program.{Program};
 ghost use Rattle.model.specs.Modes.{watched};
-ghost use Rattle.model.specs.Machine.{View, integers, one_integer, gives, flag};
+ghost use Rattle.model.specs.Machine.{View, integers, one_integer, gives};
+ghost use Rattle.model.specs.declared.Halt.TheVariants.{Blank, WrongKind};
 ghost use Rattle.model.specs.declared.Operation.TheVariants as Op;
 ghost use Rattle.sheet.specs.Layout.{owner_at};
 ghost use Rattle.sheet.specs.Meaning.{qual_of, program_of};
@@ -15,384 +16,271 @@ ghost use Rattle.index.specs.Types.{named_as};
 ghost use Rattle.index.specs.Indexed.{Ready};
 ghost use Rattle.index.specs.Scope.{inner_as};
 ghost use Rattle.words.specs.Sees.{Sees};
-ghost use Rattle.words.specs.Answers.{MovedOk, StoredOk, InObject, number_as, given, stored};
-ghost use Rattle.binding.specs.Binds.{InScope, moved_cell};
-ghost use Rattle.watched_plan.specs.Spots.{pair_as, storing, size_for, FindsIndexed, FindsElement, FindsOpened, FindsSlot, MakesArray, MakesRecord};
+ghost use Rattle.words.specs.Answers.{number_as, given};
+ghost use Rattle.binding.specs.Binds.{InScope};
+ghost use Rattle.watched_plan.specs.Spots.{pair_as, size_for, FindsIndexed, FindsElement, FindsOpened, FindsSlot, MakesArray, MakesRecord};
 ghost use Rattle.watched_plan.specs.Plans.{PlansNumber, PlansMoved, PlansStored, PlansStore};
 
 use binding::{bind_through, bind_word, object_name};
 use index::Index;
 use index::procedures::Scope;
+use index::sheets::Sheet;
 use index::types::{element_of, is_array, is_integer, rights_as};
+use model::arithmetic::Arithmetic;
+use model::{Halt, require};
 use order::is_owned;
 use rights::{has_none_above, has_right, is_within};
 use sheet::bytes::byte;
 use sheet::fields::{field, inner_of, slot_of};
 use sheet::places::type_at;
 use words::{
-    Cell, Moved, Number, Stored, cell_of, kind_in, low_of, name_of, read, size_of, tag_of, word_at,
+    Parts, Stored, filled, is_array_head, is_integer_word, is_object_word, is_record_head, kind_in,
+    low_of, name_of, read, size_of, word_at,
 };
 
-// Two integers, or the number of the stop.
+// A cell of an object.
 #[derive(Clone, Copy)]
-enum Pair {
-    Are(u32, u32),
-    Halt(u8),
-}
-
-// A cell of an object, or the number of the stop.
-#[derive(Clone, Copy)]
-enum Spot {
-    At(u32, u32),
-    Halt(u8),
+struct Spot {
+    object: u32,
+    cell: u32,
 }
 
 // Why a word is no integer: it is blank, or of another kind.
-fn no_integer(blank: bool) -> u8
-    ensures { result ≡ (if blank then 13 else 18) }
+fn no_integer(blank: bool) -> Halt
+    ensures { result ≡ (if blank then Blank else WrongKind) }
 {
-    if blank { 13 } else { 18 }
+    if blank { Halt::Blank } else { Halt::WrongKind }
 }
 
 // The integer in variable x. The tag tells it; why there is none is asked only then.
-pub fn integer_in(f: &[u64], x: u8) -> Number
+pub fn integer_in(f: &[u64], x: u8) -> Result<u32, Halt>
     requires { x < length f.now }
     ensures { (q : ℕ → Qual) (g : Program) (v : View watched) (h : List ℕ) → Sees watched q v f.now h → number_as watched result ≡ one_integer watched g v x }
 {
     let w = word_at(f, x);
-    if tag_of(w) == 1 {
-        return Number::Is(low_of(w));
+    if is_integer_word(w) {
+        return Ok(low_of(w));
     }
-    Number::Halt(no_integer(w == 0))
+    Err(no_integer(w == 0))
 }
 
 // The integers in variables b and c.
-fn two_integers(f: &[u64], b: u8, c: u8) -> Pair
+fn two_integers(f: &[u64], b: u8, c: u8) -> Result<(u32, u32), Halt>
     requires { (b < length f.now) × (c < length f.now) }
     ensures { (q : ℕ → Qual) (g : Program) (v : View watched) (h : List ℕ) → Sees watched q v f.now h → pair_as result ≡ integers watched g v b c }
 {
     let x = word_at(f, b);
     let y = word_at(f, c);
-    if (tag_of(x) == 1) & (tag_of(y) == 1) {
-        return Pair::Are(low_of(x), low_of(y));
+    if is_integer_word(x) & is_integer_word(y) {
+        return Ok((low_of(x), low_of(y)));
     }
-    Pair::Halt(no_integer((x == 0) | (y == 0)))
+    Err(no_integer((x == 0) | (y == 0)))
 }
 
 // The input that a take finds may go into variable a.
-pub fn takes_integer(s: &[u8], index: &Index, p: Scope, a: u8) -> bool
-    requires { Ready s.now index.now }
-    ensures { result ≡ is_integer (inner_as s.now p a) }
+pub fn takes_integer(s: Sheet, p: Scope, a: u8) -> bool
+    ensures { result ≡ is_integer (inner_as s.entry.bytes.now p a) }
 {
-    is_integer(index, inner_of(s, p.start, a))
+    is_integer(s.index, inner_of(s.bytes, p.start, a))
 }
 
 // An integer on its way into variable a.
-fn give(s: &[u8], index: &Index, p: Scope, a: u8, n: u32) -> Number
-    requires { Ready s.now index.now }
-    ensures { (v : View watched) → InScope s.now v p → given watched a result ≡ gives watched (program_of s.now) v a n }
+fn give(s: Sheet, p: Scope, a: u8, n: u32) -> Result<u32, Halt>
+    ensures { (v : View watched) → InScope s.entry.bytes.now v p → given watched a result ≡ gives watched (program_of s.entry.bytes.now) v a n }
 {
-    if takes_integer(s, index, p, a) {
-        return Number::Is(n);
-    }
-    Number::Halt(18)
+    require(takes_integer(s, p, a), Halt::WrongKind)?;
+    Ok(n)
 }
 
-pub fn set_guarded(s: &[u8], index: &Index, p: Scope, a: u8, k: u16) -> Number
-    requires { Ready s.now index.now }
-    ensures { (f h : List ℕ) → PlansNumber s.now p f h (Op.Set a k) a result }
+pub fn set_guarded(s: Sheet, p: Scope, a: u8, k: u16) -> Result<u32, Halt>
+    ensures { (f h : List ℕ) → PlansNumber s.entry.bytes.now p f h (Op.Set a k) a result }
 {
-    give(s, index, p, a, k as u32)
+    give(s, p, a, u32::from(k))
 }
 
-pub fn add_guarded(s: &[u8], index: &Index, p: Scope, f: &[u64], a: u8, b: u8, c: u8) -> Number
-    requires ready { Ready s.now index.now }
-    requires b_in_bounds { (b < length f.now) × (c < length f.now) }
-    ensures { (h : List ℕ) → PlansNumber s.now p f.now h (Op.Add a b c) a result }
-{
-    match two_integers(f, b, c) {
-        Pair::Are(m, n) => give(s, index, p, a, std::num::wrapping_add_u32(m, n)),
-        Pair::Halt(k) => Number::Halt(k),
-    }
-}
-
-pub fn subtract_guarded(s: &[u8], index: &Index, p: Scope, f: &[u64], a: u8, b: u8, c: u8) -> Number
-    requires ready { Ready s.now index.now }
-    requires b_in_bounds { (b < length f.now) × (c < length f.now) }
-    ensures { (h : List ℕ) → PlansNumber s.now p f.now h (Op.Subtract a b c) a result }
-{
-    match two_integers(f, b, c) {
-        Pair::Are(m, n) => give(s, index, p, a, std::num::wrapping_sub_u32(m, n)),
-        Pair::Halt(k) => Number::Halt(k),
-    }
-}
-
-fn less(m: u32, n: u32) -> u32
-    ensures { result ≡ flag (nat_lt m n) }
-{
-    if m < n {
-        return 1;
-    }
-    0
-}
-
-pub fn less_guarded(s: &[u8], index: &Index, p: Scope, f: &[u64], a: u8, b: u8, c: u8) -> Number
-    requires ready { Ready s.now index.now }
-    requires b_in_bounds { (b < length f.now) × (c < length f.now) }
-    ensures { (h : List ℕ) → PlansNumber s.now p f.now h (Op.Less a b c) a result }
-{
-    match two_integers(f, b, c) {
-        Pair::Are(m, n) => give(s, index, p, a, less(m, n)),
-        Pair::Halt(k) => Number::Halt(k),
-    }
-}
-
-pub fn bind_guarded(s: &[u8], index: &Index, p: Scope, f: &[u64], h: &[u64], a: u8, b: u8) -> Moved
-    requires ready { Ready s.now index.now }
-    requires b_in_bounds { b < length f.now }
-    ensures { PlansMoved s.now p f.now h.now (Op.Bind a b) a result }
-{
-    bind_word(index, p.name, h, inner_of(s, p.start, a), word_at(f, b))
-}
-
-// The element of the array of a filled cell, x, by the index in another, y: kinds, right, size.
-fn index_in(h: &[u64], x: u64, y: u64, right: u8) -> Spot
-    requires { right < 32 }
-    ensures { FindsIndexed h.now x y right result }
-{
-    let o = name_of(x);
-    let i = low_of(y);
-    let head = read(h, o as usize);
-    if (tag_of(x) == 2) & (tag_of(head) == 3) & (tag_of(y) == 1) {
-        if has_right(right, low_of(x)) {
-            if i < size_of(head) {
-                return Spot::At(o, i);
-            }
-            return Spot::Halt(14);
-        }
-        return Spot::Halt(19);
-    }
-    Spot::Halt(18)
-}
-
-// The element of the array in variable b by the index in variable c.
-fn element_spot(f: &[u64], h: &[u64], b: u8, c: u8, right: u8) -> Spot
-    requires right_bound { right < 32 }
-    requires b_in_bounds { (b < length f.now) × (c < length f.now) }
-    ensures { FindsElement f.now h.now b c right result }
-{
-    let Cell::Filled(x) = cell_of(word_at(f, b)) else {
-        return Spot::Halt(13);
-    };
-    let Cell::Filled(y) = cell_of(word_at(f, c)) else {
-        return Spot::Halt(13);
-    };
-    index_in(h, x, y, right)
-}
-
-// Bound to the element of variable b's type, then to variable a (document 02, S-3).
-pub fn fetch_guarded(
-    s: &[u8],
-    index: &Index,
+// What an operation makes of the integers in variables b and c.
+pub fn arithmetic_guarded<A: Arithmetic>(
+    s: Sheet,
     p: Scope,
     f: &[u64],
-    h: &[u64],
     a: u8,
     b: u8,
     c: u8,
-) -> Moved
-    requires ready { Ready s.now index.now }
-    requires b_in_bounds { (b < length f.now) × (c < length f.now) }
-    ensures { PlansMoved s.now p f.now h.now (Op.Fetch a b c) a result }
+) -> Result<u32, Halt>
+    requires { (b < length f.now) × (c < length f.now) }
+    ensures { (h : List ℕ) → PlansNumber s.entry.bytes.now p f.now h (A.operation a b c) a result }
 {
-    match element_spot(f, h, b, c, 1) {
-        Spot::At(o, i) => {
-            let w = read(h, (o as usize) + 1 + (i as usize));
-            let q = inner_of(s, p.start, a);
-            bind_through(index, p.name, h, declared_element(s, index, p, b), q, w)
-        }
-        Spot::Halt(k) => Moved::Halt(k),
-    }
+    let (m, n) = two_integers(f, b, c)?;
+    give(s, p, a, A::apply(m, n))
 }
 
-// What was bound, on its way to a cell of an object.
-fn stored_at(o: u32, i: u32, m: Moved) -> Stored
-    ensures by_index { (h : List ℕ) → InObject h o i → MovedOk m → StoredOk h result }
-    ensures by_index_2 { (q : ℕ → Qual) → stored watched q result ≡ storing o i (moved_cell q m) }
+pub fn bind_guarded(s: Sheet, p: Scope, v: Parts, a: u8, b: u8) -> Result<u64, Halt>
+    requires { b < length v.frame.now }
+    ensures { PlansMoved s.entry.bytes.now p v.entry.frame.now v.entry.objects.now (Op.Bind a b) a result }
 {
-    match m {
-        Moved::To(w) => Stored::At(o, i, w),
-        Moved::Halt(k) => Stored::Halt(k),
-    }
+    let q = inner_of(s.bytes, p.start, a);
+    bind_word(s.index, p.name, v.objects, q, word_at(v.frame, b))
 }
 
-pub fn store_guarded(index: &Index, f: &[u64], h: &[u64], a: u8, b: u8, c: u8) -> Stored
-    requires { (a < length f.now) × ((b < length f.now) × (c < length f.now)) }
-    ensures { (s : List ℕ) → Ready s index.now → PlansStore s f.now h.now (Op.Store a b c) result }
+// The element of the array of a filled cell, x, by the index in another, y: kinds, right, size.
+fn index_in(h: &[u64], x: u64, y: u64, right: u8) -> Result<Spot, Halt>
+    requires { right < 32 }
+    ensures { FindsIndexed h.now x y right result }
 {
-    match element_spot(f, h, a, b, 2) {
-        Spot::At(o, i) => {
-            let head = read(h, o as usize);
-            let element = bind_word(index, object_name(head), h, kind_in(head), word_at(f, c));
-            stored_at(o, i, element)
-        }
-        Spot::Halt(k) => Stored::Halt(k),
-    }
+    let object = name_of(x);
+    let cell = low_of(y);
+    let head = read(h, object as usize);
+    let kinds = is_object_word(x) & is_array_head(head) & is_integer_word(y);
+    require(kinds, Halt::WrongKind)?;
+    require(has_right(right, low_of(x)), Halt::MissingRight)?;
+    require(cell < size_of(head), Halt::PastEnd)?;
+    Ok(Spot { object, cell })
 }
 
-pub fn size_guarded(s: &[u8], index: &Index, p: Scope, f: &[u64], h: &[u64], a: u8, b: u8) -> Number
-    requires ready { Ready s.now index.now }
-    requires b_in_bounds { b < length f.now }
-    ensures { PlansNumber s.now p f.now h.now (Op.Size a b) a result }
+// The element of the array in variable b by the index in variable c.
+fn element_spot(v: Parts, b: u8, c: u8, right: u8) -> Result<Spot, Halt>
+    requires right_bound { right < 32 }
+    requires b_in_bounds { (b < length v.frame.now) × (c < length v.frame.now) }
+    ensures { FindsElement v.entry.frame.now v.entry.objects.now b c right result }
 {
-    let Cell::Filled(x) = cell_of(word_at(f, b)) else {
-        return Number::Halt(13);
-    };
-    let head = read(h, name_of(x) as usize);
-    if (tag_of(x) == 2) & (tag_of(head) == 3) {
-        if has_right(3, low_of(x)) {
-            return give(s, index, p, a, size_of(head));
-        }
-        return Number::Halt(19);
-    }
-    Number::Halt(18)
+    let x = filled(word_at(v.frame, b))?;
+    let y = filled(word_at(v.frame, c))?;
+    index_in(v.objects, x, y, right)
+}
+
+// The word of a cell of an object.
+fn word_in(h: &[u64], at: Spot) -> u64
+    ensures { result ≡ get_or h.now (at.object + 1 + at.cell) 0 }
+{
+    read(h, (at.object as usize) + 1 + (at.cell as usize))
+}
+
+// Bound to the element of variable b's type, then to variable a (document 02, S-3).
+pub fn fetch_guarded(s: Sheet, p: Scope, v: Parts, a: u8, b: u8, c: u8) -> Result<u64, Halt>
+    requires { (b < length v.frame.now) × (c < length v.frame.now) }
+    ensures { PlansMoved s.entry.bytes.now p v.entry.frame.now v.entry.objects.now (Op.Fetch a b c) a result }
+{
+    let at = element_spot(v, b, c, 1)?;
+    let w = word_in(v.objects, at);
+    let q = inner_of(s.bytes, p.start, a);
+    bind_through(s.index, p.name, v.objects, declared_element(s, p, b), q, w)
+}
+
+pub fn store_guarded(index: &Index, v: Parts, a: u8, b: u8, c: u8) -> Result<Stored, Halt>
+    requires { (a < length v.frame.now) × ((b < length v.frame.now) × (c < length v.frame.now)) }
+    ensures { (s : List ℕ) → Ready s index.now → PlansStore s v.entry.frame.now v.entry.objects.now (Op.Store a b c) result }
+{
+    let at = element_spot(v, a, b, 2)?;
+    let head = read(v.objects, at.object as usize);
+    let w = word_at(v.frame, c);
+    let word = bind_word(index, object_name(head), v.objects, kind_in(head), w)?;
+    Ok(Stored {
+        object: at.object,
+        cell: at.cell,
+        word,
+    })
+}
+
+pub fn size_guarded(s: Sheet, p: Scope, v: Parts, a: u8, b: u8) -> Result<u32, Halt>
+    requires { b < length v.frame.now }
+    ensures { PlansNumber s.entry.bytes.now p v.entry.frame.now v.entry.objects.now (Op.Size a b) a result }
+{
+    let x = filled(word_at(v.frame, b))?;
+    let head = read(v.objects, name_of(x) as usize);
+    require(is_object_word(x) & is_array_head(head), Halt::WrongKind)?;
+    require(has_right(3, low_of(x)), Halt::MissingRight)?;
+    give(s, p, a, size_of(head))
 }
 
 // Slot k of the record of a filled cell, of type t: kind, open, size.
-fn open_slot(h: &[u64], x: u64, t: u8, k: u16) -> Spot
+fn open_slot(h: &[u64], x: u64, t: u8, k: u16) -> Result<Spot, Halt>
     ensures { FindsOpened h.now x t k result }
 {
-    let o = name_of(x);
-    let head = read(h, o as usize);
-    if (tag_of(x) == 2) & (tag_of(head) == 4) & (kind_in(head) == t) {
-        if has_right(0, low_of(x)) {
-            if (k as u32) < size_of(head) {
-                return Spot::At(o, k as u32);
-            }
-            return Spot::Halt(18);
-        }
-        return Spot::Halt(19);
-    }
-    Spot::Halt(18)
+    let object = name_of(x);
+    let head = read(h, object as usize);
+    let kinds = is_object_word(x) & is_record_head(head) & (kind_in(head) == t);
+    require(kinds, Halt::WrongKind)?;
+    require(has_right(0, low_of(x)), Halt::MissingRight)?;
+    let cell = u32::from(k);
+    require(cell < size_of(head), Halt::WrongKind)?;
+    Ok(Spot { object, cell })
 }
 
 // Slot k of the record in variable b.
-fn slot_spot(f: &[u64], h: &[u64], t: u8, b: u8, k: u16) -> Spot
-    requires { b < length f.now }
-    ensures { FindsSlot f.now h.now t b k result }
+fn slot_spot(v: Parts, t: u8, b: u8, k: u16) -> Result<Spot, Halt>
+    requires { b < length v.frame.now }
+    ensures { FindsSlot v.entry.frame.now v.entry.objects.now t b k result }
 {
-    let Cell::Filled(x) = cell_of(word_at(f, b)) else {
-        return Spot::Halt(13);
-    };
-    open_slot(h, x, t, k)
+    let x = filled(word_at(v.frame, b))?;
+    open_slot(v.objects, x, t, k)
 }
 
-pub fn get_guarded(
-    s: &[u8],
-    index: &Index,
-    p: Scope,
-    f: &[u64],
-    h: &[u64],
-    a: u8,
-    b: u8,
-    k: u16,
-) -> Moved
-    requires ready { Ready s.now index.now }
-    requires b_in_bounds { b < length f.now }
-    ensures { PlansMoved s.now p f.now h.now (Op.GetSlot a b k) a result }
+pub fn get_guarded(s: Sheet, p: Scope, v: Parts, a: u8, b: u8, k: u16) -> Result<u64, Halt>
+    requires { b < length v.frame.now }
+    ensures { PlansMoved s.entry.bytes.now p v.entry.frame.now v.entry.objects.now (Op.GetSlot a b k) a result }
 {
-    match slot_spot(f, h, field(s, p.head, 2), b, k) {
-        Spot::At(o, i) => {
-            let w = read(h, (o as usize) + 1 + (i as usize));
-            bind_word(index, p.name, h, inner_of(s, p.start, a), w)
-        }
-        Spot::Halt(n) => Moved::Halt(n),
-    }
+    let at = slot_spot(v, field(s.bytes, p.head, 2), b, k)?;
+    let w = word_in(v.objects, at);
+    bind_word(s.index, p.name, v.objects, inner_of(s.bytes, p.start, a), w)
 }
 
-pub fn set_slot_guarded(
-    s: &[u8],
-    index: &Index,
-    p: Scope,
-    f: &[u64],
-    h: &[u64],
-    a: u8,
-    b: u8,
-    k: u16,
-) -> Stored
-    requires ready { Ready s.now index.now }
-    requires a_in_bounds { (a < length f.now) × (b < length f.now) }
-    ensures { PlansStored s.now p f.now h.now (Op.SetSlot a b k) result }
+pub fn set_slot_guarded(s: Sheet, p: Scope, v: Parts, a: u8, b: u8, k: u16) -> Result<Stored, Halt>
+    requires { (a < length v.frame.now) × (b < length v.frame.now) }
+    ensures { PlansStored s.entry.bytes.now p v.entry.frame.now v.entry.objects.now (Op.SetSlot a b k) result }
 {
-    let owner = field(s, p.head, 2);
-    match slot_spot(f, h, owner, a, k) {
-        Spot::At(o, i) => stored_at(
-            o,
-            i,
-            bind_word(index, p.name, h, slot_of(s, owner, k), word_at(f, b)),
-        ),
-        Spot::Halt(n) => Stored::Halt(n),
-    }
+    let owner = field(s.bytes, p.head, 2);
+    let at = slot_spot(v, owner, a, k)?;
+    let q = slot_of(s.bytes, owner, k);
+    let word = bind_word(s.index, p.name, v.objects, q, word_at(v.frame, b))?;
+    Ok(Stored {
+        object: at.object,
+        cell: at.cell,
+        word,
+    })
 }
 
 // The size of a new array for variable a, from variable b, before the room for it is tested.
-pub fn sized(s: &[u8], index: &Index, p: Scope, f: &[u64], a: u8, b: u8) -> Number
-    requires ready { Ready s.now index.now }
-    requires b_in_bounds { b < length f.now }
-    ensures { (g : Program) (v : View watched) (h : List ℕ) → Sees watched (qual_of s.now) v f.now h → number_as watched result ≡ size_for g v (inner_as s.now p a) b }
+pub fn sized(s: Sheet, p: Scope, f: &[u64], a: u8, b: u8) -> Result<u32, Halt>
+    requires { b < length f.now }
+    ensures { (g : Program) (v : View watched) (h : List ℕ) → Sees watched (qual_of s.entry.bytes.now) v f.now h → number_as watched result ≡ size_for g v (inner_as s.entry.bytes.now p a) b }
 {
-    let n = integer_in(f, b);
-    let Number::Is(_) = n else {
-        return n;
-    };
-    if is_array(index, inner_of(s, p.start, a)) {
-        return n;
-    }
-    Number::Halt(18)
+    let n = integer_in(f, b)?;
+    let q = inner_of(s.bytes, p.start, a);
+    require(is_array(s.index, q), Halt::WrongKind)?;
+    Ok(n)
 }
 
 // The number of the element, ?R unread, and the rights, of the declared type of variable a.
-pub fn declared_element(s: &[u8], index: &Index, p: Scope, a: u8) -> u8
-    requires { Ready s.now index.now }
-    ensures { generic.read (named_as p.name) (qual_of s.now result) ≡ element (inner_as s.now p a) }
+pub fn declared_element(s: Sheet, p: Scope, a: u8) -> u8
+    ensures { generic.read (named_as p.name) (qual_of s.entry.bytes.now result) ≡ element (inner_as s.entry.bytes.now p a) }
 {
-    element_of(index, inner_of(s, p.start, a))
+    element_of(s.index, inner_of(s.bytes, p.start, a))
 }
 
-pub fn declared_rights(s: &[u8], index: &Index, p: Scope, a: u8) -> u32
-    requires { Ready s.now index.now }
-    ensures { result ≡ rights (inner_as s.now p a) }
+pub fn declared_rights(s: Sheet, p: Scope, a: u8) -> u32
+    ensures { result ≡ rights (inner_as s.entry.bytes.now p a) }
 {
-    rights_as(index, p.name, inner_of(s, p.start, a))
+    rights_as(s.index, p.name, inner_of(s.bytes, p.start, a))
 }
 
-// A new array with all its rights, bound to variable a: 0, or the number of the stop.
-pub fn array_made_as(s: &[u8], index: &Index, p: Scope, a: u8) -> u8
-    requires { Ready s.now index.now }
-    ensures { MakesArray (inner_as s.now p a) result }
+// A new array with all its rights, bound to variable a.
+pub fn array_made_as(s: Sheet, p: Scope, a: u8) -> Result<(), Halt>
+    ensures { MakesArray (inner_as s.entry.bytes.now p a) result }
 {
-    let q = inner_of(s, p.start, a);
-    if is_array(index, q) {
-        if is_within(rights_as(index, p.name, q), 14) {
-            return 0;
-        }
-        return 19;
-    }
-    18
+    let q = inner_of(s.bytes, p.start, a);
+    require(is_array(s.index, q), Halt::WrongKind)?;
+    let rights = rights_as(s.index, p.name, q);
+    require(is_within(rights, 14), Halt::MissingRight)
 }
 
-// A new record of the owner's type with all its rights, bound to variable a: 0, or the number of the stop.
-pub fn record_made_as(s: &[u8], index: &Index, p: Scope, a: u8) -> u8
-    requires { Ready s.now index.now }
-    ensures { MakesRecord s.now (inner_as s.now p a) (owner_at s.now p.head) result }
+// A new record of the owner's type with all its rights, bound to variable a.
+pub fn record_made_as(s: Sheet, p: Scope, a: u8) -> Result<(), Halt>
+    ensures { MakesRecord s.entry.bytes.now (inner_as s.entry.bytes.now p a) (owner_at s.entry.bytes.now p.head) result }
 {
-    let q = inner_of(s, p.start, a);
-    let owner = field(s, p.head, 2);
-    if is_owned(index, p.name, owner, q) {
-        if has_none_above(byte(s, type_at(owner), 2), rights_as(index, p.name, q)) {
-            return 0;
-        }
-        return 19;
-    }
-    18
+    let q = inner_of(s.bytes, p.start, a);
+    let owner = field(s.bytes, p.head, 2);
+    require(is_owned(s.index, p.name, owner, q), Halt::WrongKind)?;
+    let named = byte(s.bytes, type_at(owner), 2);
+    let rights = rights_as(s.index, p.name, q);
+    require(has_none_above(named, rights), Halt::MissingRight)
 }

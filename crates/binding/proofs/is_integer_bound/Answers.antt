@@ -9,8 +9,11 @@ use Rattle.binding.proofs.is_integer_bound.Goals as goal
 
 pub returns : goal.returns
 returns c =
-    let tag_of = c.tag_of in
-    let shape-in = c.shape_in in
-    let type_word = c.type_word in
-    let args = c.args in
-    λ n h t. let both = both_true _ _ t in let one = sym tag_of.ensures ∙ eqb-true _ _ both.0 in let zero = sym (shape-in.ensures ∙ ap shape_of type_word.ensures) ∙ eqb-true _ _ both.1 in record { fine = λ k q. rw (slot_integer k q _ one); moves = λ g v x m heads e. bind_integer (qual_in args.index.now) h _ _ g v x m heads e one (integer_unread args.index.now n _ zero) }
+    λ n h t.
+    let both = both_true _ _ t in
+    let one = eqb-true _ _ (sym c.is_integer_word.ensures ∙ both.0) in
+    let zero = sym (c.shape_in.ensures ∙ ap shape_of c.type_word.ensures) ∙ eqb-true _ _ both.1 in
+    record {
+      fine = λ k q. rw (slot_integer k q _ one);
+      moves = λ g v x m heads e. bind_integer (qual_in c.args.index.now) h _ _ g v x m heads e one (integer_unread c.args.index.now n _ zero);
+    }

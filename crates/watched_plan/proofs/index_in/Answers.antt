@@ -1,75 +1,49 @@
 -- The test of the three tags is that of the kinds; then the right and the size, in the definition's order.
-use Rattle.std.proofs.Common.{eqb}
+use Rattle.std.proofs.Common.{ltb-true}
+use Rattle.binding.proofs.Laws.{passed, refused, exit_is}
 use Rattle.watched_plan.proofs.Laws.{index_misfit, index_without, index_past, index_at, inside_array}
 use Rattle.watched_plan.proofs.index_in.Goals as goal
 
-pub returns-then-i-size_of : goal.returns-then-i-size_of
-returns-then-i-size_of c =
-    let args = c.args in
-    let tag_of = c.tag_of in
-    let tag-of3 = c.tag_of-3 in
-    let read = c.read-head in
-    let tag-of2 = c.tag_of-2 in
-    let first-test = c.if-tag_of in
-    let size_of = c.size_of in
-    let third-test = c.if-i-size_of in
-    let name_of = c.name_of-o in
-    let low-of2 = c.low_of in
-    let has_right = c.has_right in
-    let second-test = c.if-has_right in
-    let low_of = c.low_of-i in
-    record {
-      inside = inside_array args.h.now _ _ _ (eqb tag_of.result 2) (eqb tag-of3.result 1) read.ensures tag-of2.ensures first-test.true size_of.ensures third-test.true;
-      finds = λ q g v z u m n heads first second. index_at g v q args.h.now args.right args.x args.y heads first second name_of.ensures read.ensures tag_of.ensures tag-of2.ensures tag-of3.ensures first-test.true low-of2.ensures has_right.ensures second-test.true low_of.ensures size_of.ensures third-test.true;
-    }
-
-pub returns-then-has_right : goal.returns-then-has_right
-returns-then-has_right c =
-    let args = c.args in
-    let name_of = c.name_of-o in
-    let read = c.read-head in
-    let tag_of = c.tag_of in
-    let tag-of2 = c.tag_of-2 in
-    let tag-of3 = c.tag_of-3 in
-    let first-test = c.if-tag_of in
-    let low-of2 = c.low_of in
-    let has_right = c.has_right in
-    let second-test = c.if-has_right in
-    let low_of = c.low_of-i in
-    let size_of = c.size_of in
-    let third-test = c.if-i-size_of in
-    record {
+pub returns-in_err-require : goal.returns-in_err-require
+returns-in_err-require c =
+    let a = c.args in
+    let k = refused _ _ c.require.ensures c.in_err-require.was in
+    rw (exit_is c.from_residual.ensures.1, k.0)
+    (record {
       inside = tt;
-      finds = λ q g v z u m n heads first second. index_past g v q args.h.now args.right args.x args.y heads first second name_of.ensures read.ensures tag_of.ensures tag-of2.ensures tag-of3.ensures first-test.true low-of2.ensures has_right.ensures second-test.true low_of.ensures size_of.ensures third-test.false;
-    }
+      finds = λ q g v z u m n heads first second. index_misfit g v q a.h.now a.right a.x a.y heads first second c.name_of-object.ensures c.read-head.ensures c.is_object_word.ensures c.is_array_head.ensures c.is_integer_word.ensures k.1;
+    })
 
-pub returns-then-tag_of : goal.returns-then-tag_of
-returns-then-tag_of c =
-    let args = c.args in
-    let name_of = c.name_of-o in
-    let read = c.read-head in
-    let tag_of = c.tag_of in
-    let tag-of2 = c.tag_of-2 in
-    let tag-of3 = c.tag_of-3 in
-    let first-test = c.if-tag_of in
-    let low-of2 = c.low_of in
-    let has_right = c.has_right in
-    let second-test = c.if-has_right in
-    record {
+pub returns-in_err-require-2 : goal.returns-in_err-require-2
+returns-in_err-require-2 c =
+    let a = c.args in
+    let kinds = passed _ _ c.require.ensures c.in_ok-require.was in
+    let k = refused _ _ c.require-2.ensures c.in_err-require-2.was in
+    rw (exit_is c.from_residual-in_err-require-2.ensures.1, k.0)
+    (record {
       inside = tt;
-      finds = λ q g v z u m n heads first second. index_without g v q args.h.now args.right args.x args.y heads first second name_of.ensures read.ensures tag_of.ensures tag-of2.ensures tag-of3.ensures first-test.true low-of2.ensures has_right.ensures second-test.false;
-    }
+      finds = λ q g v z u m n heads first second. index_without g v q a.h.now a.right a.x a.y heads first second c.name_of-object.ensures c.read-head.ensures c.is_object_word.ensures c.is_array_head.ensures c.is_integer_word.ensures kinds c.low_of.ensures c.has_right.ensures k.1;
+    })
+
+pub returns-in_err-require-3 : goal.returns-in_err-require-3
+returns-in_err-require-3 c =
+    let a = c.args in
+    let kinds = passed _ _ c.require.ensures c.in_ok-require.was in
+    let licensed = passed _ _ c.require-2.ensures c.in_ok-require-2.was in
+    let k = refused _ _ c.require-3.ensures c.in_err-require-3.was in
+    rw (exit_is c.from_residual-in_err-require-3.ensures.1, k.0)
+    (record {
+      inside = tt;
+      finds = λ q g v z u m n heads first second. index_past g v q a.h.now a.right a.x a.y heads first second c.name_of-object.ensures c.read-head.ensures c.is_object_word.ensures c.is_array_head.ensures c.is_integer_word.ensures kinds c.low_of.ensures c.has_right.ensures licensed c.low_of-cell.ensures c.size_of.ensures k.1;
+    })
 
 pub returns : goal.returns
 returns c =
-    let args = c.args in
-    let name_of = c.name_of-o in
-    let read = c.read-head in
-    let tag_of = c.tag_of in
-    let tag-of2 = c.tag_of-2 in
-    let tag-of3 = c.tag_of-3 in
-    let first-test = c.if-tag_of in
+    let a = c.args in
+    let kinds = passed _ _ c.require.ensures c.in_ok-require.was in
+    let licensed = passed _ _ c.require-2.ensures c.in_ok-require-2.was in
+    let below = passed _ _ c.require-3.ensures c.in_ok-require-3.was in
     record {
-      inside = tt;
-      finds = λ q g v z u m n heads first second. index_misfit g v q args.h.now args.right args.x args.y heads first second name_of.ensures read.ensures tag_of.ensures tag-of2.ensures tag-of3.ensures first-test.false;
+      inside = inside_array a.h.now _ _ _ c.is_object_word.result c.is_integer_word.result c.read-head.ensures c.is_array_head.ensures kinds c.size_of.ensures (ltb-true _ _ below);
+      finds = λ q g v z u m n heads first second. index_at g v q a.h.now a.right a.x a.y heads first second c.name_of-object.ensures c.read-head.ensures c.is_object_word.ensures c.is_array_head.ensures c.is_integer_word.ensures kinds c.low_of.ensures c.has_right.ensures licensed c.low_of-cell.ensures c.size_of.ensures below;
     }

@@ -1,73 +1,49 @@
 -- The test of tags and type is that of the kind; then open and the slot, in the definition's order.
-use Rattle.std.proofs.Common.{eqb}
+use Rattle.std.proofs.Common.{eqb, ltb-true}
+use Rattle.binding.proofs.Laws.{passed, refused, exit_is}
 use Rattle.watched_plan.proofs.Laws.{slot_misfit, slot_without, slot_past, slot_there_at, inside_record}
 use Rattle.watched_plan.proofs.open_slot.Goals as goal
 
-pub returns-then-k-size_of : goal.returns-then-k-size_of
-returns-then-k-size_of c =
-    let args = c.args in
-    let tag_of = c.tag_of in
-    let kind_in = c.kind_in in
-    let read = c.read-head in
-    let tag-of2 = c.tag_of-2 in
-    let first-test = c.if-tag_of-kind_in in
-    let size_of = c.size_of in
-    let third-test = c.if-k-size_of in
-    let name_of = c.name_of-o in
-    let low_of = c.low_of in
-    let has_right = c.has_right in
-    let second-test = c.if-has_right in
-    record {
-      inside = inside_record args.h.now _ _ _ (eqb tag_of.result 2) (eqb kind_in.result args.t) read.ensures tag-of2.ensures first-test.true size_of.ensures third-test.true;
-      finds = λ q g v z m heads first. slot_there_at g v q args.h.now args.t args.k args.x heads first name_of.ensures read.ensures tag_of.ensures tag-of2.ensures kind_in.ensures first-test.true low_of.ensures has_right.ensures second-test.true size_of.ensures third-test.true;
-    }
-
-pub returns-then-has_right : goal.returns-then-has_right
-returns-then-has_right c =
-    let args = c.args in
-    let name_of = c.name_of-o in
-    let read = c.read-head in
-    let tag_of = c.tag_of in
-    let tag-of2 = c.tag_of-2 in
-    let kind_in = c.kind_in in
-    let first-test = c.if-tag_of-kind_in in
-    let low_of = c.low_of in
-    let has_right = c.has_right in
-    let second-test = c.if-has_right in
-    let size_of = c.size_of in
-    let third-test = c.if-k-size_of in
-    record {
+pub returns-in_err-require : goal.returns-in_err-require
+returns-in_err-require c =
+    let a = c.args in
+    let k = refused _ _ c.require.ensures c.in_err-require.was in
+    rw (exit_is c.from_residual.ensures.1, k.0)
+    (record {
       inside = tt;
-      finds = λ q g v z m heads first. slot_past g v q args.h.now args.t args.k args.x heads first name_of.ensures read.ensures tag_of.ensures tag-of2.ensures kind_in.ensures first-test.true low_of.ensures has_right.ensures second-test.true size_of.ensures third-test.false;
-    }
+      finds = λ q g v z m heads first. slot_misfit g v q a.h.now a.t a.k a.x heads first c.name_of-object.ensures c.read-head.ensures c.is_object_word.ensures c.is_record_head.ensures c.kind_in.ensures k.1;
+    })
 
-pub returns-then-tag_of-kind_in : goal.returns-then-tag_of-kind_in
-returns-then-tag_of-kind_in c =
-    let args = c.args in
-    let name_of = c.name_of-o in
-    let read = c.read-head in
-    let tag_of = c.tag_of in
-    let tag-of2 = c.tag_of-2 in
-    let kind_in = c.kind_in in
-    let first-test = c.if-tag_of-kind_in in
-    let low_of = c.low_of in
-    let has_right = c.has_right in
-    let second-test = c.if-has_right in
-    record {
+pub returns-in_err-require-2 : goal.returns-in_err-require-2
+returns-in_err-require-2 c =
+    let a = c.args in
+    let kinds = passed _ _ c.require.ensures c.in_ok-require.was in
+    let k = refused _ _ c.require-2.ensures c.in_err-require-2.was in
+    rw (exit_is c.from_residual-in_err-require-2.ensures.1, k.0)
+    (record {
       inside = tt;
-      finds = λ q g v z m heads first. slot_without g v q args.h.now args.t args.k args.x heads first name_of.ensures read.ensures tag_of.ensures tag-of2.ensures kind_in.ensures first-test.true low_of.ensures has_right.ensures second-test.false;
-    }
+      finds = λ q g v z m heads first. slot_without g v q a.h.now a.t a.k a.x heads first c.name_of-object.ensures c.read-head.ensures c.is_object_word.ensures c.is_record_head.ensures c.kind_in.ensures kinds c.low_of.ensures c.has_right.ensures k.1;
+    })
+
+pub returns-in_err-require-3 : goal.returns-in_err-require-3
+returns-in_err-require-3 c =
+    let a = c.args in
+    let kinds = passed _ _ c.require.ensures c.in_ok-require.was in
+    let licensed = passed _ _ c.require-2.ensures c.in_ok-require-2.was in
+    let k = refused _ _ c.require-3.ensures c.in_err-require-3.was in
+    rw (exit_is c.from_residual-in_err-require-3.ensures.1, k.0)
+    (record {
+      inside = tt;
+      finds = λ q g v z m heads first. slot_past g v q a.h.now a.t a.k a.x heads first c.name_of-object.ensures c.read-head.ensures c.is_object_word.ensures c.is_record_head.ensures c.kind_in.ensures kinds c.low_of.ensures c.has_right.ensures licensed c.from-cell.ensures c.size_of.ensures k.1;
+    })
 
 pub returns : goal.returns
 returns c =
-    let args = c.args in
-    let name_of = c.name_of-o in
-    let read = c.read-head in
-    let tag_of = c.tag_of in
-    let tag-of2 = c.tag_of-2 in
-    let kind_in = c.kind_in in
-    let first-test = c.if-tag_of-kind_in in
+    let a = c.args in
+    let kinds = passed _ _ c.require.ensures c.in_ok-require.was in
+    let licensed = passed _ _ c.require-2.ensures c.in_ok-require-2.was in
+    let below = passed _ _ c.require-3.ensures c.in_ok-require-3.was in
     record {
-      inside = tt;
-      finds = λ q g v z m heads first. slot_misfit g v q args.h.now args.t args.k args.x heads first name_of.ensures read.ensures tag_of.ensures tag-of2.ensures kind_in.ensures first-test.false;
+      inside = inside_record a.h.now _ _ _ c.is_object_word.result (eqb c.kind_in.result a.t) c.read-head.ensures c.is_record_head.ensures kinds c.size_of.ensures (ltb-true _ _ below);
+      finds = λ q g v z m heads first. slot_there_at g v q a.h.now a.t a.k a.x heads first c.name_of-object.ensures c.read-head.ensures c.is_object_word.ensures c.is_record_head.ensures c.kind_in.ensures kinds c.low_of.ensures c.has_right.ensures licensed c.from-cell.ensures c.size_of.ensures below;
     }

@@ -3,28 +3,37 @@ use Rattle.std.proofs.Common.{sym, ap, ◌∙◌}
 use Rattle.model.specs.Modes.{watched}
 use Rattle.sheet.specs.Layout.{owner_at}
 use Rattle.sheet.specs.Meaning.{qual_of, program_of}
+use Rattle.index.proofs.Ready.{of_sheet}
 use Rattle.words.specs.Word.{slot_in}
-use Rattle.binding.proofs.Laws.{word_of_sheet}
-use Rattle.watched_plan.proofs.Laws.{slot_declared, inside_spot, set_at, set_halt}
+use Rattle.binding.proofs.Laws.{exit_is, word_of_sheet}
+use Rattle.watched_plan.proofs.Laws.{slot_declared, inside_spot, set_at, set_halt, stored_to, stored_halt, stored_ok}
 use Rattle.watched_plan.proofs.set_slot_guarded.Goals as goal
 
-pub returns-in-At : goal.returns-in-At
+pub returns-in_err-at : goal.returns-in_err-at
 unfolding owner_at
-returns-in-At c =
-    let pre = c.requires.ready in
-    let bind_word = c.bind_word in
-    let stored_at = c.stored_at in
-    let slot-spot = c.slot_spot in
-    let args = c.args in
-    let field = c.field-owner in
-    let slot_of_record = c.slot_of in
-    let word_at = c.word_at in
-    let bound = word_of_sheet (pre) bind_word.ensures in (stored_at.ensures.by_index _ (inside_spot c.in-At.is slot-spot.ensures.inside) bound.fine, λ v at S. set_at _ (program_of args.s.now) v _ _ _ (rw (sym at.head, sym field.ensures)) (slot-spot.ensures.finds _ _ v S) _ _ c.in-At.is (stored_at.ensures.by_index_2 _) (slot_declared args.s.now v pre at _ _ slot_of_record.ensures) (bound.moves _ v _ S.head (ap (slot_in watched (qual_of args.s.now)) word_at.ensures ∙ S.variable _)))
+returns-in_err-at c =
+    rw (exit_is c.from_residual.ensures.1)
+    (tt, λ v at S. set_halt _ (program_of c.args.s.bytes.now) v _ _ _ (rw (sym at.head, sym c.field-owner.ensures)) (c.slot_spot.ensures.finds _ _ v S) c.in_err-at.was)
 
-pub returns-in-Halt : goal.returns-in-Halt
+pub returns-in_err-word : goal.returns-in_err-word
 unfolding owner_at
-returns-in-Halt c =
-    let args = c.args in
-    let field = c.field-owner in
-    let slot-spot = c.slot_spot in
-    (tt, λ v at S. set_halt _ (program_of args.s.now) v _ _ _ (rw (sym at.head, sym field.ensures)) (slot-spot.ensures.finds _ _ v S) c.in-Halt.is)
+returns-in_err-word c =
+    let s = c.args.s in
+    let bound = word_of_sheet (of_sheet s) c.bind_word.ensures in
+    rw (exit_is c.from_residual-in_err-word.ensures.1) (
+      tt,
+      λ v at S. set_at _ (program_of s.bytes.now) v _ _ _ (rw (sym at.head, sym c.field-owner.ensures)) (c.slot_spot.ensures.finds _ _ v S) _ _ c.in_ok-at.was (stored_halt _ _ _ c.in_err-word.was)
+          (slot_declared s.bytes.now v (of_sheet s) at _ _ c.slot_of-q.ensures)
+          (bound.moves _ v _ S.head (ap (slot_in watched (qual_of s.bytes.now)) c.word_at.ensures ∙ S.variable _)),
+    )
+
+pub returns : goal.returns
+unfolding owner_at
+returns c =
+    let s = c.args.s in
+    let bound = word_of_sheet (of_sheet s) c.bind_word.ensures in (
+      stored_ok _ c.in_ok-word.was (inside_spot c.in_ok-at.was c.slot_spot.ensures.inside) bound.fine,
+      λ v at S. set_at _ (program_of s.bytes.now) v _ _ _ (rw (sym at.head, sym c.field-owner.ensures)) (c.slot_spot.ensures.finds _ _ v S) _ _ c.in_ok-at.was (stored_to _ _ _ c.in_ok-word.was)
+          (slot_declared s.bytes.now v (of_sheet s) at _ _ c.slot_of-q.ensures)
+          (bound.moves _ v _ S.head (ap (slot_in watched (qual_of s.bytes.now)) c.word_at.ensures ∙ S.variable _)),
+    )

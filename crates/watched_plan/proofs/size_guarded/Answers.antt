@@ -1,55 +1,32 @@
 -- A blank cell; then the two tags, the right, and what `give` ensures of the size.
 use Rattle.sheet.specs.Meaning.{program_of}
+use Rattle.binding.proofs.Laws.{passed, refused, exit_is}
 use Rattle.watched_plan.proofs.Laws.{size_blank, size_misfit, size_without, size_given, blank_seen, filled_seen}
 use Rattle.watched_plan.proofs.size_guarded.Goals as goal
 
-pub returns-in_default : goal.returns-in_default
-returns-in_default c =
-    let args = c.args in
-    let word_at = c.word_at in
-    let cell_of = c.cell_of in
-    λ v at S. size_blank (program_of args.s.now) v _ _ (blank_seen S word_at.ensures cell_of.ensures c.in_default.is)
+pub returns-in_err-x : goal.returns-in_err-x
+returns-in_err-x c =
+    rw (exit_is c.from_residual.ensures.1)
+    (λ v at S. let k = blank_seen S c.word_at.ensures c.filled.ensures c.in_err-x.was in rw k.0 (size_blank (program_of c.args.s.bytes.now) v _ _ k.1))
 
-pub returns-then-has_right : goal.returns-then-has_right
-returns-then-has_right c =
-    let args = c.args in
-    let word_at = c.word_at in
-    let cell_of = c.cell_of in
-    let name_of = c.name_of in
-    let read = c.read-head in
-    let tag_of = c.tag_of in
-    let tag-of2 = c.tag_of-2 in
-    let first-test = c.if-tag_of in
-    let low_of = c.low_of in
-    let has_right = c.has_right in
-    let second-test = c.if-has_right in
-    let size_of = c.size_of in
-    let give = c.give in
-    λ v at S. size_given (program_of args.s.now) v _ args.h.now _ _ _ S.head (filled_seen S word_at.ensures cell_of.ensures c.in-Filled.is) name_of.ensures read.ensures tag_of.ensures tag-of2.ensures first-test.true low_of.ensures has_right.ensures _ second-test.true size_of.ensures (give.ensures v at)
+pub returns-in_err-require : goal.returns-in_err-require
+returns-in_err-require c =
+    let k = refused _ _ c.require.ensures c.in_err-require.was in
+    rw (exit_is c.from_residual-in_err-require.ensures.1, k.0)
+    (λ v at S.
+    size_misfit (program_of c.args.s.bytes.now) v _ c.args.v.objects.now _ _ _ S.head (filled_seen S c.word_at.ensures c.filled.ensures c.in_ok-x.was) c.name_of.ensures c.read-head.ensures c.is_object_word.ensures c.is_array_head.ensures k.1)
 
-pub returns-then-tag_of : goal.returns-then-tag_of
-returns-then-tag_of c =
-    let args = c.args in
-    let word_at = c.word_at in
-    let cell_of = c.cell_of in
-    let name_of = c.name_of in
-    let read = c.read-head in
-    let tag_of = c.tag_of in
-    let tag-of2 = c.tag_of-2 in
-    let first-test = c.if-tag_of in
-    let low_of = c.low_of in
-    let has_right = c.has_right in
-    let second-test = c.if-has_right in
-    λ v at S. size_without (program_of args.s.now) v _ args.h.now _ _ _ S.head (filled_seen S word_at.ensures cell_of.ensures c.in-Filled.is) name_of.ensures read.ensures tag_of.ensures tag-of2.ensures first-test.true low_of.ensures has_right.ensures second-test.false
+pub returns-in_err-require-2 : goal.returns-in_err-require-2
+returns-in_err-require-2 c =
+    let kinds = passed _ _ c.require.ensures c.in_ok-require.was in
+    let k = refused _ _ c.require-2.ensures c.in_err-require-2.was in
+    rw (exit_is c.from_residual-in_err-require-2.ensures.1, k.0)
+    (λ v at S.
+    size_without (program_of c.args.s.bytes.now) v _ c.args.v.objects.now _ _ _ S.head (filled_seen S c.word_at.ensures c.filled.ensures c.in_ok-x.was) c.name_of.ensures c.read-head.ensures c.is_object_word.ensures c.is_array_head.ensures kinds c.low_of.ensures c.has_right.ensures k.1)
 
 pub returns : goal.returns
 returns c =
-    let args = c.args in
-    let word_at = c.word_at in
-    let cell_of = c.cell_of in
-    let name_of = c.name_of in
-    let read = c.read-head in
-    let tag_of = c.tag_of in
-    let tag-of2 = c.tag_of-2 in
-    let first-test = c.if-tag_of in
-    λ v at S. size_misfit (program_of args.s.now) v _ args.h.now _ _ _ S.head (filled_seen S word_at.ensures cell_of.ensures c.in-Filled.is) name_of.ensures read.ensures tag_of.ensures tag-of2.ensures first-test.false
+    let kinds = passed _ _ c.require.ensures c.in_ok-require.was in
+    let licensed = passed _ _ c.require-2.ensures c.in_ok-require-2.was in
+    λ v at S.
+    size_given (program_of c.args.s.bytes.now) v _ c.args.v.objects.now _ _ _ S.head (filled_seen S c.word_at.ensures c.filled.ensures c.in_ok-x.was) c.name_of.ensures c.read-head.ensures c.is_object_word.ensures c.is_array_head.ensures kinds c.low_of.ensures c.has_right.ensures _ licensed c.size_of.ensures (c.give.ensures v at)
