@@ -4,7 +4,9 @@
 ghost use Rattle.std.specs.Prelude.{◌≡◌, ◌≤◌, length};
 ghost use Rattle.std.proofs.Math.Option.{some};
 ghost use Rattle.model.specs.Modes.{plain, watched};
+ghost use Rattle.model.specs.Outcome.{stop_number};
 ghost use Rattle.model.specs.Refusal.{Accepted, refusal_number};
+ghost use Rattle.run_by_frames.specs.Reply.{ending_stop};
 ghost use Rattle.run_by_frames.specs.Turn.{NeverStuck};
 ghost use Rattle.run.specs.Run.{answered, refused, stopped_at, end, answer_by, answer};
 
@@ -46,11 +48,11 @@ impl From<Refusal> for Reply {
 }
 
 impl From<Ended> for Reply {
-    ghost from_gives = { λ e reply. reply ≡ stopped_at e.number e.steps e.put e.procedure e.instruction };
+    ghost from_gives = { λ e reply. reply ≡ stopped_at (stop_number (ending_stop e.ending)) e.steps e.put e.procedure e.instruction };
 
     fn from(e: Ended) -> Reply {
         Reply {
-            number: e.number,
+            number: u64::from(e.ending.number()),
             place: 0,
             steps: e.steps,
             put: e.put as u64,
