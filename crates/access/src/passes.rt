@@ -11,19 +11,11 @@ use declaration_rules::{element_rule, has_closed_result, slots_rule, variable_ru
 use index::procedures::{Scope, own_scope, procedure_in};
 use index::sheets::Sheet;
 use instruction_rules::instruction_rule;
-use model::{Reason, Verdict, require};
+use model::{Reason, Verdict, record_verdict, require};
 use sheet::bytes::{byte, word};
 use sheet::decode::instruction_in;
 use sheet::fields::field;
 use sheet::places::{instruction_from, qual_at, variable_at};
-
-// The verdict of the record that starts at a byte.
-#[tactic(auto, unfolding(model::specs::Refusal::refuse))]
-fn record_verdict(found: Result<(), Reason>, at: usize) -> Verdict
-    ensures { result ≡ refuse found at Accepted }
-{
-    found.map_err(|reason| reason.at(at))
-}
 
 // TY number i.
 fn type_access(s: Sheet, i: u8) -> Verdict

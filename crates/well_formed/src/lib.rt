@@ -7,6 +7,7 @@ pub mod uses; // where ?R may not stand
 ghost use Rattle.std.specs.Prelude.{◌≡◌, [], ◌∷◌, Ok, Err, MatchResult};
 ghost use Rattle.model.specs.Refusal.{Accepted, verdict, failure, refuse, tests, each};
 ghost use Rattle.sheet.specs.Layout.{procedures_of, variables_field, instructions_at, start_from};
+ghost use Rattle.form.specs.Yields.{Yields};
 ghost use Rattle.form.specs.WellFormed.{call_tests_at, call_tests, procedure_calls_at, procedure_calls, calls_tests, form_tests};
 
 use crate::uses::{head_use, slot_uses, variable_uses};
@@ -15,18 +16,10 @@ use index::procedures::{place_in, procedure_in, start_in};
 use index::sheets::{AnySheet, Sheet};
 use layout::layout;
 use limits::actuals_scale;
-use model::{Reason, Refusal, Verdict, require};
+use model::{Reason, Refusal, Verdict, record_verdict, require};
 use sheet::bytes::{byte, word};
 use sheet::places::{instruction_from, is_bounded};
 use words::formals_in;
-
-// The refusal of the record at a place, by the reason of its first test that fails.
-#[tactic(auto, unfolding(model::specs::Refusal::refuse))]
-fn refused_at(rule: Result<(), Reason>, at: usize) -> Verdict
-    ensures { result ≡ refuse rule at Accepted }
-{
-    rule.map_err(|reason| reason.at(at))
-}
 
 // The IN at a place, in a procedure with v variables: a call is of a procedure of the sheet, and has as many variables as that has formals.
 #[tactic(auto, unfolding(form::specs::WellFormed::call_tests_at, sheet::specs::Layout::code_at, sheet::specs::Layout::k_at, sheet::specs::Layout::procedures_of, model::specs::Refusal::failure), using(crate::proofs::Told::formals_told))]
@@ -54,7 +47,7 @@ fn calls_pass(s: Sheet, pr: u32, start: u32) -> Verdict
     let first = instruction_from(start, vars, 0);
     for i in 0..word(s.bytes, pr as usize, 6) {
         let at = first + 8 * usize::from(i);
-        refused_at(call_rule(s, vars, at), at)?;
+        record_verdict(call_rule(s, vars, at), at)?;
     }
     Ok(())
 }
@@ -95,9 +88,7 @@ fn calls(s: Sheet) -> Verdict
 // Refusals 1 to 5, else the sheet as a well-formed one.
 #[tactic(auto, using(crate::proofs::Told::layout_refuses, crate::proofs::Told::calls_say, crate::proofs::Told::few_told))]
 pub fn well_formed(s: AnySheet) -> Result<FormedSheet, Refusal>
-    ensures { MatchResult result
-        (λ f. (verdict (form_tests s.entry.bytes.now) ≡ Accepted) × (f.sheet.bytes ≡ s.entry.bytes) × (f.sheet.index ≡ s.entry.index))
-        (λ r. verdict (form_tests s.entry.bytes.now) ≡ Err r) }
+    ensures { Yields (verdict (form_tests s.entry.bytes.now)) s.entry result }
 {
     layout(s)?;
     let sheet = s.bounded();

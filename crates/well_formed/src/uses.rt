@@ -8,10 +8,9 @@ ghost use Rattle.sheet.specs.Layout.{variables_field, is_bounded};
 ghost use Rattle.sheet.specs.Meaning.{qual_of};
 ghost use Rattle.form.specs.WellFormed.{slot_uses, head_uses, variable_uses};
 
-use crate::refused_at;
 use index::sheets::Sheet;
 use index::types::uses_name;
-use model::{Reason, Verdict, require};
+use model::{Reason, Verdict, record_verdict, require};
 use sheet::bytes::byte;
 use sheet::fields::{field, inner_of, need_of};
 use sheet::places::variable_at;
@@ -35,7 +34,7 @@ pub fn slot_uses(s: Sheet, n: u8) -> Verdict
 {
     for i in 0..n {
         let at = 6 + 12 * usize::from(i);
-        refused_at(slots_allowed(s, at), at)?;
+        record_verdict(slots_allowed(s, at), at)?;
     }
     Ok(())
 }

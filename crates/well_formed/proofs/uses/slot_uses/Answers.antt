@@ -4,8 +4,8 @@ use Rattle.model.proofs.Verdicts.{pass_more, pass_refuses}
 use Rattle.well_formed.proofs.Told.{slots_here}
 use Rattle.well_formed.proofs.uses.slot_uses.Goals as goal
 
-pub returns-in_err-refused_at : goal.returns-in_err-refused_at
-returns-in_err-refused_at c =
+pub returns-in_err-record_verdict : goal.returns-in_err-record_verdict
+returns-in_err-record_verdict c =
     let here = slots_here c.args.s.bytes.now c.loop-i.i (6 + 12 * c.from.result) (omega arith) in
     grind (arith, pass_refuses, here)
 
