@@ -25,7 +25,7 @@ fn type_access(s: Sheet, i: u8) -> Verdict
     record_verdict(slots_rule(s, at), at)
 }
 
-#[tactic(auto, using(model::proofs::Verdicts::pass_start, model::proofs::Verdicts::pass_more, model::proofs::Verdicts::pass_refuses))]
+#[tactic(auto, using(model::proofs::Verdicts::each_pass))]
 fn types_access(s: Sheet, n: u8) -> Verdict
     ensures { result ≡ verdict (each n (type_rules (place_of s.entry.bytes.now) (program_of s.entry.bytes.now))) }
 {
@@ -42,7 +42,7 @@ fn qual_access(s: Sheet, j: u8) -> Verdict
     record_verdict(element_rule(s.index, j), qual_at(s.encoded(), j))
 }
 
-#[tactic(auto, using(model::proofs::Verdicts::pass_start, model::proofs::Verdicts::pass_more, model::proofs::Verdicts::pass_refuses))]
+#[tactic(auto, using(model::proofs::Verdicts::each_pass))]
 fn quals_access(s: Sheet, n: u8) -> Verdict
     ensures { result ≡ verdict (each n (qual_rules (place_of s.entry.bytes.now) (program_of s.entry.bytes.now))) }
 {
@@ -76,7 +76,7 @@ fn variable_access(s: Sheet, p: usize, c: Scope, x: u8) -> Verdict
     )
 }
 
-#[tactic(auto, unfolding(sheet::specs::Layout::variables_field), using(model::proofs::Verdicts::pass_start, model::proofs::Verdicts::pass_more, model::proofs::Verdicts::pass_refuses))]
+#[tactic(auto, unfolding(sheet::specs::Layout::variables_field), using(model::proofs::Verdicts::each_pass))]
 fn variables_access(s: Sheet, p: usize, c: Scope) -> Verdict
     requires own_scope { OwnScope s.bytes.now p c }
     ensures { result ≡ verdict (each (variables_field s.entry.bytes.now (procedure_at s.entry.bytes.now p)) (variable_rules (place_of s.entry.bytes.now) (program_of s.entry.bytes.now) p)) }
@@ -100,7 +100,7 @@ fn instruction_access(s: Sheet, p: usize, c: Scope, i: u16, at: usize) -> Verdic
     record_verdict(instruction_rule(s, c, read), at)
 }
 
-#[tactic(auto, unfolding(sheet::specs::Layout::instructions_at, crate::specs::Inner::Callees::CalleesAt), using(model::proofs::Verdicts::pass_start, model::proofs::Verdicts::pass_more, model::proofs::Verdicts::pass_refuses))]
+#[tactic(auto, unfolding(sheet::specs::Layout::instructions_at, crate::specs::Inner::Callees::CalleesAt), using(model::proofs::Verdicts::each_pass))]
 fn instructions_access(s: Sheet, p: usize, c: Scope) -> Verdict
     requires own_scope { OwnScope s.bytes.now p c }
     requires callees_at { CalleesAt s.bytes.now p }
@@ -114,7 +114,7 @@ fn instructions_access(s: Sheet, p: usize, c: Scope) -> Verdict
     Ok(())
 }
 
-#[tactic(auto, unfolding(model::specs::Rules::procedure_rules), using(model::proofs::Verdicts::first_refuses, model::proofs::Verdicts::second_says))]
+#[tactic(auto, unfolding(model::specs::Rules::procedure_rules), using(model::proofs::Verdicts::pass_by_pass))]
 fn procedure_access(s: Sheet, p: usize, c: Scope) -> Verdict
     requires own_scope { OwnScope s.bytes.now p c }
     requires callees_at { CalleesAt s.bytes.now p }
@@ -125,7 +125,7 @@ fn procedure_access(s: Sheet, p: usize, c: Scope) -> Verdict
     instructions_access(s, p, c)
 }
 
-#[tactic(auto, using(model::proofs::Verdicts::pass_start, model::proofs::Verdicts::pass_more, model::proofs::Verdicts::pass_refuses))]
+#[tactic(auto, using(model::proofs::Verdicts::each_pass))]
 fn procedures_access(s: Sheet, n: usize) -> Verdict
     requires callees { Callees s.bytes.now }
     requires n_value { n ≡ procedures_of s.bytes.now }
@@ -138,7 +138,7 @@ fn procedures_access(s: Sheet, n: usize) -> Verdict
 }
 
 // Refusals 6 to 9, 20 and 21 of a well-formed sheet.
-#[tactic(auto, unfolding(model::specs::Rules::access_rules, sheet::specs::Layout::types_of, sheet::specs::Layout::quals_of, sheet::specs::Layout::procedures_of), using(model::proofs::Verdicts::first_refuses, model::proofs::Verdicts::second_says))]
+#[tactic(auto, unfolding(model::specs::Rules::access_rules, sheet::specs::Layout::types_of, sheet::specs::Layout::quals_of, sheet::specs::Layout::procedures_of), using(model::proofs::Verdicts::pass_by_pass))]
 pub fn access(s: Sheet) -> Verdict
     requires callees { Callees s.bytes.now }
     ensures { result ≡ verdict (access_rules (place_of s.entry.bytes.now) (program_of s.entry.bytes.now)) }

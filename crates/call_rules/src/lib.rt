@@ -41,7 +41,7 @@ fn actual_rule(s: Sheet, p: Scope, to: Scope, b: u8, j: u8) -> Result<(), Reason
     movement(s, p.name, from, to.name, need)
 }
 
-#[tactic(auto, using(model::proofs::Verdicts::test_start, model::proofs::Verdicts::test_more, model::proofs::Verdicts::test_refuses), unfolding(sheet::specs::Layout::formals_at))]
+#[tactic(auto, using(model::proofs::Verdicts::each_test), unfolding(sheet::specs::Layout::formals_at))]
 fn actuals_rule(s: Sheet, p: Scope, to: Scope, b: u8) -> Result<(), Reason>
     ensures { result ≡ failure (each (formals_at s.entry.bytes.now to.head) (λ j. moves (inner_as s.entry.bytes.now p (b + j)) (need_as s.entry.bytes.now to j))) }
 {

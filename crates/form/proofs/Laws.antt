@@ -112,8 +112,3 @@ pub layout_small : (s : List ℕ) → verdict (length_tests s ++ layout_tests s)
     → (types_of s ≤ 32) × (quals_of s ≤ 64) × (1 ≤ procedures_of s) × (procedures_of s ≤ 64)
 unfolding layout_tests
 layout_small s h = header_small s (left_accepted (header_tests s) _ (right_accepted (length_tests s) _ h))
-
--- ---- what the proofs of the passes cite: a loop over the records of one kind, and one pass after another
-pub ruleset each_pass = (pass_start, pass_more, pass_refuses)
-
-pub ruleset pass_by_pass = (first_refuses, second_says)

@@ -20,7 +20,7 @@ use sheet::bytes::{byte, word};
 use sheet::edition::Encoded;
 use sheet::places::{instruction_from, type_at};
 
-#[tactic(auto, using(form::proofs::Laws::each_pass))]
+#[tactic(auto, using(model::proofs::Verdicts::each_pass))]
 fn types_pass(e: Encoded, t: u8) -> Verdict
     ensures { result ≡ verdict (each t (type_tests e.entry.bytes.now)) }
 {
@@ -30,7 +30,7 @@ fn types_pass(e: Encoded, t: u8) -> Verdict
     Ok(())
 }
 
-#[tactic(auto, using(form::proofs::Laws::each_pass))]
+#[tactic(auto, using(model::proofs::Verdicts::each_pass))]
 fn quals_pass(e: Encoded, q: u8) -> Verdict
     ensures { result ≡ verdict (each q (qual_tests e.entry.bytes.now)) }
 {
@@ -40,7 +40,7 @@ fn quals_pass(e: Encoded, q: u8) -> Verdict
     Ok(())
 }
 
-#[tactic(auto, using(form::proofs::Laws::each_pass), unfolding(sheet::specs::Layout::variables_field))]
+#[tactic(auto, using(model::proofs::Verdicts::each_pass), unfolding(sheet::specs::Layout::variables_field))]
 fn variables_pass(s: &[u8], pr: u32, start: u32) -> Verdict
     ensures { result ≡ verdict (each (variables_field s.now pr) (variable_tests s.now pr start)) }
 {
@@ -65,7 +65,7 @@ fn limits_at(s: &[u8], pr: u32) -> Limits
     }
 }
 
-#[tactic(auto, using(form::proofs::Laws::each_pass, form::proofs::Laws::instruction_counted, form::proofs::Laws::instruction_here))]
+#[tactic(auto, using(model::proofs::Verdicts::each_pass, form::proofs::Laws::instruction_counted, form::proofs::Laws::instruction_here))]
 fn instructions_pass(s: &[u8], pr: u32, start: u32) -> Verdict
     ensures { result ≡ verdict (each (instructions_at s.now pr) (instruction_tests s.now pr start)) }
 {
@@ -78,7 +78,7 @@ fn instructions_pass(s: &[u8], pr: u32, start: u32) -> Verdict
 }
 
 // Procedure p, at a place: its PR, GN, VRs, which start at another, INs.
-#[tactic(auto, unfolding(form::specs::WellFormed::procedure_tests_at), using(form::proofs::Laws::pass_by_pass))]
+#[tactic(auto, unfolding(form::specs::WellFormed::procedure_tests_at), using(model::proofs::Verdicts::pass_by_pass))]
 fn procedure_pass(e: Encoded, p: usize, pr: u32, start: u32) -> Verdict
     requires { start ≡ start_from e.bytes.now p pr }
     ensures { result ≡ verdict (procedure_tests_at e.entry.bytes.now p pr) }
@@ -89,7 +89,7 @@ fn procedure_pass(e: Encoded, p: usize, pr: u32, start: u32) -> Verdict
     instructions_pass(e.bytes, pr, start)
 }
 
-#[tactic(auto, using(form::proofs::Laws::each_pass, form::proofs::Laws::started, crate::proofs::Places::procedure_here))]
+#[tactic(auto, using(model::proofs::Verdicts::each_pass, form::proofs::Laws::started, crate::proofs::Places::procedure_here))]
 fn procedures_pass(s: AnySheet, n: usize) -> Verdict
     requires n_bound { n ≤ 64 }
     requires n_value { n ≡ procedures_of s.bytes.now }
@@ -121,7 +121,7 @@ fn overlong(s: &[u8]) -> Verdict
 }
 
 // Refusal 1, then 2 to 5 record by record, then bytes left over.
-#[tactic(auto, unfolding(form::specs::WellFormed::layout_tests, sheet::specs::Layout::types_of, sheet::specs::Layout::quals_of, sheet::specs::Layout::procedures_of), using(form::proofs::Laws::pass_by_pass, crate::proofs::Places::few_procedures, crate::proofs::Places::end_here, crate::proofs::Places::end_above, crate::proofs::Places::end_past))]
+#[tactic(auto, unfolding(form::specs::WellFormed::layout_tests, sheet::specs::Layout::types_of, sheet::specs::Layout::quals_of, sheet::specs::Layout::procedures_of), using(model::proofs::Verdicts::pass_by_pass, crate::proofs::Places::few_procedures, crate::proofs::Places::end_here, crate::proofs::Places::end_above, crate::proofs::Places::end_past))]
 pub fn layout(s: AnySheet) -> Verdict
     ensures { result ≡ verdict (length_tests s.entry.bytes.now ++ layout_tests s.entry.bytes.now) }
 {

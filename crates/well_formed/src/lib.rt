@@ -39,7 +39,7 @@ fn call_rule(s: Sheet, v: u8, at: usize) -> Result<(), Reason>
 }
 
 // The calls of the procedure at a place, whose VRs start at another.
-#[tactic(auto, unfolding(sheet::specs::Layout::variables_field, sheet::specs::Layout::instructions_at), using(form::proofs::Laws::each_pass, crate::proofs::Told::call_told))]
+#[tactic(auto, unfolding(sheet::specs::Layout::variables_field, sheet::specs::Layout::instructions_at), using(model::proofs::Verdicts::each_pass, crate::proofs::Told::call_told))]
 fn calls_pass(s: Sheet, pr: u32, start: u32) -> Verdict
     ensures { result ≡ verdict (each (instructions_at s.entry.bytes.now pr) (call_tests s.entry.bytes.now (variables_field s.entry.bytes.now pr) start)) }
 {
@@ -53,7 +53,7 @@ fn calls_pass(s: Sheet, pr: u32, start: u32) -> Verdict
 }
 
 // Procedure p, at a place: where ?R may not stand in its PR and its VRs, then its calls.
-#[tactic(auto, unfolding(form::specs::WellFormed::procedure_calls_at), using(form::proofs::Laws::pass_by_pass))]
+#[tactic(auto, unfolding(form::specs::WellFormed::procedure_calls_at), using(model::proofs::Verdicts::pass_by_pass))]
 fn procedure_calls(s: Sheet, p: usize, pr: u32, start: u32) -> Verdict
     requires { start ≡ start_from s.bytes.now p pr }
     ensures { result ≡ verdict (procedure_calls_at s.entry.bytes.now p pr) }
@@ -64,7 +64,7 @@ fn procedure_calls(s: Sheet, p: usize, pr: u32, start: u32) -> Verdict
     calls_pass(s, pr, start)
 }
 
-#[tactic(auto, using(form::proofs::Laws::each_pass, crate::proofs::Told::procedure_told, crate::proofs::Told::start_told))]
+#[tactic(auto, using(model::proofs::Verdicts::each_pass, crate::proofs::Told::procedure_told, crate::proofs::Told::start_told))]
 fn procedures_calls(s: Sheet, n: usize) -> Verdict
     requires { n ≡ procedures_of s.bytes.now }
     ensures { result ≡ verdict (each n (procedure_calls s.entry.bytes.now)) }
@@ -77,7 +77,7 @@ fn procedures_calls(s: Sheet, n: usize) -> Verdict
 }
 
 // The pass for calls.
-#[tactic(auto, unfolding(form::specs::WellFormed::calls_tests, sheet::specs::Layout::types_of, sheet::specs::Layout::procedures_of), using(form::proofs::Laws::pass_by_pass))]
+#[tactic(auto, unfolding(form::specs::WellFormed::calls_tests, sheet::specs::Layout::types_of, sheet::specs::Layout::procedures_of), using(model::proofs::Verdicts::pass_by_pass))]
 fn calls(s: Sheet) -> Verdict
     ensures { result ≡ verdict (calls_tests s.entry.bytes.now) }
 {

@@ -16,7 +16,7 @@ use sheet::fields::{field, inner_of, need_of};
 use sheet::places::variable_at;
 
 // No slot of the TY at a place uses ?R.
-#[tactic(auto, using(model::proofs::Verdicts::test_start, model::proofs::Verdicts::test_more, model::proofs::Verdicts::test_refuses, crate::proofs::Told::slot_told))]
+#[tactic(auto, using(model::proofs::Verdicts::each_test, crate::proofs::Told::slot_told))]
 fn slots_allowed(s: Sheet, at: usize) -> Result<(), Reason>
     ensures { result ≡ failure (each (byte_at s.entry.bytes.now at 3) (λ k. test OffScale (not (generic.uses (qual_of s.entry.bytes.now (byte_at s.entry.bytes.now at (4 + k))))) ∷ [])) }
 {
@@ -28,7 +28,7 @@ fn slots_allowed(s: Sheet, at: usize) -> Result<(), Reason>
 }
 
 // The slots of all types.
-#[tactic(auto, using(form::proofs::Laws::each_pass, crate::proofs::Told::slots_here))]
+#[tactic(auto, using(model::proofs::Verdicts::each_pass, crate::proofs::Told::slots_here))]
 pub fn slot_uses(s: Sheet, n: u8) -> Verdict
     ensures { result ≡ verdict (each n (slot_uses s.entry.bytes.now)) }
 {
@@ -62,7 +62,7 @@ fn variable_use(s: Sheet, bounded: bool, start: u32, x: u8) -> Verdict
 }
 
 // The variables of the procedure at a place, whose VRs start at another.
-#[tactic(auto, unfolding(sheet::specs::Layout::variables_field), using(form::proofs::Laws::each_pass))]
+#[tactic(auto, unfolding(sheet::specs::Layout::variables_field), using(model::proofs::Verdicts::each_pass))]
 pub fn variable_uses(s: Sheet, bounded: bool, pr: u32, start: u32) -> Verdict
     ensures { result ≡ verdict (each (variables_field s.entry.bytes.now pr) (variable_uses s.entry.bytes.now bounded start)) }
 {

@@ -2,6 +2,7 @@
 use mathlib.Core.Path.{◌≡◌, sym, ap, ◌∙◌}
 use Rattle.model.specs.Refusal.{Accepted, verdict}
 use Rattle.model.specs.Rules.{access_rules}
+use Rattle.model.proofs.Verdicts.{first_refuses, second_says}
 use Rattle.sheet.specs.Meaning.{program_of, place_of}
 use Rattle.form.specs.WellFormed.{form_tests}
 use Rattle.form.proofs.WellFormed.{bound_formed, callee_below}
@@ -12,9 +13,21 @@ use Rattle.checking.proofs.check_indexed.Goals as goal
 pub access-requires : goal.access-requires
 unfolding CalleesAt
 access-requires c =
-    let f = c.in_ok-formed.field-0 in
+    let f = c.in_ok-formed.formed in
     let s = f.sheet.bytes.now in
     let there = callee_below s f.formed in record {
       bounded = bound_formed s f.formed;
       each = λ p l i m. record { there = there p l i m; bounded = bound_formed s f.formed _ (there p l i m) };
     }
+
+pub returns-in_err-formed : goal.returns-in_err-formed
+unfolding check check_tests
+returns-in_err-formed c = ?
+
+pub returns-in_err-access : goal.returns-in_err-access
+unfolding check check_tests
+returns-in_err-access c = ?
+
+pub returns : goal.returns
+unfolding check check_tests
+returns c = ?
