@@ -6,8 +6,13 @@ use Rattle.sheet.specs.Layout.{procedures_of, formals_at, variables_field, proce
 use Rattle.index.specs.Procedures.{procedure_in}
 use Rattle.index.specs.Indexed.{ProcedureWord}
 use Rattle.index.specs.Scope.{Bounded}
+use Rattle.index.proofs.Ready.{of_sheet}
+use Rattle.form.specs.declared.FormedSheet.{FormedSheet}
 use Rattle.form.proofs.WellFormed.{formals_first, bound_formed}
 use Rattle.frames.specs.Performs.{Loaded}
+
+pub loaded : (s : FormedSheet) → Loaded s.sheet.bytes.now s.sheet.index.now
+loaded s = record { formed = s.formed; ready = of_sheet s.sheet }
 
 module _ (s index : List ℕ) (L : Loaded s index) (k : ℕ) (h : k < procedures_of s) where
   pub formals_within : formals_at s (procedure_at s k) ≤ variables_field s (procedure_at s k)

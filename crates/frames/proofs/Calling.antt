@@ -4,12 +4,15 @@ use native.Mathlib.Omega.{arith}
 use mathlib.Core.Path.{◌≡◌, refl, sym, ap, ◌∙◌}
 use mathlib.Core.Bool.{Bool, true, false}
 use mathlib.Core.List.{List, [], ◌∷◌, map}
+use Rattle.std.proofs.Common.{Ok, Err}
 use mathlib.Core.Logic.{⊎_elim}
 use borrow.Author.Tests.{le-leb, lt-leb, eqb-true, eqb-false}
 use lib.Dec.{eqb}
 use lib.ListN.{length, get_or, take, drop}
 use lib.Seq.{drop-cons, get_or-take, get_or-drop}
-use Rattle.model.specs.Outcome.{Stop, stop_number, blank, memory_full, Res, ok, stop, ensure, ◌>>=◌, ◌>>◌}
+use Rattle.model.specs.declared.Halt.{Halt}
+use Rattle.model.specs.declared.Halt.TheVariants.{Blank, MemoryFull}
+use Rattle.model.specs.Outcome.{stop_of, blank, memory_full, Res, ok, stop, ensure, ◌>>=◌, ◌>>◌}
 use Rattle.model.specs.Program.{Program}
 use Rattle.model.specs.Modes.{plain, SettledSet, settle_set, bind, raise, demand}
 use Rattle.model.specs.Machine as M
@@ -22,7 +25,7 @@ use Rattle.words.specs.Word.{low, payload, cell, slot_in, variables_of}
 use Rattle.index.specs.Indexed.{ProcedureWord}
 use Rattle.words.proofs.Laws.{blank_word, filled_word}
 use Rattle.writers.specs.declared.Registers.{Registers}
-use Rattle.writers.specs.declared.Stepped.TheVariants.{Enter, Halt}
+use Rattle.writers.specs.declared.Next.TheVariants.{Enter}
 use Rattle.writers.specs.Memory.{Given, slots, variables_in, frame_part, GapOnly, Stands, StandsFor}
 use Rattle.writers.specs.Steps.{After}
 use Rattle.writers.proofs.Effects.{stopped_after, gap_kept}
@@ -101,10 +104,10 @@ module _ (g : Program) (v : View plain) (k b : ℕ) where
 -- ---- what the code makes of it
 
 -- a stop that was planned
-stopped : (c : Given) (words out s : List ℕ) (r : Registers) (t : State plain) → StandsFor plain c words out r t → (x : Stop) (e : Res (Effect plain)) → e ≡ stop x
-    → After plain c words out out r t (Halt (stop_number x)) (performed s t e)
+stopped : (c : Given) (words out s : List ℕ) (r : Registers) (t : State plain) → StandsFor plain c words out r t → (k : Halt) (e : Res (Effect plain)) → e ≡ stop (stop_of k)
+    → After plain c words out out r t (Err k) (performed s t e)
 unfolding ◌>>=◌
-stopped c words out s r t S x e is = rw is (stopped_after plain c words out r t S (stop_number x) x refl)
+stopped c words out s r t S k e is = rw is (stopped_after plain c words out r t S k)
 
 -- the variables that are passed, if any, are the frame's
 pub actuals_fit : (b f n : ℕ) → ((j : ℕ) → j < f → b + j < n) → f ≤ n - b
@@ -113,9 +116,9 @@ actuals_fit b (suc f) n h = let m = h f (omega arith) in omega arith
 
 module _ (s words : List ℕ) (r : Registers) (a b k v f : ℕ) (many : v ≡ variables_field s (procedure_at s k)) (formals : f ≡ formals_at s (procedure_at s k)) where
   pub call_without_room : r.base - r.used < v + 2
-      → (input out : List ℕ) → Performs plain s input words words out out r (Halt 17) (Call a b k)
+      → (input out : List ℕ) → Performs plain s input words words out out r (Err MemoryFull) (Call a b k)
   call_without_room h input out c t same from S =
-      stopped c words out s r t S memory_full _ (call_full (program_of s) (view (length words) (length out) t) k b a (omega (arith, room_is plain c words out r t S)))
+      stopped c words out s r t S MemoryFull _ (call_full (program_of s) (view (length words) (length out) t) k b a (omega (arith, room_is plain c words out r t S)))
 
   module _ (room : v + 2 ≤ r.base - r.used) (few : f ≤ v) (fits : f ≤ variables_in r - b) where
     passed : (vs : List (Cell plain)) → variables_in r ≡ length vs → cells_from (λ x. get_or vs x empty) b 0 f ≡ take f (drop b vs)
@@ -151,16 +154,17 @@ module _ (s words : List ℕ) (r : Registers) (a b k v f : ℕ) (many : v ≡ va
           frames = ap (drop r.base) copy ∙ copied_after words src at n below above inside r.base (omega arith);
         }
 
-    pub call_of_blank : (words' : List ℕ) → Copies words words' (r.base + b) (r.base - (v + 2)) f false
-        → (input out : List ℕ) → Performs plain s input words words' out out r (Halt 13) (Call a b k)
-    call_of_blank words' C input out c (state (frame p i z vs) fs os left put) same from' S =
+    pub call_of_blank : (words' : List ℕ) (x : Halt) → Copies words words' (r.base + b) (r.base - (v + 2)) f (Err x)
+        → (input out : List ℕ) → Performs plain s input words words' out out r (Err x) (Call a b k)
+    call_of_blank words' x C input out c (state (frame p i z vs) fs os left put) same from' S =
         let t = state (frame p i z vs) fs os left put in
         let j = C.0 in
-        stopped c words' out s r t (gap_kept S words' (copied_gap S words' j (omega (arith, C.1)) C.2)) blank _
+        rw C.4
+        (stopped c words' out s r t (gap_kept S words' (copied_gap S words' j (omega (arith, C.1)) C.2)) Blank _
         (call_blank (program_of s) (view (length words) (length out) t) k b a (omega (arith, room_is plain c words out r t S)) j (rw formals at C.1)
-        (blank_word plain (qual_of c.sheet) (get_or words (r.base + b + j) 0) (looked_at S j C.1) C.3))
+        (blank_word plain (qual_of c.sheet) (get_or words (r.base + b + j) 0) (looked_at S j C.1) C.3)))
 
-    module _ (words' : List ℕ) (C : Copies words words' (r.base + b) (r.base - (v + 2)) f true) where
+    module _ (words' : List ℕ) (C : Copies words words' (r.base + b) (r.base - (v + 2)) f (Ok tt)) where
       holds : {c : Given} {out : List ℕ} {p i : ℕ} {z : SettledSet plain} {vs : List (Cell plain)} {fs : List (Frame plain)} {os : List (Object plain)} {input put : List ℕ}
           → Stands plain c words out r p i z vs fs os input put → (j : ℕ) → j < f → Holds (get_or vs (b + j) empty)
       holds {c} S j h =
@@ -169,7 +173,7 @@ module _ (s words : List ℕ) (r : Registers) (a b k v f : ℕ) (many : v ≡ va
 
       pub call_goes : (words'' : List ℕ) (q : Registers) (w : ℕ) → Opened plain words' words'' r q a w 0 v f → operation_at s (place_in r) ≡ Call a b k
           → k < procedures_of s → ProcedureWord s k w → v ≡ variables_of w
-          → (input out : List ℕ) → Performs plain s input words words'' out out r (Enter q) (Call a b k)
+          → (input out : List ℕ) → Performs plain s input words words'' out out r (Ok (Enter q)) (Call a b k)
       unfolding ◌>>=◌ apply
       call_goes words'' q w P here known of has input out c (state (frame p i z vs) fs os left put) same from' S =
           let t = state (frame p i z vs) fs os left put in

@@ -4,9 +4,11 @@ use Prim.Native.Nat.{ℕ, zero, suc, ◌+◌, ◌-◌, ◌<◌}
 use native.Mathlib.Omega.{arith}
 use mathlib.Core.Path.{◌≡◌, refl, sym, ap, subst, ◌∙◌}
 use mathlib.Core.List.{List}
+use Rattle.std.proofs.Common.{Result, Ok, Err}
 use lib.Dec.{ltb}
 use lib.ListN.{length, take, drop, length-drop}
 use lib.Seq.{length-take-le}
+use Rattle.model.specs.declared.Halt.{Halt}
 use Rattle.model.specs.Outcome.{output_full, Res, ok, stop, stuck, ensure, ◌>>=◌, ◌>>◌}
 use Rattle.model.specs.Modes.{Mode, SettledSet}
 use Rattle.model.specs.Qualified.{Qual}
@@ -21,12 +23,10 @@ use Rattle.index.specs.Procedures.{start_of, place_of}
 use Rattle.index.specs.Indexed.{PlacedWord}
 use Rattle.words.specs.Sees.{Sees}
 use Rattle.words.specs.Answers.{UnlessStuck, number_as}
-use Rattle.words.specs.declared.Number.{Number}
 use Rattle.writers.specs.declared.Registers.{Registers}
-use Rattle.writers.specs.declared.Stepped.{Stepped}
-use Rattle.writers.specs.declared.Stepped.TheVariants.{Go, Enter, Halt, Done}
-use Rattle.writers.specs.Memory.{Given, variables_in, Sane, object_part, SeesIn, Stands, StandsFor}
-use Rattle.writers.specs.Steps.{After, Does, branched, jumped, put_effect, take_effect}
+use Rattle.writers.specs.declared.Next.TheVariants.{Go, Enter, Done}
+use Rattle.writers.specs.Memory.{Given, variables_in, Sane, object_part, frame_part, SeesIn, Stands, StandsFor}
+use Rattle.writers.specs.Steps.{Stepped, After, Does, branched, jumped, put_effect, take_effect}
 use Rattle.writers.proofs.View.{view_sees, free_is, next_input_is}
 use Rattle.frames.specs.Performs.{Performs}
 use Rattle.frames.specs.Frames.{SetIn}
@@ -52,10 +52,10 @@ unless_map stuck P Q h k = tt
 
 module _ (m : Mode) (c : Given) (words before out : List ℕ) (r : Registers) (t : State m) where
   after_stuck : (o : Stepped) → After m c words before out r t o stuck
-  after_stuck (Go q) = tt
-  after_stuck (Enter q) = tt
-  after_stuck (Halt k) = tt
-  after_stuck Done = tt
+  after_stuck (Ok (Go q)) = tt
+  after_stuck (Ok (Enter q)) = tt
+  after_stuck (Err k) = tt
+  after_stuck (Ok Done) = tt
 
   after_plan : (o : Stepped) (f : Effect m → Res (Next m)) (p : Res (Effect m)) (P : Type 0) → UnlessStuck p P
       → (P → After m c words before out r t o (p >>= f)) → After m c words before out r t o (p >>= f)
@@ -75,6 +75,11 @@ pub sees_cut : (m : Mode) (q : ℕ → Qual) (v : View m) (words : List ℕ) (r 
 sees_cut m q v words r end is S =
     let n : variables_in r ≡ end - r.base = omega arith in
     subst (λ (k : ℕ). Sees m q v (take k (drop r.base words)) (object_part r words)) n S
+
+-- the same, with both parts as `writers::parts` gives them
+pub sees_parts : (m : Mode) (q : ℕ → Qual) (v : View m) (words : List ℕ) (r : Registers) {f h : List ℕ} → f ≡ frame_part r words → h ≡ object_part r words
+    → SeesIn m q v words r → Sees m q v f h
+sees_parts m q v words r e d S = rw (e, d) S
 
 -- that part has as many words as the frame has variables
 pub cut_length : (words : List ℕ) (r : Registers) (end : ℕ) → Sane (length words) r → end ≡ r.base + variables_in r
@@ -168,12 +173,17 @@ module _ (m : Mode) (s input words words' before out : List ℕ) (r : Registers)
 
 -- ---- the writers that take an integer, an input word or an output word
 
--- the number n is that of variable x, in the part of the memory that the code cuts
-abbrev pub Reads : (m : Mode) → (s words : List ℕ) → Registers → (end : ℕ) → Number → ℕ → Type 0
+-- the number n is that of variable x
+abbrev pub ReadsIn : (m : Mode) → (s words : List ℕ) → Registers → Result ℕ Halt → ℕ → Type 0
+ReadsIn m s words r n x =
+    (v : View m) → SeesIn m (qual_of s) v words r → UnlessStuck (one_integer m (program_of s) v x) (number_as m n ≡ one_integer m (program_of s) v x)
+
+-- the same, in the part of the memory that the code cuts
+abbrev pub Reads : (m : Mode) → (s words : List ℕ) → Registers → (end : ℕ) → Result ℕ Halt → ℕ → Type 0
 Reads m s words r end n x =
     (v : View m) → SeesCut m (qual_of s) v words r end → UnlessStuck (one_integer m (program_of s) v x) (number_as m n ≡ one_integer m (program_of s) v x)
 
-module _ (m : Mode) (g : Program) (v : View m) (a : ℕ) (n : Number)
+module _ (m : Mode) (g : Program) (v : View m) (a : ℕ) (n : Result ℕ Halt)
     (reads : UnlessStuck (one_integer m g v a) (number_as m n ≡ one_integer m g v a)) where
   jumps : (k : ℕ) → UnlessStuck (plan m g v (Op.JumpZero a k)) (jumped m k n ≡ plan m g v (Op.JumpZero a k))
   unfolding plan jumped branched branch ◌>>=◌
@@ -195,20 +205,27 @@ module _ (m : Mode) (g : Program) (v : View m) (a : ℕ) (n : Number)
       (λ e. rw (f, e))
 
 module _ (m : Mode) (s input words words' before out : List ℕ) (r : Registers) (o : Stepped) (a : ℕ) where
-  pub performs_jump : (n : Number) (k end : ℕ) → end ≡ r.base + variables_in r → ((c : Given) → Does m c words words' before out r o (jumped m k n)) → Reads m s words r end n a
+  pub performs_jump_in : (n : Result ℕ Halt) (k : ℕ) → ((c : Given) → Does m c words words' before out r o (jumped m k n)) → ReadsIn m s words r n a
       → Performs m s input words words' before out r o (Op.JumpZero a k)
-  performs_jump n k end is does reads =
-      performs_frame m s input words words' before out r o (Op.JumpZero a k) (λ q. jumped m k n) does end is (λ v R S. jumps m (program_of s) v a n (reads v S) k)
+  performs_jump_in n k does reads =
+      performs_seeing m s input words words' before out r o (Op.JumpZero a k) (λ q. jumped m k n) does (λ v R S. jumps m (program_of s) v a n (reads v S) k)
 
-  pub performs_put : (n : Number) (end : ℕ) → end ≡ r.base + variables_in r
-      → ((c : Given) → Does m c words words' before out r o (put_effect m (length before - r.put) n)) → Reads m s words r end n a
+  pub performs_jump : (n : Result ℕ Halt) (k end : ℕ) → end ≡ r.base + variables_in r → ((c : Given) → Does m c words words' before out r o (jumped m k n))
+      → Reads m s words r end n a → Performs m s input words words' before out r o (Op.JumpZero a k)
+  performs_jump n k end is does reads = performs_jump_in n k does (λ v S. reads v (sees_cut m (qual_of s) v words r end is S))
+
+  pub performs_put_in : (n : Result ℕ Halt) → ((c : Given) → Does m c words words' before out r o (put_effect m (length before - r.put) n)) → ReadsIn m s words r n a
       → Performs m s input words words' before out r o (Op.Put a)
-  performs_put n end is does reads =
+  performs_put_in n does reads =
       performs m s input words words' before out r o (Op.Put a) (λ q. put_effect m (length before - r.put) n) does
       (λ c t q i S.
       let v = view (length words) (length before) t in
-      puts m (program_of s) v a n (reads v (sees_cut m (qual_of s) v words r end is (sees m c s words before r t q S))) (length before - r.put)
-      (free_is m c words before r t S))
+      puts m (program_of s) v a n (reads v (sees m c s words before r t q S)) (length before - r.put) (free_is m c words before r t S))
+
+  pub performs_put : (n : Result ℕ Halt) (end : ℕ) → end ≡ r.base + variables_in r
+      → ((c : Given) → Does m c words words' before out r o (put_effect m (length before - r.put) n)) → Reads m s words r end n a
+      → Performs m s input words words' before out r o (Op.Put a)
+  performs_put n end is does reads = performs_put_in n does (λ v S. reads v (sees_cut m (qual_of s) v words r end is S))
 
   pub performs_take : ((c : Given) → Does m c words words' before out r o (take_effect m a (first_of (drop r.taken input))))
       → ((v : View m) → Running s words r v → first_of (drop r.taken input) ≡ v.next_input

@@ -2,14 +2,16 @@
 use Prim.Native.Nat.{ℕ, pred, ◌+◌, ◌-◌, ◌≤◌, ◌<◌}
 use native.Mathlib.Omega.{arith}
 use mathlib.Core.Path.{◌≡◌, refl, sym, ap, ◌∙◌}
-use mathlib.Core.Bool.{Bool, true, false, not, ◌&&◌}
+use mathlib.Core.Bool.{Bool, true, false}
 use mathlib.Core.List.{List, [], ◌∷◌, map}
+use Rattle.std.proofs.Common.{Ok, Err}
 use mathlib.Core.Logic.{⊎_elim}
 use mathlib.Core.Option.{Option, none, some}
-use borrow.Author.Tests.{eqb-true, eqb-false, eq-eqb}
+use borrow.Author.Tests.{eqb-true, eqb-false}
 use lib.Dec.{eqb}
 use lib.ListN.{length, get_or, set, take, drop, length-set}
 use lib.Seq.{set_out}
+use Rattle.model.specs.declared.Halt.TheVariants.{Blank}
 use Rattle.model.specs.Outcome.{blank, Res, ok, stop, stuck, ◌>>=◌, ◌>>◌}
 use Rattle.model.specs.Qualified.{Qual}
 use Rattle.model.specs.Program.{Program}
@@ -24,10 +26,9 @@ use Rattle.sheet.specs.Meaning.{program_of, qual_of}
 use Rattle.words.specs.Word.{low, back_kept, back_next, number_of, variables_of, bound_of, first_of, IsProcedure, cell, slot_in}
 use Rattle.words.proofs.Laws.{blank_word, filled_word, back_word, procedure_told}
 use Rattle.writers.specs.declared.Registers.{Registers}
-use Rattle.writers.specs.declared.Stepped.{Stepped}
-use Rattle.writers.specs.declared.Stepped.TheVariants.{Enter, Halt, Done}
+use Rattle.writers.specs.declared.Next.TheVariants.{Enter, Done}
 use Rattle.writers.specs.Memory.{Given, number_in, variables_in, Sound, AllSound, Stands, StandsFor, flat_frames}
-use Rattle.writers.specs.Steps.{After}
+use Rattle.writers.specs.Steps.{Stepped, After}
 use Rattle.writers.proofs.Effects.{stopped_after, goes_on}
 use Rattle.writers.proofs.View.{frames_are, view_sees, alone, alone_back, waiting_back, waiting_procedure, waiting_frame}
 use Rattle.writers.proofs.Change.{set_before, set_frame, set_variable}
@@ -148,7 +149,7 @@ planned_as c words out s r t o e d is h = rw is h
 
 -- main has no frame that waits
 pub returns_over : (m : Mode) (s words : List ℕ) (r : Registers) (value : Option (Cell m)) → length words ≤ r.base + (variables_in r + 2)
-    → (out : List ℕ) → Returns m s words words out r Done value
+    → (out : List ℕ) → Returns m s words words out r (Ok Done) value
 unfolding to_caller ◌>>=◌ apply
 returns_over m s words r value h out c (state (frame p i z vs) [] os input put) same S = refl
 returns_over m s words r value h out c (state (frame p i z vs) (frame q k y us ∷ gs) os input put) same S =
@@ -171,14 +172,14 @@ module _ (m : Mode) (s words : List ℕ) (r : Registers) (a : ℕ) (above : r.ba
 
   module _ (b : Registers) (W : Waits m words r b) where
     -- it keeps nothing
-    pub returns_dropped : a ≡ 255 → (value : Option (Cell m)) (out : List ℕ) → Returns m s words words out r (Enter b) value
+    pub returns_dropped : a ≡ 255 → (value : Option (Cell m)) (out : List ℕ) → Returns m s words words out r (Ok (Enter b)) value
     unfolding to_caller into_caller ◌>>=◌ apply
     returns_dropped e value out c (state (frame p i z vs) [] os input put) same S = absurd (no_main S)
     returns_dropped e value out c (state (frame p i z vs) (frame q k y us ∷ gs) os input put) same S =
         let t = state (frame p i z vs) (frame q k y us ∷ gs) os input put in
         let seen = view (length words) (length out) t in
         let B = W c p i q k z y vs us gs os input put out S in
-        planned_as c words out s r t (Enter b) (to_caller m (program_of s) seen (some (q, k, y)) value) (ok (M.resume none))
+        planned_as c words out s r t (Ok (Enter b)) (to_caller m (program_of s) seen (some (q, k, y)) value) (ok (M.resume none))
         (ap (λ (x : Option ℕ). into_caller m (program_of s) seen q y x value) (kept_is s a same K S ∙ optional_none a e)) B
 
     module _ (n : a ≡ 255 → ⊥) where
@@ -203,7 +204,7 @@ module _ (m : Mode) (s words : List ℕ) (r : Registers) (a : ℕ) (above : r.ba
 
       pub resumed : (w : ℕ) (words' : List ℕ) → Keeps m words words' b a w
           → (d : Cell m) (out : List ℕ) (c : Given) (t : State m) → c.sheet ≡ s → StandsFor m c words out r t → slot_in m (qual_of c.sheet) w ≡ cell d
-          → After m c words' out out r t (Enter b) (performed s t (ok (M.resume (some (a, d)))))
+          → After m c words' out out r t (Ok (Enter b)) (performed s t (ok (M.resume (some (a, d)))))
       unfolding ◌>>=◌ apply
       resumed w words' kept d out c (state (frame p i z vs) [] os input put) same S is = absurd (no_main S)
       resumed w words' kept d out c (state (frame p i z vs) (frame q k y us ∷ gs) os input put) same S is =
@@ -222,13 +223,13 @@ returns_kept : (s words : List ℕ) (r b : Registers) (a : ℕ) → r.base + (va
     → (w : ℕ) (words' : List ℕ) → Keeps plain words words' b a w
     → (value : Option (Cell plain)) (out : List ℕ) (c : Given) (t : State plain) → c.sheet ≡ s → StandsFor plain c words out r t
     → ReturnedValue (qual_of c.sheet) w value
-    → After plain c words' out out r t (Enter b)
+    → After plain c words' out out r t (Ok (Enter b))
     (performed s t (to_caller plain (program_of s) (view (length words) (length out) t) (view (length words) (length out) t).caller value))
 unfolding moved held bind amiss ◌>>=◌
 returns_kept s words r b a above W K n w words' kept none out c t same S is =
-    planned_as c words' out s r t (Enter b) _ stuck (caller_lacks plain s words r a above K n out c t same S) tt
+    planned_as c words' out s r t (Ok (Enter b)) _ stuck (caller_lacks plain s words r a above K n out c t same S) tt
 returns_kept s words r b a above W K n w words' kept (some d) out c t same S is =
-    planned_as c words' out s r t (Enter b) _ (ok (M.resume (some (a, d))))
+    planned_as c words' out s r t (Ok (Enter b)) _ (ok (M.resume (some (a, d))))
     (caller_binds plain s words r a above K b W n tt (λ g p i y vs fs os input put o T. refl) d out c t same S ∙ rw is.1.0)
     (resumed plain s words r a above K b W n w words' kept d out c t same S is.1.1)
 
@@ -246,22 +247,6 @@ module _ (g : Program) (v : View plain) (a : ℕ) where
     unfolding plan plan_return demand handed held bind_result ◌>>=◌ ◌>>◌
     return_blank e = rw (optional_some a n, e)
 
--- the test of a value that is returned
-pub blank_told : (w a : ℕ) → eqb w 0 && not (eqb a 255) ≡ true → (w ≡ 0) × (a ≡ 255 → ⊥)
-blank_told w a h = go (eqb w 0) (eqb a 255) refl refl h
-  where
-    go : (x y : Bool) → eqb w 0 ≡ x → eqb a 255 ≡ y → x && not y ≡ true → (w ≡ 0) × (a ≡ 255 → ⊥)
-    go true false p q h = (eqb-true w 0 p, eqb-false a 255 q)
-    go true true p q h = absurd (let z : ◌≡◌ {A = ℕ} 0 1 = cc in omega arith)
-    go false y p q h = absurd (let z : ◌≡◌ {A = ℕ} 0 1 = cc in omega arith)
-
-pub value_told : (w a : ℕ) → eqb w 0 && not (eqb a 255) ≡ false → w ≡ 0 → a ≡ 255
-value_told w a h z = go (eqb a 255) refl (rw (eq-eqb w 0 z) at h)
-  where
-    go : (y : Bool) → eqb a 255 ≡ y → not y ≡ false → a ≡ 255
-    go true q h = eqb-true a 255 q
-    go false q h = absurd (let z : ◌≡◌ {A = ℕ} 0 1 = cc in omega arith)
-
 -- the word of variable a, in the variables' part as the code cuts it
 module _ (s words : List ℕ) (r : Registers) (a w end : ℕ) (ends : end ≡ r.base + variables_in r)
     (word_is : w ≡ get_or (take (end - r.base) (drop r.base words)) a 0) where
@@ -272,12 +257,12 @@ module _ (s words : List ℕ) (r : Registers) (a w end : ℕ) (ends : end ≡ r.
       ap (slot_in plain (qual_of c.sheet)) (rw e at word_is) ∙ (view_sees plain c words out r t S).variable a
 
   -- it is blank
-  pub gives_blank : w ≡ 0 → (a ≡ 255 → ⊥) → (input out : List ℕ) → Performs plain s input words words out out r (Halt 13) (Return a)
+  pub gives_blank : w ≡ 0 → (a ≡ 255 → ⊥) → (input out : List ℕ) → Performs plain s input words words out out r (Err Blank) (Return a)
   unfolding ◌>>=◌
   gives_blank z n input out c t same from S =
-      planned_as c words out s r t (Halt 13) _ (stop blank)
+      planned_as c words out s r t (Err Blank) _ (stop blank)
       (return_blank (program_of s) (view (length words) (length out) t) a n (blank_word plain (qual_of c.sheet) w (variable_there c out t S) z))
-      (stopped_after plain c words out r t S 13 blank refl)
+      (stopped_after plain c words out r t S Blank)
 
   -- or there is a value to hand over, if any is asked for
   module _ (there : w ≡ 0 → a ≡ 255) where
@@ -305,20 +290,20 @@ module _ (s words : List ℕ) (r : Registers) (a w end : ℕ) (ends : end ≡ r.
             ⊎_elim (λ y. filled_as n _ y) (λ y. filled_as n _ y)
             (filled_word plain (qual_of c.sheet) w (variable_there c out t S) (λ z. n (there z)))
 
-    pub gives_over : length words ≤ r.base + (variables_in r + 2) → (input out : List ℕ) → Performs plain s input words words out out r Done (Return a)
+    pub gives_over : length words ≤ r.base + (variables_in r + 2) → (input out : List ℕ) → Performs plain s input words words out out r (Ok Done) (Return a)
     gives_over h input out c t same from S =
         let y = handed_over c out t S in
-        planned_as c words out s r t Done _ _ y.1.0 (returns_over plain s words r y.0 h out c t same S)
+        planned_as c words out s r t (Ok Done) _ _ y.1.0 (returns_over plain s words r y.0 h out c t same S)
 
     module _ (b : Registers) (k : ℕ) (above : r.base + (variables_in r + 2) < length words) (W : Waits plain words r b)
         (K : KeptIn plain words r k) where
-      pub gives_dropped : k ≡ 255 → (input out : List ℕ) → Performs plain s input words words out out r (Enter b) (Return a)
+      pub gives_dropped : k ≡ 255 → (input out : List ℕ) → Performs plain s input words words out out r (Ok (Enter b)) (Return a)
       gives_dropped e input out c t same from S =
           let y = handed_over c out t S in
-          planned_as c words out s r t (Enter b) _ _ y.1.0 (returns_dropped plain s words r k above K b W e y.0 out c t same S)
+          planned_as c words out s r t (Ok (Enter b)) _ _ y.1.0 (returns_dropped plain s words r k above K b W e y.0 out c t same S)
 
       pub gives_kept : (k ≡ 255 → ⊥) → (words' : List ℕ) → Keeps plain words words' b k w
-          → (input out : List ℕ) → Performs plain s input words words' out out r (Enter b) (Return a)
+          → (input out : List ℕ) → Performs plain s input words words' out out r (Ok (Enter b)) (Return a)
       gives_kept n words' kept input out c t same from S =
           let y = handed_over c out t S in
-          planned_as c words' out s r t (Enter b) _ _ y.1.0 (returns_kept s words r b k above W K n w words' kept y.0 out c t same S y.1.1)
+          planned_as c words' out s r t (Ok (Enter b)) _ _ y.1.0 (returns_kept s words r b k above W K n w words' kept y.0 out c t same S y.1.1)

@@ -1,6 +1,8 @@
 -- What it is to copy words, to open a frame, to find the one that waits and to keep a word in it; the last three in either machine: in each the words
 -- stand for the state with it.
-use Rattle.std.specs.Prelude.{ℕ, suc, pred, ◌+◌, ◌-◌, ◌<◌, ◌≡◌, Bool, true, false, List, ◌∷◌, ◌++◌, map, get_or, take, drop, set, replicate}
+use Rattle.std.specs.Prelude.{ℕ, suc, pred, ◌+◌, ◌-◌, ◌<◌, ◌≡◌, List, ◌∷◌, ◌++◌, map, get_or, take, drop, set, replicate, Result, Ok, Err}
+use Rattle.model.specs.declared.Halt.{Halt}
+use Rattle.model.specs.declared.Halt.TheVariants.{Blank}
 use Rattle.model.specs.Modes.{Mode, SettledSet, settled_set}
 use Rattle.model.specs.Machine.{Cell, empty, Object, Frame, frame}
 use Rattle.model.specs.declared.Operation.TheVariants.{Call}
@@ -17,10 +19,11 @@ use Rattle.frames.specs.Fetch.{place_in}
 abbrev pub copied : (words : List ℕ) → (from to n : ℕ) → List ℕ
 copied words from to n = take to words ++ (take n (drop from words) ++ drop (to + n) words)
 
--- n words were copied and none of them is blank; or those before the first that is
-abbrev pub Copies : (words words' : List ℕ) → (from to n : ℕ) → Bool → Type 0
-Copies words words' from to n true = (words' ≡ copied words from to n) × ((j : ℕ) → j < n → get_or words (from + j) 0 ≡ 0 → ⊥)
-Copies words words' from to n false = (j : ℕ) × (j < n) × (words' ≡ copied words from to j) × (get_or words (from + j) 0 ≡ 0)
+-- n words were copied and none of them is blank; or those before the first that is, which stops the call
+abbrev pub Copies : (words words' : List ℕ) → (from to n : ℕ) → Result (Unit {0}) Halt → Type 0
+Copies words words' from to n (Ok u) = (words' ≡ copied words from to n) × ((j : ℕ) → j < n → get_or words (from + j) 0 ≡ 0 → ⊥)
+Copies words words' from to n (Err k) =
+    (j : ℕ) × (j < n) × (words' ≡ copied words from to j) × (get_or words (from + j) 0 ≡ 0) × (k ≡ Blank)
 
 -- what a call of procedure k with variables from b on, which keeps variable a, leans on: the instruction of the sheet that the registers name, a
 -- procedure of it, and variables that the running frame has

@@ -4,16 +4,14 @@ use Rattle.std.proofs.Math.Option.{Option}
 use Rattle.model.specs.Outcome.{Res, ok, ◌>>=◌}
 use Rattle.model.specs.Modes.{Mode}
 use Rattle.model.specs.Machine.{Cell, State, Next, Effect, view, plan, to_caller, apply}
-use Rattle.model.specs.Refusal.{verdict}
-use Rattle.model.specs.declared.Verdict.TheVariants.{Accepted}
+use Rattle.model.specs.Refusal.{Accepted, verdict}
 use Rattle.model.specs.declared.Operation.{Operation}
 use Rattle.sheet.specs.Meaning.{program_of}
 use Rattle.index.specs.Indexed.{Ready}
 use Rattle.form.specs.WellFormed.{form_tests}
 use Rattle.writers.specs.declared.Registers.{Registers}
-use Rattle.writers.specs.declared.Stepped.{Stepped}
 use Rattle.writers.specs.Memory.{Given, StandsFor}
-use Rattle.writers.specs.Steps.{After}
+use Rattle.writers.specs.Steps.{Stepped, After}
 
 -- a well-formed sheet, with its index
 pub record Loaded (s index : List ℕ) : Type 0 where

@@ -7,43 +7,35 @@ ghost use Rattle.model.specs.Modes.{Mode, plain, watched, settled_set};
 ghost use Rattle.model.specs.declared.Operation.TheVariants.{Call, Return};
 ghost use Rattle.words.specs.Word.{back, slot_in};
 ghost use Rattle.writers.specs.Memory.{Sane, variables_in};
-ghost use Rattle.frames.specs.Performs.{Loaded, PerformsInside};
+ghost use Rattle.frames.specs.Performs.{PerformsInside};
 ghost use Rattle.frames.specs.Frames.{Copies, Callable, Opened, Waits, KeptIn, SetIn, Keeps};
 
-use index::Index;
+use form::FormedSheet;
 use index::procedures::procedure_in;
+use model::Halt;
 use words::{
-    back_kept, back_next, back_word, clear, formals_in, low_of, read, variables_in, write,
+    back_kept, back_next, back_word, clear, filled, formals_in, low_of, read, variables_in, write,
 };
-use writers::{Registers, Stepped, frame_end};
+use writers::{Next, Registers, Stepped, frame_end};
 
 // The sheet from a procedure's first instruction on; nothing past its end.
 pub fn instructions_of(s: &[u8], first: usize) -> &[u8]
     ensures { result.now ≡ drop first s.now }
 {
-    let len = s.len();
-    if len <= first {
-        return &s[len..len];
-    }
-    &s[first..len]
+    &s[first.min(s.len())..]
 }
 
-// n filled words are copied to a place below; false where one is blank.
-fn copy_filled(memory: &mut [u64], from: usize, to: usize, n: usize) -> bool
+// n filled words are copied to a place below, up to the first that is blank.
+fn copy_filled(memory: &mut [u64], from: usize, to: usize, n: usize) -> Result<(), Halt>
     requires n_bound { (to + n ≤ from) × (to + n ≤ length memory.old) }
     requires n_in_bounds { n ≤ length memory.old - from }
     ensures { Copies memory.old memory.new from to n result }
 {
-    let mut j = 0;
-    while j < n {
-        let w = memory[from + j];
-        if w == 0 {
-            return false;
-        }
+    for j in 0..n {
+        let w = filled(memory[from + j])?;
         memory[to + j] = w;
-        j += 1;
     }
-    true
+    Ok(())
 }
 
 // Where the running frame goes back, which waits behind a call that keeps variable a, for a frame with a set.
@@ -73,40 +65,25 @@ pub fn open(memory: &mut [u64], r: Registers, a: u8, w: u64, set: u32, v: usize,
         procedure: w,
         next: 0,
         base: at,
-        used: r.used,
-        taken: r.taken,
-        put: r.put,
-        steps: r.steps,
+        ..r
     }
 }
 
-// A call of procedure k with variables from b on, which keeps variable a: 17, then 13 for a blank actual. It reads the index alone; the sheet is there for
-// the contract.
-pub fn call(
-    s: &[u8],
-    index: &Index,
-    memory: &mut [u64],
-    r: Registers,
-    a: u8,
-    b: u8,
-    k: u16,
-) -> Stepped
-    requires loaded { Loaded s.now index.now }
+// A call of procedure k with variables from b on, which keeps variable a: it asks for the room first, then for the actuals. It reads the index alone; the
+// sheet is there for the contract.
+pub fn call(s: FormedSheet, memory: &mut [u64], r: Registers, a: u8, b: u8, k: u16) -> Stepped
     requires sane { Sane (length memory.old) r }
-    requires callable { Callable s.now r a b k }
-    ensures { PerformsInside plain s.now memory.old memory.new r result (Call a b k) }
+    requires callable { Callable s.sheet.bytes.now r a b k }
+    ensures { PerformsInside plain s.entry.sheet.bytes.now memory.old memory.new r result (Call a b k) }
 {
-    let w = procedure_in(index, k as usize);
+    let w = procedure_in(s.sheet.index, k as usize);
     let f = formals_in(w);
     let v = variables_in(w) as usize;
-    let base = r.base;
-    if base - r.used < v + 2 {
-        return Stepped::Halt(17);
+    if r.base - r.used < v + 2 {
+        return Err(Halt::MemoryFull);
     }
-    if copy_filled(memory, base + (b as usize), base - (v + 2), f as usize) {
-        return Stepped::Enter(open(memory, r, a, w, 0, v, f));
-    }
-    Stepped::Halt(13)
+    copy_filled(memory, r.base + (b as usize), r.base - (v + 2), f as usize)?;
+    Ok(Next::Enter(open(memory, r, a, w, 0, v, f)))
 }
 
 // The registers of the frame that waits, where there is one.
@@ -122,10 +99,7 @@ pub fn waiting(memory: &[u64], r: Registers) -> Registers
         procedure: memory[end + 1],
         next: back_next(place) as usize,
         base: end + 2,
-        used: r.used,
-        taken: r.taken,
-        put: r.put,
-        steps: r.steps,
+        ..r
     }
 }
 
@@ -162,20 +136,18 @@ pub fn give_back(memory: &mut [u64], r: Registers, a: u8) -> Stepped
     requires { Sane (length memory.old) r }
     ensures { (s : List ℕ) → PerformsInside plain s memory.old memory.new r result (Return a) }
 {
-    let base = r.base;
     let end = frame_end(r);
-    let w = read(&memory[base..end], a as usize);
-    if (w == 0) & (a != 255) {
-        return Stepped::Halt(13);
+    let w = read(&memory[r.base..end], a as usize);
+    if w == 0 && a != 255 {
+        return Err(Halt::Blank);
     }
     if memory.len() <= end + 2 {
-        return Stepped::Done;
+        return Ok(Next::Done);
     }
     let back = waiting(memory, r);
     let kept = kept_in(memory, r);
-    if kept == 255 {
-        return Stepped::Enter(back);
+    if kept != 255 {
+        keep(memory, back, kept, w);
     }
-    keep(memory, back, kept, w);
-    Stepped::Enter(back)
+    Ok(Next::Enter(back))
 }

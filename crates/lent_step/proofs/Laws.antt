@@ -4,16 +4,17 @@ use native.Mathlib.Omega.{arith}
 use mathlib.Core.Path.{◌≡◌, refl, sym, ap, ◌∙◌}
 use mathlib.Core.List.{List}
 use lib.ListN.{length}
+use Rattle.std.proofs.Common.{Ok, Err}
+use Rattle.model.specs.declared.Halt.{Halt}
 use Rattle.model.specs.Outcome.{Stop, Res, ok, stop, stuck}
 use Rattle.model.specs.Modes.{Mode}
 use Rattle.model.specs.Machine.{frame, State, state, Next, view, plan, step}
 use Rattle.sheet.specs.Decode.{operation_at}
 use Rattle.sheet.specs.Meaning.{program_of}
 use Rattle.writers.specs.declared.Registers.{Registers}
-use Rattle.writers.specs.declared.Stepped.{Stepped}
-use Rattle.writers.specs.declared.Stepped.TheVariants.{Go, Enter, Halt, Done}
+use Rattle.writers.specs.declared.Next.TheVariants.{Go, Enter, Done}
 use Rattle.writers.specs.Memory.{Given, StandsFor}
-use Rattle.writers.specs.Steps.{Unchanged, After}
+use Rattle.writers.specs.Steps.{Stepped, Unchanged, After}
 use Rattle.frames.specs.Performs.{performed}
 use Rattle.frames.specs.Fetch.{place_in}
 use Rattle.frames.proofs.Kept.{place_is}
@@ -55,17 +56,17 @@ counted_stands m c words out r q (state (frame p i z vs) fs os input put) S =
 
 -- which of the four an answer is
 abbrev kind : Stepped → ℕ
-kind (Go q) = 0
-kind (Enter q) = 1
-kind (Halt k) = 2
-kind Done = 3
+kind (Ok (Go q)) = 0
+kind (Ok (Enter q)) = 1
+kind (Err k) = 2
+kind (Ok Done) = 3
 
 -- counted twice is counted once
 turned_twice : (r : Registers) (x : Stepped) → turned r (turned r x) ≡ turned r x
-turned_twice r (Go q) = refl
-turned_twice r (Enter q) = refl
-turned_twice r (Halt k) = refl
-turned_twice r Done = refl
+turned_twice r (Ok (Go q)) = refl
+turned_twice r (Ok (Enter q)) = refl
+turned_twice r (Err k) = refl
+turned_twice r (Ok Done) = refl
 
 pub turned_again : {m : Mode} {s input words words' before out : List ℕ} {r : Registers} {o : Stepped} → TurnIs m s input words words' before out r o
     → TurnIs m s input words words' before out r (turned r o)
@@ -74,36 +75,36 @@ turned_again {r = r} did =
 
 -- the step behind a turn
 module _ (r : Registers) where
-  pub turned_go : (x : Stepped) (q : Registers) → turned r x ≡ Go q → (p : Registers) × ((x ≡ Go p) × (counted r p ≡ q))
-  turned_go (Go p) q e = (p, (refl, ap (after_turn r) e))
-  turned_go (Enter p) q e = absurd (let z = ap kind e in omega arith)
-  turned_go (Halt k) q e = absurd (let z = ap kind e in omega arith)
-  turned_go Done q e = absurd (let z = ap kind e in omega arith)
+  pub turned_go : (x : Stepped) (q : Registers) → turned r x ≡ Ok (Go q) → (p : Registers) × ((x ≡ Ok (Go p)) × (counted r p ≡ q))
+  turned_go (Ok (Go p)) q e = (p, (refl, ap (after_turn r) e))
+  turned_go (Ok (Enter p)) q e = absurd (let z = ap kind e in omega arith)
+  turned_go (Err k) q e = absurd (let z = ap kind e in omega arith)
+  turned_go (Ok Done) q e = absurd (let z = ap kind e in omega arith)
 
-  pub turned_enter : (x : Stepped) (q : Registers) → turned r x ≡ Enter q → (p : Registers) × ((x ≡ Enter p) × (counted r p ≡ q))
-  turned_enter (Go p) q e = absurd (let z = ap kind e in omega arith)
-  turned_enter (Enter p) q e = (p, (refl, ap (after_turn r) e))
-  turned_enter (Halt k) q e = absurd (let z = ap kind e in omega arith)
-  turned_enter Done q e = absurd (let z = ap kind e in omega arith)
+  pub turned_enter : (x : Stepped) (q : Registers) → turned r x ≡ Ok (Enter q) → (p : Registers) × ((x ≡ Ok (Enter p)) × (counted r p ≡ q))
+  turned_enter (Ok (Go p)) q e = absurd (let z = ap kind e in omega arith)
+  turned_enter (Ok (Enter p)) q e = (p, (refl, ap (after_turn r) e))
+  turned_enter (Err k) q e = absurd (let z = ap kind e in omega arith)
+  turned_enter (Ok Done) q e = absurd (let z = ap kind e in omega arith)
 
-  pub turned_halt : (x : Stepped) (k : ℕ) → turned r x ≡ Halt k → x ≡ Halt k
-  turned_halt (Go p) k e = absurd (let z = ap kind e in omega arith)
-  turned_halt (Enter p) k e = absurd (let z = ap kind e in omega arith)
-  turned_halt (Halt j) k e = e
-  turned_halt Done k e = absurd (let z = ap kind e in omega arith)
+  pub turned_halt : (x : Stepped) (k : Halt) → turned r x ≡ Err k → x ≡ Err k
+  turned_halt (Ok (Go p)) k e = absurd (let z = ap kind e in omega arith)
+  turned_halt (Ok (Enter p)) k e = absurd (let z = ap kind e in omega arith)
+  turned_halt (Err j) k e = e
+  turned_halt (Ok Done) k e = absurd (let z = ap kind e in omega arith)
 
-  pub turned_done : (x : Stepped) → turned r x ≡ Done → x ≡ Done
-  turned_done (Go p) e = absurd (let z = ap kind e in omega arith)
-  turned_done (Enter p) e = absurd (let z = ap kind e in omega arith)
-  turned_done (Halt k) e = absurd (let z = ap kind e in omega arith)
-  turned_done Done e = refl
+  pub turned_done : (x : Stepped) → turned r x ≡ Ok Done → x ≡ Ok Done
+  turned_done (Ok (Go p)) e = absurd (let z = ap kind e in omega arith)
+  turned_done (Ok (Enter p)) e = absurd (let z = ap kind e in omega arith)
+  turned_done (Err k) e = absurd (let z = ap kind e in omega arith)
+  turned_done (Ok Done) e = refl
 
 -- ---- "A step that stops changes nothing"
 
 -- Of the lent step, by the two parts of its contract, in every state that the memory stands for and in which the definition is not stuck: the registers are
 -- as they were, so that it is not counted; the output too; and the memory stands for the same state.
-pub stopped_unchanged : (m : Mode) (c : Given) (words words' before output : List ℕ) (r r' : Registers) (o : Stepped) (k : ℕ) (t : State m)
-    → TurnIs m c.sheet c.input words words' before output r o → r' ≡ after_turn r o → o ≡ Halt k
+pub stopped_unchanged : (m : Mode) (c : Given) (words words' before output : List ℕ) (r r' : Registers) (o : Stepped) (k : Halt) (t : State m)
+    → TurnIs m c.sheet c.input words words' before output r o → r' ≡ after_turn r o → o ≡ Err k
     → StandsFor m c words before r t → (step (program_of c.sheet) (length words) (length before) t ≡ stuck → ⊥)
     → (r' ≡ r)
     × ((x : Stop)
@@ -113,7 +114,7 @@ stopped_unchanged m c words words' before output r r' o k t T left is stands fre
   stop_told _ (same_step m c words before r t stands) (rw (turned_halt r T.stepped k (sym T.counts ∙ is)) at (T.performs c t refl refl stands)),
 )
   where
-    stop_told : (p : Res (Next m)) → p ≡ step (program_of c.sheet) (length words) (length before) t → After m c words' before output r t (Halt k) p
+    stop_told : (p : Res (Next m)) → p ≡ step (program_of c.sheet) (length words) (length before) t → After m c words' before output r t (Err k) p
         → (x : Stop) × ((step (program_of c.sheet) (length words) (length before) t ≡ stop x) × Unchanged m c words' before output r t k x)
     stop_told (ok n) e h = absurd h
     stop_told (stop x) e h = (x, (sym e, h))

@@ -1,17 +1,16 @@
 -- One step of a run and its counting (document 01): "A step that stops changes nothing and isn't counted; the return giving 11 is."
-use Rattle.std.specs.Prelude.{ℕ, ◌+◌, ◌<◌, ◌^◌, ◌≡◌, List, length}
+use Rattle.std.specs.Prelude.{ℕ, ◌+◌, ◌<◌, ◌^◌, ◌≡◌, List, length, Ok, Err}
 use Rattle.model.specs.Modes.{Mode}
 use Rattle.sheet.specs.Decode.{operation_at}
 use Rattle.writers.specs.declared.Registers.{Registers}
-use Rattle.writers.specs.declared.Stepped.{Stepped}
-use Rattle.writers.specs.declared.Stepped.TheVariants.{Go, Enter, Halt, Done}
+use Rattle.writers.specs.declared.Next.TheVariants.{Go, Enter, Done}
 use Rattle.writers.specs.Memory.{Sane}
-use Rattle.frames.specs.Performs.{Loaded, Performs}
+use Rattle.writers.specs.Steps.{Stepped}
+use Rattle.frames.specs.Performs.{Performs}
 use Rattle.frames.specs.Fetch.{Fetchable, CodeOf, place_in}
 
--- what a step is owed: a sheet with its index, the running procedure's part of it, registers inside it and inside the memory, and room to count
-pub record Steppable (s index code words : List ℕ) (r : Registers) : Type 0 where
-  pub loaded : Loaded s index
+-- what a step of a sheet is owed: the running procedure's part of it, registers inside it and inside the memory, and room to count
+pub record Steppable (s code words : List ℕ) (r : Registers) : Type 0 where
   pub part : CodeOf s r code
   pub sane : Sane (length words) r
   pub fetchable : Fetchable s r
@@ -32,17 +31,17 @@ counted r q =
 
 -- what a step of the machine comes to, counted where the run goes on
 abbrev pub turned : Registers → Stepped → Stepped
-turned r (Go q) = Go (counted r q)
-turned r (Enter q) = Enter (counted r q)
-turned r (Halt k) = Halt k
-turned r Done = Done
+turned r (Ok (Go q)) = Ok (Go (counted r q))
+turned r (Ok (Enter q)) = Ok (Enter (counted r q))
+turned r (Err k) = Err k
+turned r (Ok Done) = Ok Done
 
 -- the registers after a turn: as they were where it stopped
 abbrev pub after_turn : Registers → Stepped → Registers
-after_turn r (Go q) = q
-after_turn r (Enter q) = q
-after_turn r (Halt k) = r
-after_turn r Done = counted r r
+after_turn r (Ok (Go q)) = q
+after_turn r (Ok (Enter q)) = q
+after_turn r (Err k) = r
+after_turn r (Ok Done) = counted r r
 
 -- a turn is a step of the machine at the instruction that the registers name
 pub record TurnIs (m : Mode) (s input words words' before output : List ℕ) (r : Registers) (o : Stepped) : Type 0 where

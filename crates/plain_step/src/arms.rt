@@ -6,76 +6,19 @@ ghost use Rattle.sheet.specs.Layout.{slots_of, owner_at};
 ghost use Rattle.form.specs.Named.{Named};
 ghost use Rattle.writers.specs.Memory.{Sane, variables_in};
 ghost use Rattle.frames.specs.Performs.{Performs, PerformsInside};
-ghost use Rattle.plain_step.specs.Plans.{PlansNumber, PlansMoved, PlansStored};
 
 use index::procedures::place_in;
+use model::arithmetic::Arithmetic;
 use plain_plan::{
-    add_of, array_size_of, fetch_of, get_of, integer_at, less_of, moved_at, set_at, store_at,
-    subtract_of,
+    arithmetic_of, array_size_of, fetch_of, get_of, integer_at, moved_at, set_at, store_at,
 };
 use sheet::bytes::byte;
 use sheet::fields::field;
 use sheet::places::type_at;
-use words::{Moved, Number, Stored};
 use writers::{
-    Registers, Stepped, frame_end, give_array, give_moved, give_number, give_record, jump,
-    put_output, store_cell, take_input,
+    Registers, Stepped, give_array, give_moved, give_number, give_record, jump, parts, put_output,
+    store_cell, take_input,
 };
-
-// What is read of the running frame's part of the memory and of the objects' part.
-fn fetch_in(memory: &[u64], r: Registers, b: u8, c: u8) -> Moved
-    requires sane { Sane (length memory.now) r }
-    requires b_bound { (b < variables_in r) × (c < variables_in r) }
-    ensures { (a : ℕ) → PlansMoved memory.now r (Op.Fetch a b c) a result }
-{
-    let base = r.base;
-    let end = frame_end(r);
-    let used = r.used;
-    fetch_of(&memory[base..end], &memory[..used], b, c)
-}
-
-fn size_in(memory: &[u64], r: Registers, b: u8) -> Number
-    requires sane { Sane (length memory.now) r }
-    requires b_bound { b < variables_in r }
-    ensures { (a : ℕ) → PlansNumber memory.now r (Op.Size a b) a result }
-{
-    let base = r.base;
-    let end = frame_end(r);
-    let used = r.used;
-    array_size_of(&memory[base..end], &memory[..used], b)
-}
-
-fn get_in(memory: &[u64], r: Registers, b: u8, k: u16) -> Moved
-    requires sane { Sane (length memory.now) r }
-    requires b_bound { b < variables_in r }
-    ensures { (a : ℕ) → PlansMoved memory.now r (Op.GetSlot a b k) a result }
-{
-    let base = r.base;
-    let end = frame_end(r);
-    let used = r.used;
-    get_of(&memory[base..end], &memory[..used], b, k)
-}
-
-fn store_in(memory: &[u64], r: Registers, a: u8, b: u8, c: u8) -> Stored
-    requires sane { Sane (length memory.now) r }
-    requires a_bound { (a < variables_in r) × ((b < variables_in r) × (c < variables_in r)) }
-    ensures { PlansStored memory.now r (Op.Store a b c) result }
-{
-    let base = r.base;
-    let end = frame_end(r);
-    let used = r.used;
-    store_at(&memory[base..end], &memory[..used], a, b, c)
-}
-
-fn set_in(memory: &[u64], r: Registers, a: u8, b: u8, k: u16) -> Stored
-    requires sane { Sane (length memory.now) r }
-    requires a_bound { (a < variables_in r) × (b < variables_in r) }
-    ensures { PlansStored memory.now r (Op.SetSlot a b k) result }
-{
-    let base = r.base;
-    let end = frame_end(r);
-    set_at(&memory[base..end], a, b, k)
-}
 
 pub fn set(memory: &mut [u64], r: Registers, a: u8, k: u16) -> Stepped
     requires sane { Sane (length memory.old) r }
@@ -83,42 +26,17 @@ pub fn set(memory: &mut [u64], r: Registers, a: u8, k: u16) -> Stepped
     requires named { Named (variables_in r) (Op.Set a k) }
     ensures { (s : List ℕ) → PerformsInside plain s memory.old memory.new r result (Op.Set a k) }
 {
-    give_number(memory, r, a, Number::Is(k as u32))
+    give_number(memory, r, a, Ok(k as u32))
 }
 
-pub fn add(memory: &mut [u64], r: Registers, a: u8, b: u8, c: u8) -> Stepped
+// a := b op c, for the operations that make one integer of two.
+pub fn arithmetic<A: Arithmetic>(memory: &mut [u64], r: Registers, a: u8, b: u8, c: u8) -> Stepped
     requires sane { Sane (length memory.old) r }
     requires next_bound { r.next < 1000 }
-    requires named { Named (variables_in r) (Op.Add a b c) }
-    ensures { (s : List ℕ) → PerformsInside plain s memory.old memory.new r result (Op.Add a b c) }
+    requires named { (a < variables_in r) × ((b < variables_in r) × (c < variables_in r)) }
+    ensures { (s : List ℕ) → PerformsInside plain s memory.old memory.new r result (A.operation a b c) }
 {
-    let base = r.base;
-    let end = frame_end(r);
-    let n = add_of(&memory[base..end], b, c);
-    give_number(memory, r, a, n)
-}
-
-pub fn subtract(memory: &mut [u64], r: Registers, a: u8, b: u8, c: u8) -> Stepped
-    requires sane { Sane (length memory.old) r }
-    requires next_bound { r.next < 1000 }
-    requires named { Named (variables_in r) (Op.Subtract a b c) }
-    ensures { (s : List ℕ) → PerformsInside plain s memory.old memory.new r result (Op.Subtract a b c) }
-{
-    let base = r.base;
-    let end = frame_end(r);
-    let n = subtract_of(&memory[base..end], b, c);
-    give_number(memory, r, a, n)
-}
-
-pub fn less(memory: &mut [u64], r: Registers, a: u8, b: u8, c: u8) -> Stepped
-    requires sane { Sane (length memory.old) r }
-    requires next_bound { r.next < 1000 }
-    requires named { Named (variables_in r) (Op.Less a b c) }
-    ensures { (s : List ℕ) → PerformsInside plain s memory.old memory.new r result (Op.Less a b c) }
-{
-    let base = r.base;
-    let end = frame_end(r);
-    let n = less_of(&memory[base..end], b, c);
+    let n = arithmetic_of::<A>(parts(memory, r).frame, b, c);
     give_number(memory, r, a, n)
 }
 
@@ -128,9 +46,7 @@ pub fn bind(memory: &mut [u64], r: Registers, a: u8, b: u8) -> Stepped
     requires named { Named (variables_in r) (Op.Bind a b) }
     ensures { (s : List ℕ) → PerformsInside plain s memory.old memory.new r result (Op.Bind a b) }
 {
-    let base = r.base;
-    let end = frame_end(r);
-    let m = moved_at(&memory[base..end], b);
+    let m = moved_at(parts(memory, r).frame, b);
     give_moved(memory, r, a, m)
 }
 
@@ -140,7 +56,7 @@ pub fn fetch(memory: &mut [u64], r: Registers, a: u8, b: u8, c: u8) -> Stepped
     requires named { Named (variables_in r) (Op.Fetch a b c) }
     ensures { (s : List ℕ) → PerformsInside plain s memory.old memory.new r result (Op.Fetch a b c) }
 {
-    let m = fetch_in(memory, r, b, c);
+    let m = fetch_of(parts(memory, r), b, c);
     give_moved(memory, r, a, m)
 }
 
@@ -150,7 +66,7 @@ pub fn size(memory: &mut [u64], r: Registers, a: u8, b: u8) -> Stepped
     requires named { Named (variables_in r) (Op.Size a b) }
     ensures { (s : List ℕ) → PerformsInside plain s memory.old memory.new r result (Op.Size a b) }
 {
-    let n = size_in(memory, r, b);
+    let n = array_size_of(parts(memory, r), b);
     give_number(memory, r, a, n)
 }
 
@@ -160,7 +76,7 @@ pub fn get_slot(memory: &mut [u64], r: Registers, a: u8, b: u8, k: u16) -> Stepp
     requires named { Named (variables_in r) (Op.GetSlot a b k) }
     ensures { (s : List ℕ) → PerformsInside plain s memory.old memory.new r result (Op.GetSlot a b k) }
 {
-    let m = get_in(memory, r, b, k);
+    let m = get_of(parts(memory, r), b, k);
     give_moved(memory, r, a, m)
 }
 
@@ -170,7 +86,7 @@ pub fn store(memory: &mut [u64], r: Registers, a: u8, b: u8, c: u8) -> Stepped
     requires named { Named (variables_in r) (Op.Store a b c) }
     ensures { (s : List ℕ) → PerformsInside plain s memory.old memory.new r result (Op.Store a b c) }
 {
-    let m = store_in(memory, r, a, b, c);
+    let m = store_at(parts(memory, r), a, b, c);
     store_cell(memory, r, m)
 }
 
@@ -180,7 +96,7 @@ pub fn set_slot(memory: &mut [u64], r: Registers, a: u8, b: u8, k: u16) -> Stepp
     requires named { Named (variables_in r) (Op.SetSlot a b k) }
     ensures { (s : List ℕ) → PerformsInside plain s memory.old memory.new r result (Op.SetSlot a b k) }
 {
-    let m = set_in(memory, r, a, b, k);
+    let m = set_at(parts(memory, r).frame, a, b, k);
     store_cell(memory, r, m)
 }
 
@@ -190,9 +106,7 @@ pub fn new_array(memory: &mut [u64], r: Registers, a: u8, b: u8) -> Stepped
     requires named { Named (variables_in r) (Op.NewArray a b) }
     ensures { (s : List ℕ) → PerformsInside plain s memory.old memory.new r result (Op.NewArray a b) }
 {
-    let base = r.base;
-    let end = frame_end(r);
-    let n = integer_at(&memory[base..end], b);
+    let n = integer_at(parts(memory, r).frame, b);
     give_array(memory, r, a, n)
 }
 
@@ -202,9 +116,7 @@ pub fn jump_zero(memory: &[u64], r: Registers, a: u8, k: u16) -> Stepped
     requires named { Named (variables_in r) (Op.JumpZero a k) }
     ensures { (s : List ℕ) → PerformsInside plain s memory.now memory.now r result (Op.JumpZero a k) }
 {
-    let base = r.base;
-    let end = frame_end(r);
-    jump(r, integer_at(&memory[base..end], a), k)
+    jump(r, integer_at(parts(memory, r).frame, a), k)
 }
 
 pub fn put(memory: &[u64], output: &mut [u32], r: Registers, a: u8) -> Stepped
@@ -213,9 +125,7 @@ pub fn put(memory: &[u64], output: &mut [u32], r: Registers, a: u8) -> Stepped
     requires named { Named (variables_in r) (Op.Put a) }
     ensures { (s input : List ℕ) → Performs plain s input memory.now memory.now output.old output.new r result (Op.Put a) }
 {
-    let base = r.base;
-    let end = frame_end(r);
-    let n = integer_at(&memory[base..end], a);
+    let n = integer_at(parts(memory, r).frame, a);
     put_output(output, r, n)
 }
 
@@ -229,6 +139,7 @@ pub fn take(input: &[u32], memory: &mut [u64], r: Registers, a: u8) -> Stepped
 }
 
 // How many slots the owner of the procedure at pr has.
+#[tactic(auto, unfolding(sheet::specs::Layout::slots_of, sheet::specs::Layout::owner_at))]
 fn owner_slots(s: &[u8], pr: u32) -> u8
     ensures { result ≡ slots_of s.now (owner_at s.now pr) }
 {

@@ -60,6 +60,7 @@ pub fn parts<'a>(memory: &'a [u64], r: Registers) -> Parts<'a>
     requires { Sane (length memory.now) r }
     ensures frame { result.frame.now ≡ frame_part r memory.entry.now }
     ensures objects { result.objects.now ≡ object_part r memory.entry.now }
+    ensures variables { length result.frame.now ≡ variables_in r }
 {
     Parts {
         frame: &memory[r.base..frame_end(r)],

@@ -1,21 +1,10 @@
 -- The integer is that of the variable.
 use Rattle.model.specs.Modes.{plain}
 use Rattle.sheet.specs.Meaning.{qual_of, program_of}
-use Rattle.frames.proofs.Performs.{cut_length, performs_jump}
+use Rattle.frames.proofs.Performs.{sees_parts, performs_jump_in}
 use Rattle.plain_step.proofs.arms.jump_zero.Goals as goal
-
-pub integer_at-requires : goal.integer_at-requires
-integer_at-requires c =
-    let args = c.args in
-    let frame-end = c.frame_end-end in
-    let n = cut_length args.memory.now args.r _ c.requires.sane frame-end.ensures in
-    let m = c.requires.named in
-    rw n m
 
 pub returns : goal.returns
 returns c =
-    let args = c.args in
-    let jump = c.jump in
-    let integer-at = c.integer_at in
-    let frame-end = c.frame_end-end in
-    λ s input out. performs_jump plain s input args.memory.now args.memory.now out out args.r jump.result args.a integer-at.result args.k _ frame-end.ensures (λ d. jump.ensures plain d args.memory.now out) (λ v S. integer-at.ensures (qual_of s) (program_of s) v _ S)
+    λ s input out. performs_jump_in plain s input _ _ out out c.args.r _ c.args.a _ c.args.k (λ d. c.jump.ensures plain d _ out)
+    (λ v S. c.integer_at.ensures (qual_of s) (program_of s) v _ (sees_parts plain (qual_of s) v c.args.memory.now c.args.r c.parts.ensures.frame c.parts.ensures.objects S))

@@ -1,14 +1,7 @@
--- The parts of the memory that are read are the frame's and the objects'; the writer does what is planned.
+-- The parts of the memory that are read are those that the view sees; the writer does what is planned.
 use Rattle.model.specs.Modes.{plain}
-use Rattle.sheet.specs.Meaning.{qual_of, program_of}
-use Rattle.words.specs.Answers.{stored, StoredOk}
-use Rattle.writers.specs.Memory.{object_part}
-use Rattle.frames.proofs.Performs.{performs_if_seeing}
+use Rattle.plain_step.proofs.Laws.{performs_stored}
 use Rattle.plain_step.proofs.arms.set_slot.Goals as goal
 
 pub returns : goal.returns
-returns c =
-    let args = c.args in
-    let store-cell = c.store_cell in
-    let set-in = c.set_in-m in
-    λ s input out. performs_if_seeing plain s input args.memory.now store-cell.new.memory out out args.r store-cell.result _ (λ q. stored plain q set-in.result) (StoredOk (object_part args.r args.memory.now) set-in.result) (λ d. store-cell.ensures plain d out) (λ v R S. set-in.ensures (qual_of s) (program_of s) v S)
+returns c = λ s. performs_stored s _ _ _ _ _ c.parts.ensures.frame c.parts.ensures.objects _ (c.store_cell.ensures plain) (λ q g v S. c.set_at-m.ensures q g v _ S)

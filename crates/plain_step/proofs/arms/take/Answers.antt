@@ -8,5 +8,4 @@ use Rattle.plain_step.proofs.arms.take.Goals as goal
 pub returns : goal.returns
 returns c =
     let args = c.args in
-    let take-input = c.take_input in
-    λ s out. performs_take plain s args.input.now args.memory.now take-input.new.memory out out args.r take-input.result args.a (λ d. take-input.ensures plain d out) (λ v R e. exactly (takes (program_of s) v args.a _ e))
+    λ s out. performs_take plain s args.input.now _ _ out out args.r _ args.a (λ d. c.take_input.ensures plain d out) (λ v R e. exactly (takes (program_of s) v args.a _ e))
