@@ -3,6 +3,8 @@ use Prim.Native.Nat.{ℕ}
 use mathlib.Core.Path.{◌≡◌, subst}
 use mathlib.Core.List.{List}
 use lib.ListN.{length}
+use Rattle.std.specs.Prelude.{Err}
+use Rattle.model.specs.declared.Halt.{Halt}
 use Rattle.model.specs.Outcome.{Res, ok, ◌>>=◌}
 use Rattle.model.specs.Rights.{Rights}
 use Rattle.model.specs.Modes.{watched}
@@ -15,10 +17,8 @@ use Rattle.index.specs.declared.procedures.Scope.{Scope}
 use Rattle.words.specs.Answers.{halted}
 use Rattle.binding.specs.Binds.{FrameScope, InScope}
 use Rattle.writers.specs.declared.Registers.{Registers}
-use Rattle.writers.specs.declared.Stepped.{Stepped}
-use Rattle.writers.specs.declared.Stepped.TheVariants.{Halt}
 use Rattle.writers.specs.Memory.{Given, SeesIn, StandsFor}
-use Rattle.writers.specs.Steps.{After, Does}
+use Rattle.writers.specs.Steps.{Stepped, After, Does}
 use Rattle.writers.proofs.Effects.{halted_then, halted_after}
 use Rattle.frames.specs.Performs.{Loaded, performed, Performs}
 use Rattle.frames.specs.Frames.{SetIn}
@@ -40,7 +40,7 @@ scope_here {s} {index} b set {p} loaded scoped sets c k i z vs fs os input put o
 
 -- a stop that was planned
 pub stopped_as : (c : Given) (words out s : List ℕ) (r : Registers) (t : State watched) → StandsFor watched c words out r t
-    → (k : ℕ) (e : Res (Effect watched)) → e ≡ halted watched k → After watched c words out out r t (Halt k) (performed s t e)
+    → (k : Halt) (e : Res (Effect watched)) → e ≡ halted watched k → After watched c words out out r t (Err k) (performed s t e)
 stopped_as c words out s r t S k e is = rw (is, halted_then watched k) (halted_after watched c words out r t S k)
 
 module _ (s input words words' before out : List ℕ) (r : Registers) (o : Stepped) (op : Operation) (e : List ℕ → Res (Effect watched))
