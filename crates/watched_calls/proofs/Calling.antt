@@ -9,6 +9,9 @@ use borrow.Author.Tests.{le-leb, lt-leb}
 use lib.Dec.{eqb}
 use lib.ListN.{length, take, drop, set, length-set, length-drop}
 use lib.Seq.{take-set-le, drop-set-lt, drop-set-add, take-suc-set}
+use Rattle.std.specs.Prelude.{Result, Ok, Err}
+use Rattle.model.specs.declared.Halt.{Halt}
+use Rattle.model.specs.declared.Halt.TheVariants.{MemoryFull, WrongKind, MissingRight}
 use Rattle.model.specs.Rights.{Rights}
 use Rattle.model.specs.Qualified.{Qual, rights}
 use Rattle.model.specs.Generic.{own, settled, some_uses, is_settled, is_enough}
@@ -28,19 +31,16 @@ use Rattle.index.specs.Indexed.{ProcedureWord}
 use Rattle.index.specs.Scope.{bound_of_procedure, ScopeOf, inner_as}
 use Rattle.index.specs.declared.procedures.Scope.{Scope}
 use Rattle.index.proofs.Reading.{inner_read, need_read, result_read}
-use Rattle.settling.specs.Settles.{callee_as, Settling}
-use Rattle.settling.specs.declared.Settled.{Settled}
-use Rattle.settling.specs.declared.Settled.TheVariants as OfAll
+use Rattle.settling.specs.Settles.{callee_as, Settling, halt_of}
+use Rattle.settling.specs.declared.SettleError.{SettleError}
+use Rattle.settling.specs.declared.SettleError.TheVariants as Why
 use Rattle.words.specs.Word.{cell, slot_in, as_cell, formals_of, variables_of}
 use Rattle.words.specs.Sees.{Sees}
 use Rattle.words.specs.Answers.{halted, IsCell}
-use Rattle.words.specs.declared.Number.TheVariants as N
-use Rattle.words.specs.declared.Moved.{Moved}
-use Rattle.words.specs.declared.Moved.TheVariants as Mv
 use Rattle.binding.specs.Binds.{FrameScope, InScope, moved_cell}
 use Rattle.writers.specs.declared.Registers.{Registers}
-use Rattle.writers.specs.declared.Stepped.{Stepped}
-use Rattle.writers.specs.declared.Stepped.TheVariants.{Enter, Halt}
+use Rattle.writers.specs.declared.Next.TheVariants.{Enter}
+use Rattle.writers.specs.Steps.{Stepped}
 use Rattle.writers.specs.Memory.{Given, kept_byte, variables_in, object_part, frame_part, StandsFor, SeesIn}
 use Rattle.writers.proofs.Effects.{halted_then, does_stop, stopped_after, gap_kept, gap_stands}
 use Rattle.writers.proofs.View.{room_is}
@@ -83,7 +83,7 @@ module _ {s words words' : List ℕ} {r : Registers} {k b : ℕ} {z : Rights} {a
       subst (λ (h : List ℕ). Sees watched (qual_of s) v (frame_part r words') h) (sym B.gap.objects)
       (subst (λ (d : List ℕ). Sees watched (qual_of s) v (take (variables_in r) d) (object_part r words)) (sym B.gap.frames) S)
 
-  module _ (m : Moved) (n' : ℕ) (left : n ≡ suc n')
+  module _ (m : Result ℕ Halt) (n' : ℕ) (left : n ≡ suc n')
       (is : (v : View watched) → SeesIn watched (qual_of s) v words' r → moved_cell (qual_of s) m ≡ actual watched (program_of s) v k b z j) where
     -- the next one
     next_planned : (v : View watched) → SeesIn watched (qual_of s) v words r
@@ -95,7 +95,7 @@ module _ {s words words' : List ℕ} {r : Registers} {k b : ℕ} {z : Rights} {a
         rw left at (B.planned v S) in
         p ∙ rw (is v (sees_still v S))
 
-    pub bound_stop : {x : ℕ} → m ≡ Mv.Halt x → (v : View watched) → SeesIn watched (qual_of s) v words r → actuals watched (program_of s) v k b z 0 (j + n) ≡ halted watched x
+    pub bound_stop : {x : Halt} → m ≡ Err x → (v : View watched) → SeesIn watched (qual_of s) v words r → actuals watched (program_of s) v k b z 0 (j + n) ≡ halted watched x
     unfolding moved_cell before
     bound_stop {x} e v S =
         let p : actuals watched (program_of s) v k b z 0 (j + n)
@@ -103,7 +103,7 @@ module _ {s words words' : List ℕ} {r : Registers} {k b : ℕ} {z : Rights} {a
         rw left (next_planned v S) in
         p ∙ rw (e, halted_then watched x, halted_then watched x)
 
-    pub bound_more : {w : ℕ} → m ≡ Mv.To w → IsCell w → r.used ≤ at + j → at + j < r.base → r.base ≤ length words
+    pub bound_more : {w : ℕ} → m ≡ Ok w → IsCell w → r.used ≤ at + j → at + j < r.base → r.base ≤ length words
         → Bound s words (set words' (at + j) w) r k b z at (j + 1) n'
     unfolding moved_cell ◌>>=◌
     bound_more {w} e is_cell low high fits =
@@ -207,13 +207,13 @@ module _ (s words : List ℕ) (r : Registers) (a b k w : ℕ) (z : Rights) (C : 
   variables_are : (program_of s).variables k ≡ v
   variables_are = sym (many ∙ C.variables)
 
-  pub enter_full : r.base - r.used < v + 2 → Enters s words words r a b k z (Halt 17)
+  pub enter_full : r.base - r.used < v + 2 → Enters s words words r a b k z (Err MemoryFull)
   unfolding ◌>>=◌
   enter_full h c t out same known kept S =
       let n = variables_are in
       let room = room_is watched c words out r t S in
-      planned_as c words out s r t (Halt 17) _ (stop memory_full) (entering_full (program_of s) (view (length words) (length out) t) k b z (omega arith))
-      (stopped_after watched c words out r t S 17 memory_full refl)
+      planned_as c words out s r t (Err MemoryFull) _ (stop memory_full) (entering_full (program_of s) (view (length words) (length out) t) k b z (omega arith))
+      (stopped_after watched c words out r t S MemoryFull)
 
   module _ (room : v + 2 ≤ r.base - r.used) (f : ℕ) (few : f ≡ formals_of w) where
     formals_are : (program_of s).formals k ≡ f
@@ -225,7 +225,7 @@ module _ (s words : List ℕ) (r : Registers) (a b k w : ℕ) (z : Rights) (C : 
         let n = variables_are in
         entering_bound (program_of s) v' k b z (omega arith) x (ap (λ (j : ℕ). actuals watched (program_of s) v' k b z 0 j) formals_are ∙ e)
 
-    pub enter_stops : (words' : List ℕ) (x : ℕ) → Binds s words words' r k b z (r.base - (v + 2)) f (N.Halt x) → Enters s words words' r a b k z (Halt x)
+    pub enter_stops : (words' : List ℕ) (x : Halt) → Binds s words words' r k b z (r.base - (v + 2)) f (Err x) → Enters s words words' r a b k z (Err x)
     enter_stops words' x stops c t out same known kept S =
         let seen = view (length words) (length out) t in
         stopped_as c words' out s r t (gap_stands watched c words words' out r stops.0 t S) x _
@@ -233,7 +233,7 @@ module _ (s words : List ℕ) (r : Registers) (a b k w : ℕ) (z : Rights) (C : 
         ∙ halted_then watched x (λ cs. ok (M.call k z cs)))
 
     pub enter_goes : (words' words'' : List ℕ) (q : Registers) (set : ℕ) → Bound s words words' r k b z (r.base - (v + 2)) f 0
-        → set ≡ z → Opened watched words' words'' r q a w set v f → Enters s words words'' r a b k z (Enter q)
+        → set ≡ z → Opened watched words' words'' r q a w set v f → Enters s words words'' r a b k z (Ok (Enter q))
     unfolding ◌>>=◌ apply
     enter_goes words' words'' q set B is_set P c (state (frame p i y vs) fs os left put) out same known kept S =
         let t = state (frame p i y vs) fs os left put in
@@ -265,40 +265,37 @@ module _ (s words : List ℕ) (r : Registers) (a b k : ℕ) {p to : Scope} (here
   keeps_told : {x : Bool} → not (eqb a 255) && eqb t 255 ≡ x → keeps (optional a) ((program_of s).result k) ≡ not x
   keeps_told e = keeps_is s (procedure_at s k) a ∙ rw (← scope.head, ← result, e)
 
-  pub call_unkept : not (eqb a 255) && eqb t 255 ≡ true → (input out : List ℕ) → Performs watched s input words words out out r (Halt 18) (Call a b k)
+  pub call_unkept : not (eqb a 255) && eqb t 255 ≡ true → (input out : List ℕ) → Performs watched s input words words out out r (Err WrongKind) (Call a b k)
   call_unkept e input out =
-      performs_exactly s input words words out out r (Halt 18) (Call a b k) (λ z. stop wrong_kind) (λ c q. does_stop watched c words out r wrong_kind)
+      performs_exactly s input words words out out r (Err WrongKind) (Call a b k) (λ z. stop wrong_kind) (λ c q. does_stop watched c words out r WrongKind)
       (λ c t q i S. sym (plan_unkept (program_of s) (view (length words) (length out) t) a b k (keeps_told e)))
 
   module _ (kept : not (eqb a 255) && eqb t 255 ≡ false) where
     -- what the code found, in every state
-    settling_seen : (x : Settled) → Settling (inner_as s p) (callee_as s (bound_of_procedure s k) to) b x → (v : View watched) → InScope s v p
+    settling_seen : (x : Result ℕ SettleError) → Settling (inner_as s p) (callee_as s (bound_of_procedure s k) to) b x → (v : View watched) → InScope s v p
         → Settling (declared_as watched (program_of s) v) (called (program_of s) k) b x
     settling_seen x told v in_frame =
         subst (λ (f : ℕ → Qual). Settling f (called (program_of s) k) b x) (λ i y. inner_read in_frame y i)
         (subst (λ (f : Callee). Settling (inner_as s p) f b x) (callee_is scope) told)
 
-    pub call_unsettled : Settling (inner_as s p) (callee_as s (bound_of_procedure s k) to) b OfAll.Unsettled
-        → (input out : List ℕ) → Performs watched s input words words out out r (Halt 18) (Call a b k)
+    -- why nothing is settled is the stop
+    pub call_stops : (e : SettleError) → Settling (inner_as s p) (callee_as s (bound_of_procedure s k) to) b (Err e)
+        → (input out : List ℕ) → Performs watched s input words words out out r (Err (halt_of e)) (Call a b k)
     unfolding ◌>>=◌
-    call_unsettled told input out c t same from S =
+    call_stops Why.Unsettled told input out c t same from S =
         let v = view (length words) (length out) t in
-        let h = settling_seen OfAll.Unsettled told v (in_scope here c out t same S) in
-        planned_as c words out s r t (Halt 18) _ (stop wrong_kind)
+        let h = settling_seen (Err Why.Unsettled) told v (in_scope here c out t same S) in
+        planned_as c words out s r t (Err WrongKind) _ (stop wrong_kind)
         (plan_settled (program_of s) v a b k (keeps_told kept) (stop wrong_kind) (unsettled (program_of s) v k b h))
-        (stopped_after watched c words out r t S 18 wrong_kind refl)
-
-    pub call_short : Settling (inner_as s p) (callee_as s (bound_of_procedure s k) to) b OfAll.Short
-        → (input out : List ℕ) → Performs watched s input words words out out r (Halt 19) (Call a b k)
-    unfolding ◌>>=◌
-    call_short told input out c t same from S =
+        (stopped_after watched c words out r t S WrongKind)
+    call_stops Why.Short told input out c t same from S =
         let v = view (length words) (length out) t in
-        let h = settling_seen OfAll.Short told v (in_scope here c out t same S) in
-        planned_as c words out s r t (Halt 19) _ (stop missing_right)
+        let h = settling_seen (Err Why.Short) told v (in_scope here c out t same S) in
+        planned_as c words out s r t (Err MissingRight) _ (stop missing_right)
         (plan_settled (program_of s) v a b k (keeps_told kept) (stop missing_right) (short (program_of s) v k b h.0 h.1))
-        (stopped_after watched c words out r t S 19 missing_right refl)
+        (stopped_after watched c words out r t S MissingRight)
 
-    pub call_enters : (name : ℕ) → Settling (inner_as s p) (callee_as s (bound_of_procedure s k) to) b (OfAll.To name)
+    pub call_enters : (name : ℕ) → Settling (inner_as s p) (callee_as s (bound_of_procedure s k) to) b (Ok name)
         → (words' : List ℕ) (o : Stepped) (w : ℕ) → ProcedureWord s k w → Callable s r a b k
         → ((j : ℕ) (z : Rights) → FrameScope s j z (record { head = to.head; start = to.start; name = name }) → ProcedureWord s j w
         → Enters s words words' r a b j z o)
@@ -306,7 +303,7 @@ module _ (s words : List ℕ) (r : Registers) (a b k : ℕ) {p to : Scope} (here
     unfolding ◌>>=◌
     call_enters name told words' o w C callable enters input out c t same from S =
         let v = view (length words) (length out) t in
-        let h = settling_seen (OfAll.To name) told v (in_scope here c out t same S) in
+        let h = settling_seen (Ok name) told v (in_scope here c out t same S) in
         let z = rights (settles_to (program_of s) v k b) in
         planned_as c words' out s r t o _ (entering (program_of s) v k b z)
         (plan_settled (program_of s) v a b k (keeps_told kept) (ok z) (settles (program_of s) v k b h.0 h.1))

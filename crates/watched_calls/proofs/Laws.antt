@@ -3,6 +3,8 @@ use Prim.Native.Nat.{ℕ}
 use mathlib.Core.Path.{◌≡◌, subst}
 use mathlib.Core.List.{List}
 use lib.ListN.{length}
+use Rattle.std.specs.Prelude.{Err}
+use Rattle.model.specs.declared.Halt.{Halt}
 use Rattle.model.specs.Outcome.{Res, ok, ◌>>=◌}
 use Rattle.model.specs.Rights.{Rights}
 use Rattle.model.specs.Modes.{watched}
@@ -12,17 +14,16 @@ use Rattle.sheet.specs.Meaning.{program_of, qual_of}
 use Rattle.index.specs.Indexed.{PlacedWord}
 use Rattle.index.specs.Scope.{Bounded}
 use Rattle.index.specs.declared.procedures.Scope.{Scope}
+use Rattle.words.specs.Sees.{Sees}
 use Rattle.words.specs.Answers.{halted}
 use Rattle.binding.specs.Binds.{FrameScope, InScope}
 use Rattle.writers.specs.declared.Registers.{Registers}
-use Rattle.writers.specs.declared.Stepped.{Stepped}
-use Rattle.writers.specs.declared.Stepped.TheVariants.{Halt}
-use Rattle.writers.specs.Memory.{Given, SeesIn, StandsFor}
-use Rattle.writers.specs.Steps.{After, Does}
+use Rattle.writers.specs.Memory.{Given, frame_part, object_part, SeesIn, StandsFor}
+use Rattle.writers.specs.Steps.{Stepped, After, Does}
 use Rattle.writers.proofs.Effects.{halted_then, halted_after}
 use Rattle.frames.specs.Performs.{Loaded, performed, Performs}
 use Rattle.frames.specs.Frames.{SetIn}
-use Rattle.frames.proofs.Performs.{placed, sees}
+use Rattle.frames.proofs.Performs.{placed, sees, sees_parts}
 use Rattle.frames.proofs.Called.{bound_within}
 use Rattle.watched_calls.specs.Calls.{ScopeHere}
 
@@ -40,7 +41,7 @@ scope_here {s} {index} b set {p} loaded scoped sets c k i z vs fs os input put o
 
 -- a stop that was planned
 pub stopped_as : (c : Given) (words out s : List ℕ) (r : Registers) (t : State watched) → StandsFor watched c words out r t
-    → (k : ℕ) (e : Res (Effect watched)) → e ≡ halted watched k → After watched c words out out r t (Halt k) (performed s t e)
+    → (k : Halt) (e : Res (Effect watched)) → e ≡ halted watched k → After watched c words out out r t (Err k) (performed s t e)
 stopped_as c words out s r t S k e is = rw (is, halted_then watched k) (halted_after watched c words out r t S k)
 
 module _ (s input words words' before out : List ℕ) (r : Registers) (o : Stepped) (op : Operation) (e : List ℕ → Res (Effect watched))
@@ -60,3 +61,10 @@ module _ (s input words words' before out : List ℕ) (r : Registers) (o : Stepp
   performs_seeing here planned =
       performs_exactly
       (λ c t q i S. planned (view (length words) (length before) t) (in_scope here c before t q S) (sees watched c s words before r t q S))
+
+  -- the same, where what is read is what `writers::parts` gives
+  pub performs_reading : {p : Scope} {f h : List ℕ} → f ≡ frame_part r words → h ≡ object_part r words → ScopeHere s words r p
+      → ((v : View watched) → InScope s v p → Sees watched (qual_of s) v f h → e s ≡ plan watched (program_of s) v op)
+      → Performs watched s input words words' before out r o op
+  performs_reading variables objects here planned =
+      performs_seeing here (λ v at S. planned v at (sees_parts watched (qual_of s) v words r variables objects S))

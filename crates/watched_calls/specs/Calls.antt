@@ -1,6 +1,7 @@
 -- What a call and a return of the watched machine ask for, and what the code answers there.
-use Rattle.std.specs.Prelude.{ℕ, ◌+◌, ◌≤◌, ◌<◌, ◌≡◌, List, ◌++◌, map, leb, length, take, drop}
+use Rattle.std.specs.Prelude.{ℕ, ◌+◌, ◌≤◌, ◌<◌, ◌≡◌, List, ◌++◌, map, leb, length, take, drop, Option as Maybe, Some, None, Result, Ok, Err}
 use Rattle.std.proofs.Math.Option.{Option, none}
+use Rattle.model.specs.declared.Halt.{Halt}
 use Rattle.model.specs.Rights.{Rights}
 use Rattle.model.specs.Qualified.{Qual}
 use Rattle.model.specs.Program.{Program}
@@ -13,18 +14,11 @@ use Rattle.sheet.specs.Meaning.{qual_of, program_of}
 use Rattle.index.specs.declared.procedures.Scope.{Scope}
 use Rattle.words.specs.Word.{cell, slot_in, as_cell, formals_of, variables_of}
 use Rattle.words.specs.Answers.{halted, IsCell, MovedOk}
-use Rattle.words.specs.declared.Number.{Number}
-use Rattle.words.specs.declared.Number.TheVariants as N
-use Rattle.words.specs.declared.Moved.{Moved}
-use Rattle.words.specs.declared.Moved.TheVariants as M
 use Rattle.binding.specs.Binds.{FrameScope, InScope, moved_cell, handed_cell}
 use Rattle.writers.specs.declared.Registers.{Registers}
-use Rattle.writers.specs.declared.Stepped.{Stepped}
 use Rattle.writers.specs.Memory.{Given, kept_byte, Stands, StandsFor, SeesIn, GapOnly}
-use Rattle.writers.specs.Steps.{After}
+use Rattle.writers.specs.Steps.{Stepped, After}
 use Rattle.frames.specs.Performs.{performed}
-use Rattle.watched_calls.specs.declared.Handed.{Handed}
-use Rattle.watched_calls.specs.declared.Handed.TheVariants as H
 
 -- p is the scope of the running frame, in every run of the sheet that these words stand in
 abbrev pub ScopeHere : (s words : List ℕ) → Registers → Scope → Type 0
@@ -35,7 +29,7 @@ ScopeHere s words r p =
 -- ---- a call
 
 -- the answer is actual j of a call with variables from b on, of a procedure whose frame has scope c, in every view that sees these words
-abbrev pub ActualIn : (s words : List ℕ) → Registers → Scope → (b j : ℕ) → Moved → Type 0
+abbrev pub ActualIn : (s words : List ℕ) → Registers → Scope → (b j : ℕ) → Result ℕ Halt → Type 0
 ActualIn s words r c b j m =
     MovedOk m
     × ((v : View watched) (k : ℕ) (z : Rights) → FrameScope s k z c → SeesIn watched (qual_of s) v words r
@@ -57,9 +51,9 @@ pub record Bound (s words words' : List ℕ) (r : Registers) (k b : ℕ) (z : Ri
       → actuals watched (program_of s) v k b z 0 (j + n) ≡ before (cells_at s words' at j) (actuals watched (program_of s) v k b z j n)
 
 -- all f of them were; or the first that was not is the stop, and those before it left words in the gap alone
-abbrev pub Binds : (s words words' : List ℕ) → Registers → (k b : ℕ) → (z : Rights) → (at f : ℕ) → Number → Type 0
-Binds s words words' r k b z at f (N.Is n) = Bound s words words' r k b z at f 0
-Binds s words words' r k b z at f (N.Halt x) =
+abbrev pub Binds : (s words words' : List ℕ) → Registers → (k b : ℕ) → (z : Rights) → (at f : ℕ) → Result (Unit {0}) Halt → Type 0
+Binds s words words' r k b z at f (Ok u) = Bound s words words' r k b z at f 0
+Binds s words words' r k b z at f (Err x) =
     GapOnly words words' r × ((v : View watched) → SeesIn watched (qual_of s) v words r → actuals watched (program_of s) v k b z 0 f ≡ halted watched x)
 
 -- what entering the procedure of a word leans on: no more formals than variables, and a frame that can say where to go back
@@ -89,19 +83,19 @@ hands g v a = do
   demand watched (returns_well (optional a) (g.result v.procedure))
   handed watched g v (optional a)
 
-unfoldable pub handed_as : (ℕ → Qual) → Handed → Res (Option (Cell watched))
-handed_as qual H.Nothing = ok none
-handed_as qual (H.Is w) = handed_cell qual (M.To w)
-handed_as qual (H.Halt k) = handed_cell qual (M.Halt k)
+unfoldable pub handed_as : (ℕ → Qual) → Result (Maybe ℕ) Halt → Res (Option (Cell watched))
+handed_as qual (Ok None) = ok none
+handed_as qual (Ok (Some w)) = handed_cell qual (Ok w)
+handed_as qual (Err k) = handed_cell qual (Err k)
 
 -- a word that is handed over is a cell's
-abbrev pub HandedOk : Handed → Type 0
-HandedOk H.Nothing = Unit {0}
-HandedOk (H.Is w) = IsCell w
-HandedOk (H.Halt k) = Unit {0}
+abbrev pub HandedOk : Result (Maybe ℕ) Halt → Type 0
+HandedOk (Ok None) = Unit {0}
+HandedOk (Ok (Some w)) = IsCell w
+HandedOk (Err k) = Unit {0}
 
 -- the answer is that, in every view that sees these words while the frame of scope p runs
-abbrev pub HandsOver : (s words : List ℕ) → Registers → Scope → (a : ℕ) → Handed → Type 0
+abbrev pub HandsOver : (s words : List ℕ) → Registers → Scope → (a : ℕ) → Result (Maybe ℕ) Halt → Type 0
 HandsOver s words r p a h =
     HandedOk h
     × ((v : View watched) → InScope s v p → SeesIn watched (qual_of s) v words r → handed_as (qual_of s) h ≡ hands (program_of s) v a)

@@ -23,9 +23,8 @@ use Rattle.words.specs.Answers.{halted, given}
 use Rattle.binding.specs.Binds.{InScope}
 use Rattle.watched_plan.proofs.Laws.{gives_integer, gives_misfit}
 use Rattle.writers.specs.declared.Registers.{Registers}
-use Rattle.writers.specs.declared.Stepped.{Stepped}
 use Rattle.writers.specs.Memory.{Given}
-use Rattle.writers.specs.Steps.{Does, take_effect}
+use Rattle.writers.specs.Steps.{Stepped, Does, take_effect}
 use Rattle.writers.proofs.View.{next_input_is}
 use Rattle.frames.specs.Performs.{Performs}
 use Rattle.watched_calls.specs.Calls.{ScopeHere}

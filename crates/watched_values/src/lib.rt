@@ -5,46 +5,31 @@
 ghost use Rattle.std.specs.Prelude.{List, ℕ, ◌<◌, length};
 ghost use Rattle.model.specs.Modes.{watched};
 ghost use Rattle.model.specs.declared.Operation.TheVariants as Op;
-ghost use Rattle.index.specs.Indexed.{Ready};
-ghost use Rattle.watched_plan.specs.Plans.{PlansMoved};
 ghost use Rattle.form.specs.Named.{Named};
-ghost use Rattle.writers.specs.Memory.{Sane, variables_in, frame_part, object_part};
+ghost use Rattle.writers.specs.Memory.{Sane, variables_in};
 ghost use Rattle.frames.specs.Performs.{Performs, PerformsInside};
 ghost use Rattle.watched_calls.specs.Calls.{ScopeHere};
 
-use index::Index;
 use index::procedures::Scope;
-use watched_plan::{
-    add_guarded, bind_guarded, integer_in, less_guarded, set_guarded, subtract_guarded,
-    takes_integer,
-};
-use words::Moved;
-use writers::{
-    Registers, Stepped, frame_end, give_moved, give_number, jump, put_output, take_input,
-};
+use index::sheets::Sheet;
+use model::arithmetic::Arithmetic;
+use model::{Halt, require};
+use watched_plan::{arithmetic_guarded, bind_guarded, integer_in, set_guarded, takes_integer};
+use writers::{Registers, Stepped, give_moved, give_number, jump, parts, put_output, take_input};
 
-pub fn set(
-    s: &[u8],
-    index: &Index,
-    p: Scope,
-    memory: &mut [u64],
-    r: Registers,
-    a: u8,
-    k: u16,
-) -> Stepped
-    requires ready { Ready s.now index.now }
+pub fn set(s: Sheet, p: Scope, memory: &mut [u64], r: Registers, a: u8, k: u16) -> Stepped
     requires sane { Sane (length memory.old) r }
     requires next_bound { r.next < 1000 }
     requires named { Named (variables_in r) (Op.Set a k) }
-    requires scope_here { ScopeHere s.now memory.old r p }
-    ensures { PerformsInside watched s.now memory.old memory.new r result (Op.Set a k) }
+    requires scope_here { ScopeHere s.bytes.now memory.old r p }
+    ensures { PerformsInside watched s.entry.bytes.now memory.old memory.new r result (Op.Set a k) }
 {
-    give_number(memory, r, a, set_guarded(s, index, p, a, k))
+    give_number(memory, r, a, set_guarded(s, p, a, k))
 }
 
-pub fn add(
-    s: &[u8],
-    index: &Index,
+// a := b op c, for the operations that make one integer of two.
+pub fn arithmetic<A: Arithmetic>(
+    s: Sheet,
     p: Scope,
     memory: &mut [u64],
     r: Registers,
@@ -52,62 +37,13 @@ pub fn add(
     b: u8,
     c: u8,
 ) -> Stepped
-    requires ready { Ready s.now index.now }
     requires sane { Sane (length memory.old) r }
     requires next_bound { r.next < 1000 }
-    requires named { Named (variables_in r) (Op.Add a b c) }
-    requires scope_here { ScopeHere s.now memory.old r p }
-    ensures { PerformsInside watched s.now memory.old memory.new r result (Op.Add a b c) }
+    requires named { (a < variables_in r) × ((b < variables_in r) × (c < variables_in r)) }
+    requires scope_here { ScopeHere s.bytes.now memory.old r p }
+    ensures { PerformsInside watched s.entry.bytes.now memory.old memory.new r result (A.operation a b c) }
 {
-    let base = r.base;
-    let end = frame_end(r);
-    let n = add_guarded(s, index, p, &memory[base..end], a, b, c);
-    give_number(memory, r, a, n)
-}
-
-pub fn subtract(
-    s: &[u8],
-    index: &Index,
-    p: Scope,
-    memory: &mut [u64],
-    r: Registers,
-    a: u8,
-    b: u8,
-    c: u8,
-) -> Stepped
-    requires ready { Ready s.now index.now }
-    requires sane { Sane (length memory.old) r }
-    requires next_bound { r.next < 1000 }
-    requires named { Named (variables_in r) (Op.Subtract a b c) }
-    requires scope_here { ScopeHere s.now memory.old r p }
-    ensures { PerformsInside watched s.now memory.old memory.new r result (Op.Subtract a b c) }
-{
-    let base = r.base;
-    let end = frame_end(r);
-    let n = subtract_guarded(s, index, p, &memory[base..end], a, b, c);
-    give_number(memory, r, a, n)
-}
-
-pub fn less(
-    s: &[u8],
-    index: &Index,
-    p: Scope,
-    memory: &mut [u64],
-    r: Registers,
-    a: u8,
-    b: u8,
-    c: u8,
-) -> Stepped
-    requires ready { Ready s.now index.now }
-    requires sane { Sane (length memory.old) r }
-    requires next_bound { r.next < 1000 }
-    requires named { Named (variables_in r) (Op.Less a b c) }
-    requires scope_here { ScopeHere s.now memory.old r p }
-    ensures { PerformsInside watched s.now memory.old memory.new r result (Op.Less a b c) }
-{
-    let base = r.base;
-    let end = frame_end(r);
-    let n = less_guarded(s, index, p, &memory[base..end], a, b, c);
+    let n = arithmetic_guarded::<A>(s, p, parts(memory, r).frame, a, b, c);
     give_number(memory, r, a, n)
 }
 
@@ -117,64 +53,30 @@ pub fn jump_zero(memory: &[u64], r: Registers, a: u8, k: u16) -> Stepped
     requires named { Named (variables_in r) (Op.JumpZero a k) }
     ensures { (s : List ℕ) → PerformsInside watched s memory.now memory.now r result (Op.JumpZero a k) }
 {
-    let base = r.base;
-    let end = frame_end(r);
-    jump(r, integer_in(&memory[base..end], a), k)
+    jump(r, integer_in(parts(memory, r).frame, a), k)
 }
 
-// What is read of the running frame's part of the memory and of the objects' part.
-fn bind_in(s: &[u8], index: &Index, p: Scope, memory: &[u64], r: Registers, a: u8, b: u8) -> Moved
-    requires ready { Ready s.now index.now }
-    requires sane { Sane (length memory.now) r }
-    requires b_bound { b < variables_in r }
-    ensures { PlansMoved s.now p (frame_part r memory.now) (object_part r memory.now) (Op.Bind a b) a result }
-{
-    let base = r.base;
-    let end = frame_end(r);
-    let used = r.used;
-    bind_guarded(s, index, p, &memory[base..end], &memory[..used], a, b)
-}
-
-pub fn bind(
-    s: &[u8],
-    index: &Index,
-    p: Scope,
-    memory: &mut [u64],
-    r: Registers,
-    a: u8,
-    b: u8,
-) -> Stepped
-    requires ready { Ready s.now index.now }
+pub fn bind(s: Sheet, p: Scope, memory: &mut [u64], r: Registers, a: u8, b: u8) -> Stepped
     requires sane { Sane (length memory.old) r }
     requires next_bound { r.next < 1000 }
     requires named { Named (variables_in r) (Op.Bind a b) }
-    requires scope_here { ScopeHere s.now memory.old r p }
-    ensures { PerformsInside watched s.now memory.old memory.new r result (Op.Bind a b) }
+    requires scope_here { ScopeHere s.bytes.now memory.old r p }
+    ensures { PerformsInside watched s.entry.bytes.now memory.old memory.new r result (Op.Bind a b) }
 {
-    let m = bind_in(s, index, p, memory, r, a, b);
+    let m = bind_guarded(s, p, parts(memory, r), a, b);
     give_moved(memory, r, a, m)
 }
 
-pub fn take(
-    s: &[u8],
-    index: &Index,
-    p: Scope,
-    input: &[u32],
-    memory: &mut [u64],
-    r: Registers,
-    a: u8,
-) -> Stepped
-    requires ready { Ready s.now index.now }
+pub fn take(s: Sheet, p: Scope, input: &[u32], memory: &mut [u64], r: Registers, a: u8) -> Stepped
     requires sane { Sane (length memory.old) r }
     requires next_bound { r.next < 1000 }
     requires named { Named (variables_in r) (Op.Take a) }
-    requires scope_here { ScopeHere s.now memory.old r p }
-    ensures { (out : List ℕ) → Performs watched s.now input.now memory.old memory.new out out r result (Op.Take a) }
+    requires scope_here { ScopeHere s.bytes.now memory.old r p }
+    ensures { (out : List ℕ) → Performs watched s.entry.bytes.now input.now memory.old memory.new out out r result (Op.Take a) }
 {
-    if (input.len() <= r.taken) | takes_integer(s, index, p, a) {
-        return take_input(input, memory, r, a);
-    }
-    Stepped::Halt(18)
+    let fits = (input.len() <= r.taken) | takes_integer(s, p, a);
+    require(fits, Halt::WrongKind)?;
+    take_input(input, memory, r, a)
 }
 
 pub fn put(memory: &[u64], output: &mut [u32], r: Registers, a: u8) -> Stepped
@@ -183,8 +85,6 @@ pub fn put(memory: &[u64], output: &mut [u32], r: Registers, a: u8) -> Stepped
     requires named { Named (variables_in r) (Op.Put a) }
     ensures { (s input : List ℕ) → Performs watched s input memory.now memory.now output.old output.new r result (Op.Put a) }
 {
-    let base = r.base;
-    let end = frame_end(r);
-    let n = integer_in(&memory[base..end], a);
+    let n = integer_in(parts(memory, r).frame, a);
     put_output(output, r, n)
 }

@@ -4,80 +4,56 @@ use Rattle.sheet.specs.Layout.{result_at}
 use Rattle.index.specs.Scope.{bound_of_procedure, inner_as}
 use Rattle.index.proofs.Reading.{placed_word}
 use Rattle.settling.specs.Settles.{callee_as, Settling}
-use Rattle.frames.proofs.Called.{formals_within, bound_within, word_is}
 use Rattle.settling.proofs.Actuals.{bound_here}
-use Rattle.watched_calls.proofs.Calling.{call_unkept, call_unsettled, call_short, call_enters}
+use Rattle.frames.proofs.Called.{loaded, formals_within, bound_within, word_is}
+use Rattle.binding.proofs.Laws.{exit_is}
+use Rattle.watched_calls.proofs.Calling.{call_unkept, call_stops, call_enters}
 use Rattle.watched_calls.proofs.call.Goals as goal
 
 pub returns-then-a-field : goal.returns-then-a-field
 unfolding result_at
 returns-then-a-field c =
-    let args = c.args in
-    let procedure_in = c.procedure_in-callee in
-    let own-scope = c.own_scope-own in
-    let field = c.field in
-    let if1 = c.if-a-field in
-    let s = args.s.now in
-    let index = args.index.now in
-    let C = word_is s index c.requires.loaded args.k c.requires.callable.procedure procedure_in.ensures in
-    let to = own-scope.ensures args.k (placed_word C) (bound_within s index c.requires.loaded args.k c.requires.callable.procedure) in
-    call_unkept s args.memory.now args.r args.a args.b args.k c.requires.scope_here to field.ensures if1.true
+    let a = c.args in
+    let s = a.s.sheet.bytes.now in
+    let index = a.s.sheet.index.now in
+    let L = loaded a.s in
+    let C = word_is s index L a.k c.requires.callable.procedure c.procedure_in-callee.ensures in
+    let to = c.own_scope-own.ensures a.k (placed_word C) (bound_within s index L a.k c.requires.callable.procedure) in
+    call_unkept s a.memory.now a.r a.a a.b a.k c.requires.scope_here to c.field.ensures c.if-a-field.true
 
 pub enter-requires : goal.enter-requires
 enter-requires c =
-    let args = c.args in
-    let procedure_in = c.procedure_in-callee in
-    let s = args.s.now in
-    let index = args.index.now in
-    let C = word_is s index c.requires.loaded args.k c.requires.callable.procedure procedure_in.ensures in
-    let few = formals_within s index c.requires.loaded args.k c.requires.callable.procedure in
-    record { ready = c.requires.loaded.ready; sane = c.requires.sane; enterable = record { next = c.requires.callable.next; formals = rw (C.formals, C.variables) few } }
+    let a = c.args in
+    let s = a.s.sheet.bytes.now in
+    let index = a.s.sheet.index.now in
+    let L = loaded a.s in
+    let C = word_is s index L a.k c.requires.callable.procedure c.procedure_in-callee.ensures in
+    let few = formals_within s index L a.k c.requires.callable.procedure in
+    record { sane = c.requires.sane; enterable = record { next = c.requires.callable.next; formals = rw (C.formals, C.variables) few } }
 
-pub returns-in-Unsettled : goal.returns-in-Unsettled
+pub returns-in_err-name : goal.returns-in_err-name
 unfolding result_at
-returns-in-Unsettled c =
-    let args = c.args in
-    let procedure_in = c.procedure_in-callee in
-    let own-scope = c.own_scope-own in
-    let field = c.field in
-    let if1 = c.if-a-field in
-    let is-bounded-in = c.is_bounded_in in
-    let settled-by = c.settled_by in
-    let s = args.s.now in
-    let index = args.index.now in
-    let C = word_is s index c.requires.loaded args.k c.requires.callable.procedure procedure_in.ensures in
-    let to = own-scope.ensures args.k (placed_word C) (bound_within s index c.requires.loaded args.k c.requires.callable.procedure) in
-    call_unsettled s args.memory.now args.r args.a args.b args.k c.requires.scope_here to field.ensures if1.false (subst (Settling (inner_as s args.p) (callee_as s (bound_of_procedure s args.k) own-scope.result) args.b) c.in-Unsettled.is (settled-by.ensures (bound_of_procedure s args.k) (bound_here to (is-bounded-in.ensures s args.k (placed_word C)))))
+returns-in_err-name c =
+    let a = c.args in
+    let s = a.s.sheet.bytes.now in
+    let index = a.s.sheet.index.now in
+    let L = loaded a.s in
+    let C = word_is s index L a.k c.requires.callable.procedure c.procedure_in-callee.ensures in
+    let to = c.own_scope-own.ensures a.k (placed_word C) (bound_within s index L a.k c.requires.callable.procedure) in
+    let told = c.settled_by.ensures (bound_of_procedure s a.k) (bound_here to (c.is_bounded_in.ensures s a.k (placed_word C))) in
+    rw (exit_is c.from_residual.ensures.1)
+    (call_stops s a.memory.now a.r a.a a.b a.k c.requires.scope_here to c.field.ensures c.if-a-field.false _
+    (subst (Settling (inner_as s a.p) (callee_as s (bound_of_procedure s a.k) c.own_scope-own.result) a.b) c.in_err-name.was told))
 
-pub returns-in-Short : goal.returns-in-Short
+pub returns : goal.returns
 unfolding result_at
-returns-in-Short c =
-    let args = c.args in
-    let procedure_in = c.procedure_in-callee in
-    let own-scope = c.own_scope-own in
-    let field = c.field in
-    let if1 = c.if-a-field in
-    let is-bounded-in = c.is_bounded_in in
-    let settled-by = c.settled_by in
-    let s = args.s.now in
-    let index = args.index.now in
-    let C = word_is s index c.requires.loaded args.k c.requires.callable.procedure procedure_in.ensures in
-    let to = own-scope.ensures args.k (placed_word C) (bound_within s index c.requires.loaded args.k c.requires.callable.procedure) in
-    call_short s args.memory.now args.r args.a args.b args.k c.requires.scope_here to field.ensures if1.false (subst (Settling (inner_as s args.p) (callee_as s (bound_of_procedure s args.k) own-scope.result) args.b) c.in-Short.is (settled-by.ensures (bound_of_procedure s args.k) (bound_here to (is-bounded-in.ensures s args.k (placed_word C)))))
-
-pub returns-in-To : goal.returns-in-To
-unfolding result_at
-returns-in-To c =
-    let args = c.args in
-    let procedure_in = c.procedure_in-callee in
-    let own-scope = c.own_scope-own in
-    let field = c.field in
-    let if1 = c.if-a-field in
-    let is-bounded-in = c.is_bounded_in in
-    let settled-by = c.settled_by in
-    let enter = c.enter in
-    let s = args.s.now in
-    let index = args.index.now in
-    let C = word_is s index c.requires.loaded args.k c.requires.callable.procedure procedure_in.ensures in
-    let to = own-scope.ensures args.k (placed_word C) (bound_within s index c.requires.loaded args.k c.requires.callable.procedure) in
-    call_enters s args.memory.now args.r args.a args.b args.k c.requires.scope_here to field.ensures if1.false _ (subst (Settling (inner_as s args.p) (callee_as s (bound_of_procedure s args.k) own-scope.result) args.b) c.in-To.is (settled-by.ensures (bound_of_procedure s args.k) (bound_here to (is-bounded-in.ensures s args.k (placed_word C))))) enter.new.memory enter.result _ C c.requires.callable enter.ensures
+returns c =
+    let a = c.args in
+    let s = a.s.sheet.bytes.now in
+    let index = a.s.sheet.index.now in
+    let L = loaded a.s in
+    let C = word_is s index L a.k c.requires.callable.procedure c.procedure_in-callee.ensures in
+    let to = c.own_scope-own.ensures a.k (placed_word C) (bound_within s index L a.k c.requires.callable.procedure) in
+    let told = c.settled_by.ensures (bound_of_procedure s a.k) (bound_here to (c.is_bounded_in.ensures s a.k (placed_word C))) in
+    call_enters s a.memory.now a.r a.a a.b a.k c.requires.scope_here to c.field.ensures c.if-a-field.false _
+    (subst (Settling (inner_as s a.p) (callee_as s (bound_of_procedure s a.k) c.own_scope-own.result) a.b) c.in_ok-name.was told) c.enter.new.memory c.enter.result _ C c.requires.callable c.enter.ensures

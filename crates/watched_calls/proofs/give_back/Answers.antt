@@ -1,28 +1,26 @@
 -- What is handed over decides how the frame that waits goes on.
+use mathlib.Core.Path.{ap, ◌∙◌}
+use Rattle.std.specs.Prelude.{Ok}
+use Rattle.binding.proofs.Laws.{exit_is}
 use Rattle.watched_calls.proofs.Returning.{gives_nothing, gives_word, gives_halt}
 use Rattle.watched_calls.proofs.give_back.Goals as goal
 
+pub returns-in_err-handed_by : goal.returns-in_err-handed_by
+returns-in_err-handed_by c =
+    let a = c.args in
+    rw (exit_is c.from_residual.ensures.1)
+    (gives_halt a.s.sheet.bytes.now a.memory.now a.memory.now a.r a.a c.requires.scope_here c.handed_by.result c.handed_by.ensures c.in_err-handed_by.was)
+
 pub resume_with-requires : goal.resume_with-requires
 resume_with-requires c =
-    let handed-by = c.handed_by in
-    record { loaded = c.requires.loaded; sane = c.requires.sane; cell = rw c.in-Is.is at handed-by.ensures.0 }
+    record { sane = c.requires.sane; cell = rw (c.in_ok-handed_by.was, c.in-Some.is) at c.handed_by.ensures.0 }
 
-pub returns-in-Nothing : goal.returns-in-Nothing
-returns-in-Nothing c =
-    let args = c.args in
-    let handed-by = c.handed_by in
-    let resume-without = c.resume_without in
-    gives_nothing args.s.now args.memory.now args.memory.now args.r args.a c.requires.scope_here handed-by.result handed-by.ensures resume-without.result c.in-Nothing.is (resume-without.ensures args.s.now)
+pub returns-in-None : goal.returns-in-None
+returns-in-None c =
+    let a = c.args in
+    gives_nothing a.s.sheet.bytes.now a.memory.now a.memory.now a.r a.a c.requires.scope_here c.handed_by.result c.handed_by.ensures c.resume_without.result (c.in_ok-handed_by.was ∙ ap Ok c.in-None.is) (c.resume_without.ensures a.s.sheet.bytes.now)
 
-pub returns-in-Is : goal.returns-in-Is
-returns-in-Is c =
-    let args = c.args in
-    let resume-with = c.resume_with in
-    let handed-by = c.handed_by in
-    gives_word args.s.now args.memory.now resume-with.new.memory args.r args.a c.requires.scope_here handed-by.result handed-by.ensures resume-with.result c.in-Is.is resume-with.ensures
-
-pub returns-in-Halt : goal.returns-in-Halt
-returns-in-Halt c =
-    let args = c.args in
-    let handed-by = c.handed_by in
-    gives_halt args.s.now args.memory.now args.memory.now args.r args.a c.requires.scope_here handed-by.result handed-by.ensures c.in-Halt.is
+pub returns-in-Some : goal.returns-in-Some
+returns-in-Some c =
+    let a = c.args in
+    gives_word a.s.sheet.bytes.now a.memory.now c.resume_with.new.memory a.r a.a c.requires.scope_here c.handed_by.result c.handed_by.ensures c.resume_with.result (c.in_ok-handed_by.was ∙ ap Ok c.in-Some.is) c.resume_with.ensures

@@ -1,6 +1,12 @@
 -- Main's return, a result that is dropped, and one that is bound to the variable that keeps it.
 use native.Mathlib.Omega.{arith}
+use mathlib.Core.Path.{ap, ◌∙◌}
 use Rattle.model.specs.Modes.{watched}
+use Rattle.index.specs.Types.{type_in}
+use Rattle.index.proofs.Reading.{inner_type}
+use Rattle.index.proofs.Ready.{of_sheet}
+use Rattle.binding.proofs.Laws.{exit_is, word_of_sheet}
+use Rattle.frames.proofs.Called.{loaded}
 use Rattle.frames.proofs.Returning.{returns_over, returns_dropped}
 use Rattle.watched_calls.proofs.Laws.{scope_here}
 use Rattle.watched_calls.proofs.Returning.{returns_kept, returns_refused}
@@ -8,49 +14,28 @@ use Rattle.watched_calls.proofs.resume_with.Goals as goal
 
 pub returns-then-memory-frame_end : goal.returns-then-memory-frame_end
 returns-then-memory-frame_end c =
-    let args = c.args in
-    let if1 = c.if-memory-frame_end in
-    let frame-end = c.frame_end in
-    returns_over watched args.s.now args.memory.now args.r _ (omega (arith, if1.true, frame-end.ensures))
+    returns_over watched c.args.s.sheet.bytes.now c.args.memory.now c.args.r _ (omega (arith, c.if-memory-frame_end.true, c.frame_end.ensures))
 
 pub returns-then-kept : goal.returns-then-kept
 returns-then-kept c =
-    let args = c.args in
-    let kept_in = c.kept_in-kept in
-    let if1 = c.if-memory-frame_end in
-    let frame-end = c.frame_end in
-    let waiting = c.waiting-back in
-    let if2 = c.if-kept in
-    returns_dropped watched args.s.now args.memory.now args.r kept_in.result (omega (arith, if1.false, frame-end.ensures)) (kept_in.ensures watched) waiting.result (waiting.ensures.waits watched) if2.true _
-
-pub returns-in-To : goal.returns-in-To
-returns-in-To c =
-    let args = c.args in
-    let kept_in = c.kept_in-kept in
-    let if1 = c.if-memory-frame_end in
-    let frame-end = c.frame_end in
-    let if2 = c.if-kept in
-    let waiting = c.waiting-back in
-    let bind-kept = c.bind_kept in
-    let set-in = c.set_in in
-    let frame-scope = c.frame_scope-c in
-    let keep = c.keep in
-    returns_kept args.s.now args.memory.now args.r kept_in.result (omega (arith, if1.false, frame-end.ensures)) (kept_in.ensures watched) if2.false waiting.result (waiting.ensures.waits watched) _ set-in.ensures (scope_here waiting.result _ c.requires.loaded frame-scope.ensures set-in.ensures) args.w c.requires.cell bind-kept.result bind-kept.ensures c.in-To.is keep.new.memory (keep.ensures watched)
-
-pub returns-in-Halt : goal.returns-in-Halt
-returns-in-Halt c =
-    let args = c.args in
-    let kept_in = c.kept_in-kept in
-    let if1 = c.if-memory-frame_end in
-    let frame-end = c.frame_end in
-    let if2 = c.if-kept in
-    let waiting = c.waiting-back in
-    let bind-kept = c.bind_kept in
-    let set-in = c.set_in in
-    let frame-scope = c.frame_scope-c in
-    returns_refused args.s.now args.memory.now args.r kept_in.result (omega (arith, if1.false, frame-end.ensures)) (kept_in.ensures watched) if2.false waiting.result (waiting.ensures.waits watched) _ set-in.ensures (scope_here waiting.result _ c.requires.loaded frame-scope.ensures set-in.ensures) args.w c.requires.cell bind-kept.result bind-kept.ensures c.in-Halt.is
+    returns_dropped watched c.args.s.sheet.bytes.now c.args.memory.now c.args.r c.kept_in-kept.result (omega (arith, c.if-memory-frame_end.false, c.frame_end.ensures)) (c.kept_in-kept.ensures watched) c.waiting-back.result (c.waiting-back.ensures.waits watched) c.if-kept.true _
 
 pub set_in-requires : goal.set_in-requires
-set_in-requires c =
-    let waiting = c.waiting-back in
-    omega (arith, waiting.ensures.base_in_bounds, c.requires.sane.small)
+set_in-requires c = omega (arith, c.waiting-back.ensures.base_in_bounds, c.requires.sane.small)
+
+pub returns-in_err-x : goal.returns-in_err-x
+returns-in_err-x c =
+    let a = c.args in
+    let sheet = a.s.sheet in
+    let ready = of_sheet sheet in
+    let bound = rw (ap (type_in sheet.index.now c.frame_scope-c.result.name) c.inner_of-q.ensures ∙ inner_type ready c.frame_scope-c.result c.kept_in-kept.result, c.parts.ensures.objects) at (word_of_sheet ready c.bind_word.ensures) in
+    rw (exit_is c.from_residual.ensures.1)
+    (returns_refused sheet.bytes.now a.memory.now a.r c.kept_in-kept.result (omega (arith, c.if-memory-frame_end.false, c.frame_end.ensures)) (c.kept_in-kept.ensures watched) c.if-kept.false c.waiting-back.result (c.waiting-back.ensures.waits watched) _ c.set_in.ensures (scope_here c.waiting-back.result _ (loaded a.s) c.frame_scope-c.ensures c.set_in.ensures) a.w c.requires.cell c.bind_word.result bound c.in_err-x.was)
+
+pub returns : goal.returns
+returns c =
+    let a = c.args in
+    let sheet = a.s.sheet in
+    let ready = of_sheet sheet in
+    let bound = rw (ap (type_in sheet.index.now c.frame_scope-c.result.name) c.inner_of-q.ensures ∙ inner_type ready c.frame_scope-c.result c.kept_in-kept.result, c.parts.ensures.objects) at (word_of_sheet ready c.bind_word.ensures) in
+    returns_kept sheet.bytes.now a.memory.now a.r c.kept_in-kept.result (omega (arith, c.if-memory-frame_end.false, c.frame_end.ensures)) (c.kept_in-kept.ensures watched) c.if-kept.false c.waiting-back.result (c.waiting-back.ensures.waits watched) _ c.set_in.ensures (scope_here c.waiting-back.result _ (loaded a.s) c.frame_scope-c.ensures c.set_in.ensures) a.w c.requires.cell c.bind_word.result bound c.in_ok-x.was c.keep.new.memory (c.keep.ensures watched)

@@ -6,7 +6,5 @@ use Rattle.watched_values.proofs.set.Goals as goal
 
 pub returns : goal.returns
 returns c =
-    let args = c.args in
-    let give-number = c.give_number in
-    let set-guarded = c.set_guarded in
-    λ input out. performs_seeing args.s.now input args.memory.now give-number.new.memory out out args.r give-number.result _ (λ z. given watched args.a set-guarded.result) (λ d q. give-number.ensures watched d out) c.requires.scope_here (set-guarded.ensures _ _)
+    let a = c.args in
+    λ input out. performs_seeing a.s.bytes.now input a.memory.now c.give_number.new.memory out out a.r c.give_number.result _ (λ z. given watched a.a c.set_guarded.result) (λ d q. c.give_number.ensures watched d out) c.requires.scope_here (c.set_guarded.ensures _ _)
