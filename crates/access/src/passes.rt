@@ -132,7 +132,7 @@ fn procedures_access(s: Sheet, n: usize) -> Verdict
     ensures { result ≡ verdict (each n (procedure_rules (place_of s.entry.bytes.now) (program_of s.entry.bytes.now))) }
 {
     for p in 0..n {
-        procedure_access(s, p, own_scope(s, procedure_in(s.index, p)))?;
+        procedure_access(s, p, own_scope(s.bytes, procedure_in(s.index, p)))?;
     }
     Ok(())
 }

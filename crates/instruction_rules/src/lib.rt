@@ -24,7 +24,7 @@ fn called_rule(s: Sheet, p: Scope, k: usize, a: u8, b: u8) -> Result<(), Reason>
     ensures { result ≡ failure (call_rule (inner_as s.entry.bytes.now p) (called (program_of s.entry.bytes.now) k) a b) }
 {
     let w = procedure_in(s.index, k);
-    let to = own_scope(s, w);
+    let to = own_scope(s.bytes, w);
     call_rule(s, p, is_bounded_in(w), to, a, b)
 }
 

@@ -84,7 +84,7 @@ fn procedure_pass(e: Encoded, p: usize, pr: u32, start: u32) -> Verdict
     ensures { result ≡ verdict (procedure_tests_at e.entry.bytes.now p pr) }
 {
     head_record(e.bytes, p, pr)?;
-    bound_record(e, p, pr)?;
+    bound_record(e.bytes, p, pr)?;
     variables_pass(e.bytes, pr, start)?;
     instructions_pass(e.bytes, pr, start)
 }

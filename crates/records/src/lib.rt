@@ -131,15 +131,15 @@ pub fn head_record(s: &[u8], p: usize, pr: u32) -> Verdict
 
 // The GN of procedure p, at a place, where one is due.
 #[tactic(auto, unfolding(model::specs::Refusal::verdict, form::specs::WellFormed::bound_tests, sheet::specs::Layout::types_of, sheet::specs::Layout::named_of, sheet::specs::Layout::bound_base_at, sheet::specs::Layout::least_at))]
-pub fn bound_record(e: Encoded, p: usize, pr: u32) -> Verdict
-    ensures { result ≡ verdict (bound_tests e.entry.bytes.now p pr) }
+pub fn bound_record(s: &[u8], p: usize, pr: u32) -> Verdict
+    ensures { result ≡ verdict (bound_tests s.now p pr) }
 {
-    let s = e.bytes;
     if is_bounded(s, p, pr) {
+        let e = Encoded::new(s);
         let at = (pr as usize) + 8;
         let base = byte(s, at, 2);
         let named = byte(s, type_at(base), 2);
-        let scale = bound_scale(byte(s, 0, 3), named, base, rights_at(e, at));
+        let scale = bound_scale(byte(s, 0, 3), named, base, rights_at(s, e.rights, at));
         return record(s, at, 3 + usize::from(e.rights), b'G', b'N', scale);
     }
     Ok(())

@@ -77,7 +77,7 @@ module _ (m : Mode) (c : Given) (words out : List ℕ) (r : Registers) where
           → IsOver (next_moment n t q) × EndedIs (told r (E.Halted k) n) c.output out' (end_of (next_moment n t q))
       unfolding next_moment
       halted k (ok x) free h = absurd h
-      halted k (stop x) free h = (tt, ends t s x (E.Halted k) n out' h.reason h.output_kept)
+      halted k (stop x) free h = (tt, ends t s x (E.Halted k) n out' h.halts h.output_kept)
       halted k stuck free h = absurd (free refl)
 
       finishes : (q : Res (Next m)) → (q ≡ stuck → ⊥) → After m c words' out out' r t (Ok N.Done) q
