@@ -29,7 +29,7 @@ enum Settles {
     To(u64),
 }
 
-// Why a call settles nothing: no set for ?R, or one that lacks a right of the least set.
+// Why a call is not settled: no need uses ?R, or two actuals settle it differently; or what is settled lacks a right of the least set.
 #[derive(Clone, Copy, Debug, PartialEq, Eq)]
 pub enum SettleError {
     Unsettled,
