@@ -20,6 +20,7 @@ use model::{Reason, require};
 use rights::{has_right, is_within};
 
 // Of the owner's type; owner 0 is none. ?R has the base that it is read with.
+#[tactic(auto, unfolding(model::specs::Rules::owned_by), using(crate::proofs::Laws::base_part))]
 pub fn is_owned(index: &Index, name: u64, owner: u8, j: u8) -> bool
     ensures { result ≡ owned_by owner (type_in index.now name j) }
 {
@@ -27,6 +28,7 @@ pub fn is_owned(index: &Index, name: u64, owner: u8, j: u8) -> bool
 }
 
 // The same, and no ?R, which is not read for it.
+#[tactic(auto, using(crate::proofs::Laws::amplifies_word))]
 pub fn is_amplified(index: &Index, owner: u8, j: u8) -> bool
     ensures { result ≡ amplifies owner (qual_in index.now j) }
 {
@@ -34,6 +36,7 @@ pub fn is_amplified(index: &Index, owner: u8, j: u8) -> bool
 }
 
 // Same shape and same rights, which an integer does not have, of the types of two words: all there is to ask but for two arrays.
+#[tactic(auto, unfolding(crate::specs::Words::same_heads))]
 fn is_same_head(v: u64, w: u64) -> bool
     ensures { result ≡ same_heads v w }
 {
@@ -41,6 +44,7 @@ fn is_same_head(v: u64, w: u64) -> bool
 }
 
 // Two arrays with the same rights: shape and rights stand side by side in their words, so that they are compared at once.
+#[tactic(auto, using(crate::proofs::Laws::heads_at_once))]
 fn is_same_array(v: u64, w: u64) -> bool
     ensures { result ≡ (eqb (shape_of v) 1 && same_heads v w) }
 {
@@ -48,6 +52,7 @@ fn is_same_array(v: u64, w: u64) -> bool
 }
 
 // The word of an array's element, by the number in the array's own word, w. That number falls; one that does not is read as an integer.
+#[tactic(auto, using(crate::proofs::Laws::element_word_there, crate::proofs::Laws::element_word_none))]
 fn element_word(index: &Index, w: u64, j: u8) -> u64
     requires { ElementThere w j }
     ensures { result ≡ word_in index.now (element_below w j) }
@@ -62,6 +67,7 @@ fn element_word(index: &Index, w: u64, j: u8) -> u64
 // Equal all the way down, from the inside out (document 02, S-2): the elements answer first, and only then are shape and rights around them compared. The
 // way down asks no more than whether there is a level below. v and w are the words of the two types, i and j their numbers. By & and not by a branch, so that
 // the compiler makes a loop of it, which takes no stack.
+#[tactic(auto, using(crate::proofs::Laws::same_arrays, crate::proofs::Laws::same_others, crate::proofs::Laws::type_of_element, crate::proofs::Laws::element_there_below, crate::proofs::Laws::levels_fall))]
 fn equal_in(index: &Index, m: u64, i: u8, v: u64, n: u64, j: u8, w: u64) -> bool
     requires { ElementThere v i × ElementThere w j }
     ensures { result ≡ same (type_of index.now m i v) (type_of index.now n j w) }
@@ -76,6 +82,7 @@ fn equal_in(index: &Index, m: u64, i: u8, v: u64, n: u64, j: u8, w: u64) -> bool
 }
 
 // Equal shapes, or ?R and a type of its base: all there is to ask but of the elements of two arrays. v and w are the words of two types, as they are read.
+#[tactic(auto, unfolding(crate::specs::Words::one_named, crate::specs::Words::alike_heads), using(crate::proofs::Laws::shape_small))]
 fn is_alike_head(v: u64, w: u64) -> bool
     ensures { result ≡ alike_heads v w }
 {
@@ -88,6 +95,7 @@ fn is_alike_head(v: u64, w: u64) -> bool
 }
 
 // The rights of the type of a word, w, are among those of another, v; only ?R reaches ?R.
+#[tactic(auto, unfolding(crate::specs::Words::covered_heads))]
 fn is_covered(v: u64, w: u64) -> bool
     ensures { result ≡ covered_heads v w }
 {
@@ -106,6 +114,7 @@ fn is_array_above(v: u64, w: u64) -> bool
 
 // What is asked of the elements of two arrays, by whether the second array has store (document 02, S-3): with it they are equal, all the way down; without it
 // they are ≥, and where they are arrays themselves their own store tells what is asked below. From the inside out as `equal_in` is.
+#[tactic(auto, unfolding(model::specs::Qualified::elements), using(crate::proofs::Laws::order_arrays, crate::proofs::Laws::order_others, crate::proofs::Laws::type_of_element, crate::proofs::Laws::element_there_below, crate::proofs::Laws::levels_fall))]
 fn agree_in(index: &Index, stores: bool, m: u64, i: u8, v: u64, n: u64, j: u8, w: u64) -> bool
     requires { ElementThere v i × ElementThere w j }
     ensures { result ≡ elements stores (type_of index.now m i v) (type_of index.now n j w) }
@@ -134,6 +143,7 @@ fn agree_in(index: &Index, stores: bool, m: u64, i: u8, v: u64, n: u64, j: u8, w
 }
 
 // The same of QT i and QT j. Two names of one QT, read alike, agree at once.
+#[tactic(auto, using(crate::proofs::Laws::type_of_lem, crate::proofs::Laws::element_there, model::proofs::Order::elements_refl))]
 pub fn elements_agree(index: &Index, stores: bool, m: u64, i: u8, n: u64, j: u8) -> bool
     ensures { result ≡ elements stores (type_in index.now m i) (type_in index.now n j) }
 {
@@ -152,6 +162,7 @@ pub fn elements_agree(index: &Index, stores: bool, m: u64, i: u8, n: u64, j: u8)
     )
 }
 
+#[tactic(auto, unfolding(model::specs::Qualified::elements))]
 pub fn equal(index: &Index, m: u64, i: u8, n: u64, j: u8) -> bool
     ensures { result ≡ same (type_in index.now m i) (type_in index.now n j) }
 {
@@ -188,6 +199,7 @@ fn movement_of_words(index: &Index, m: u64, i: u8, n: u64, j: u8) -> Result<(), 
 }
 
 // A QT read alike as two names, as one without ?R always is.
+#[tactic(auto, using(crate::proofs::Laws::read_alike))]
 fn is_read_alike(index: &Index, m: u64, n: u64, i: u8) -> bool
     requires { UsesTold index.now }
     ensures { result ≡ true → type_in index.now m i ≡ type_in index.now n i }
@@ -197,6 +209,7 @@ fn is_read_alike(index: &Index, m: u64, n: u64, i: u8) -> bool
 
 // The refusal of a movement from QT i to QT j: of type, then of rights; none where the type moves to itself. Two calls, so that the compiler keeps the words
 // out of the way of most movements, which are of one type.
+#[tactic(auto, using(crate::proofs::Laws::moves_itself))]
 pub fn movement_in(index: &Index, m: u64, i: u8, n: u64, j: u8) -> Result<(), Reason>
     requires { UsesTold index.now }
     ensures { result ≡ failure (moves (type_in index.now m i) (type_in index.now n j)) }
@@ -211,6 +224,7 @@ pub fn movement_in(index: &Index, m: u64, i: u8, n: u64, j: u8) -> Result<(), Re
 }
 
 // The same in a sheet's index, which tells of ?R.
+#[tactic(auto, using(index::proofs::Ready::of_sheet))]
 pub fn movement(s: Sheet, m: u64, i: u8, n: u64, j: u8) -> Result<(), Reason>
     ensures { result ≡ failure (moves (type_in s.entry.index.now m i) (type_in s.entry.index.now n j)) }
 {
@@ -218,6 +232,7 @@ pub fn movement(s: Sheet, m: u64, i: u8, n: u64, j: u8) -> Result<(), Reason>
 }
 
 // QT i ≥ QT j.
+#[tactic(auto, using(model::proofs::Order::moves_order))]
 pub fn is_above(index: &Index, m: u64, i: u8, n: u64, j: u8) -> bool
     requires { UsesTold index.now }
     ensures { result ≡ order (type_in index.now m i) (type_in index.now n j) }

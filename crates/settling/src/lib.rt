@@ -30,7 +30,7 @@ enum Settles {
     To(u64),
 }
 
-// Why a call settles nothing: no set for ?R, or one that lacks a right of the least set.
+// Why a call is not settled: no need uses ?R, or two actuals settle it differently; or what is settled lacks a right of the least set.
 #[derive(Clone, Copy, Debug, PartialEq, Eq)]
 pub enum SettleError {
     Unsettled,
@@ -60,6 +60,7 @@ impl From<SettleError> for Halt {
 }
 
 // Rights without open.
+#[tactic(auto, unfolding(model::specs::Rights::less_open))]
 fn without_open(rights: u32) -> u32
     ensures { result ≡ less_open rights }
 {
@@ -67,6 +68,7 @@ fn without_open(rights: u32) -> u32
 }
 
 // Whether two names have the same.
+#[tactic(auto, using(crate::proofs::Laws::same_names))]
 fn is_same_name(m: u64, n: u64) -> bool
     ensures { result ≡ same (named_as m) (named_as n) }
 {
@@ -74,6 +76,7 @@ fn is_same_name(m: u64, n: u64) -> bool
 }
 
 // What an actual of type i settles, for a need of type j that is no array: n is what the procedure called reads ?R as, m what its caller does.
+#[tactic(auto, unfolding(index::specs::Types::shape_of))]
 fn settles_base(index: &Index, n: u64, j: u8, m: u64, i: u8) -> Settles
     requires { is_array (type_in index.now n j) ≡ false }
     ensures { SettlesIs (type_in index.now n j) (type_in index.now m i) result }
@@ -165,6 +168,7 @@ fn found_with(x: Found, r: Settles) -> Found
 }
 
 // The name of the least set of a procedure, from the one in which it reads ?R itself.
+#[tactic(auto, unfolding(crate::specs::Settles::least_name))]
 fn least_name(name: u64) -> u64
     ensures { result ≡ least_name name }
 {
@@ -172,6 +176,7 @@ fn least_name(name: u64) -> u64
 }
 
 // All actuals.
+#[tactic(auto, unfolding(sheet::specs::Layout::formals_at, model::specs::Generic::settlings))]
 fn found_by(s: Sheet, to: Scope, c: Scope, b: u8) -> Found
     ensures { FoundIs (named_as (least_name to.name)) (settlings (formals_at s.entry.bytes.now to.head) (need_as s.entry.bytes.now to) (λ j. inner_as s.entry.bytes.now c (b + j))) (some_uses (need_as s.entry.bytes.now to) 0 (formals_at s.entry.bytes.now to.head)) result }
 {

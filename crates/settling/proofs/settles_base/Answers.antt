@@ -1,8 +1,7 @@
 -- The shapes tell whether the need is ?R, and the actual the caller's ?R or a type of its base.
-use native.Mathlib.Omega.{arith}
 use mathlib.Core.Path.{sym, ◌∙◌}
 use borrow.Author.Tests.{leb-true, leb-false}
-use Rattle.index.specs.Types.{shape_of}
+use native.Mathlib.Omega.{arith}
 use Rattle.settling.proofs.Laws.{generic_shape, settles_unused, settles_named, settles_base, settles_nothing}
 use Rattle.settling.proofs.settles_base.Goals as goal
 
@@ -17,14 +16,6 @@ returns-then-b-shape c =
     let need = rw c.type_word_as-need.ensures at (leb-true _ _ (sym c.is_generic_type.ensures ∙ c.if-not-is_generic_type.false)) in
     let v = rw (c.shape_in-b.ensures, c.type_word_as-v.ensures, c.shape_in-shape.ensures, c.type_word_as-need.ensures) at c.if-b-shape.true in
     settles_named a.index.now a.n a.j a.m a.i need v
-
-pub overflow_add-b : goal.overflow_add-b
-unfolding shape_of
-overflow_add-b c = omega (arith, c.shape_in-b.ensures)
-
-pub overflow_cast-b : goal.overflow_cast-b
-unfolding shape_of
-overflow_cast-b c = omega (arith, c.if-b-shape-2.true, c.shape_in-shape.ensures)
 
 pub returns-then-b-shape-2 : goal.returns-then-b-shape-2
 returns-then-b-shape-2 c =
