@@ -1,10 +1,12 @@
 -- A new object is what is planned. Nothing here leaves room for a stuck definition.
-use Prim.Native.Nat.{ℕ, zero, suc, ◌-◌, ◌/◌, ◌%◌, ◌^◌, ◌<◌}
+use Prim.Native.Nat.{ℕ, ◌-◌, ◌/◌, ◌%◌, ◌^◌, ◌<◌}
 use mathlib.Core.Path.{◌≡◌, refl, sym, ap, ◌∙◌}
 use mathlib.Core.Bool.{Bool, true, false, cond, false≢true}
 use mathlib.Core.List.{List}
 use lib.Dec.{eqb}
 use lib.ListN.{length}
+use Rattle.std.specs.Prelude.{Result, Ok, Err}
+use Rattle.model.specs.declared.Halt.{Halt}
 use Rattle.model.specs.Rights.{array_rights, record_rights}
 use Rattle.model.specs.Qualified.{Qual, declared, generic, base, rights, element, is_array, is_generic}
 use Rattle.model.specs.Generic.{instance}
@@ -19,14 +21,11 @@ use Rattle.sheet.specs.Meaning.{program_of, qual_of}
 use Rattle.index.specs.Types.{named_as}
 use Rattle.index.specs.declared.procedures.Scope.{Scope}
 use Rattle.words.specs.Answers.{halted, number_as}
-use Rattle.words.specs.declared.Number.{Number}
-use Rattle.words.specs.declared.Number.TheVariants as N
 use Rattle.binding.specs.Binds.{InScope}
 use Rattle.watched_plan.specs.Spots.{made, size_for}
 use Rattle.writers.specs.declared.Registers.{Registers}
-use Rattle.writers.specs.declared.Stepped.{Stepped}
 use Rattle.writers.specs.Memory.{Given, SeesIn}
-use Rattle.writers.specs.Steps.{Does, array_effect, record_effect}
+use Rattle.writers.specs.Steps.{Stepped, Does, array_effect, record_effect}
 use Rattle.writers.proofs.Effects.{halted_then}
 use Rattle.writers.proofs.Planned.{array_there, record_there}
 use Rattle.writers.proofs.View.{room_is}
@@ -50,31 +49,24 @@ module _ (s input words words' before out : List ℕ) (r : Registers) (o : Stepp
 
 -- ---- a new object
 
-made_none : (q : Qual) (k : ℕ) → k ≡ 0 → made q k ≡ ok (rights q)
-unfolding made
-made_none q k e = rw e
+module _ (room a n : ℕ) (q : Qual) {e : Result (Unit {0}) Halt} (fits : n < room) where
+  module _ (is : made q e ≡ bind watched q (array_kind (element q)) array_rights) where
+    pub array_made : {u : Unit {0}} → e ≡ Ok u → array_effect watched room a q (Ok n) ≡ ok (M.new_array a (element q) n (rights q))
+    unfolding made ◌>>=◌
+    array_made was = array_there watched room a n q fits ∙ rw (sym is, was)
 
-made_stop : (q : Qual) (k : ℕ) → (k ≡ 0 → ⊥) → made q k ≡ halted watched k
-unfolding made
-made_stop q zero n = absurd (n refl)
-made_stop q (suc k) n = refl
+    pub array_refused : {k : Halt} → e ≡ Err k → array_effect watched room a q (Ok n) ≡ halted watched k
+    unfolding made
+    array_refused {k} was = array_there watched room a n q fits ∙ rw (sym is, was) (halted_then watched k (λ t. ok (M.new_array a (element q) n t)))
 
-module _ (room a n k : ℕ) (q : Qual) (fits : n < room) where
-  module _ (is : made q k ≡ bind watched q (array_kind (element q)) array_rights) where
-    pub array_made : k ≡ 0 → array_effect watched room a q (N.Is n) ≡ ok (M.new_array a (element q) n (rights q))
-    unfolding ◌>>=◌
-    array_made e = array_there watched room a n q fits ∙ rw (sym is ∙ made_none q k e)
+  module _ (t named : ℕ) (is : made q e ≡ bind watched q (record_kind t) (record_rights named)) where
+    pub record_made : {u : Unit {0}} → e ≡ Ok u → record_effect watched room a q t named n ≡ ok (M.new_record a t n (rights q))
+    unfolding made ◌>>=◌
+    record_made was = record_there watched room a q t named n fits ∙ rw (sym is, was)
 
-    pub array_refused : (k ≡ 0 → ⊥) → array_effect watched room a q (N.Is n) ≡ halted watched k
-    array_refused e = array_there watched room a n q fits ∙ rw (sym is ∙ made_stop q k e) (halted_then watched k (λ t. ok (M.new_array a (element q) n t)))
-
-  module _ (t named : ℕ) (is : made q k ≡ bind watched q (record_kind t) (record_rights named)) where
-    pub record_made : k ≡ 0 → record_effect watched room a q t named n ≡ ok (M.new_record a t n (rights q))
-    unfolding ◌>>=◌
-    record_made e = record_there watched room a q t named n fits ∙ rw (sym is ∙ made_none q k e)
-
-    pub record_refused : (k ≡ 0 → ⊥) → record_effect watched room a q t named n ≡ halted watched k
-    record_refused e = record_there watched room a q t named n fits ∙ rw (sym is ∙ made_stop q k e) (halted_then watched k (λ x. ok (M.new_record a t n x)))
+    pub record_refused : {k : Halt} → e ≡ Err k → record_effect watched room a q t named n ≡ halted watched k
+    unfolding made
+    record_refused {k} was = record_there watched room a q t named n fits ∙ rw (sym is, was) (halted_then watched k (λ x. ok (M.new_record a t n x)))
 
 -- as the definition plans them
 tested_then : {A B : Type 0} (x : Res A) (d : Res (Unit {0})) (f : A → Res B) → ((x >>= λ n. (d >> ok n)) >>= f) ≡ (x >>= λ n. (d >> f n))
@@ -85,7 +77,7 @@ tested_then (ok n) stuck f = refl
 tested_then (stop t) d f = refl
 tested_then stuck d f = refl
 
-pub arrays : (g : Program) (v : View watched) (a b : ℕ) (n : Number) {q : Qual} {room : ℕ} → declared_as watched g v a ≡ q → room ≡ v.room
+pub arrays : (g : Program) (v : View watched) (a b : ℕ) (n : Result ℕ Halt) {q : Qual} {room : ℕ} → declared_as watched g v a ≡ q → room ≡ v.room
     → number_as watched n ≡ size_for g v q b
     → array_effect watched room a q n ≡ plan watched g v (Op.NewArray a b)
 unfolding plan plan_array array_effect size_for

@@ -2,23 +2,23 @@
 // frame.
 #![tactic(auto)]
 
-ghost use Rattle.std.specs.Prelude.{List, ℕ, ◌-◌, ◌<◌, length, ◌≡◌, false};
+ghost use Rattle.std.specs.Prelude.{List, ℕ, ◌-◌, ◌<◌, length, ◌≡◌, false, Ok};
 ghost use Rattle.model.specs.Qualified.{is_generic};
 ghost use Rattle.model.specs.Modes.{watched};
 ghost use Rattle.model.specs.declared.Operation.TheVariants as Op;
 ghost use Rattle.index.specs.Types.{named_as};
 ghost use Rattle.index.specs.Indexed.{Ready};
-ghost use Rattle.words.specs.declared.Number.TheVariants.{Is};
-ghost use Rattle.watched_plan.specs.Plans.{PlansNumber, PlansMoved, PlansStored, PlansStore};
 ghost use Rattle.form.specs.Named.{Named};
-ghost use Rattle.writers.specs.Memory.{Sane, variables_in, frame_part, object_part};
+ghost use Rattle.writers.specs.Memory.{Sane, variables_in};
 ghost use Rattle.frames.specs.Performs.{PerformsInside};
 ghost use Rattle.watched_calls.specs.Calls.{ScopeHere};
 ghost use Rattle.watched_objects.specs.Objects.{array_for, record_for, DoesInside};
 
 use index::Index;
 use index::procedures::Scope;
+use index::sheets::Sheet;
 use index::types::{name_base, name_rights};
+use model::Halt;
 use sheet::bytes::byte;
 use sheet::fields::field;
 use sheet::places::type_at;
@@ -26,190 +26,64 @@ use watched_plan::{
     array_made_as, declared_element, declared_rights, fetch_guarded, get_guarded, record_made_as,
     set_slot_guarded, size_guarded, sized, store_guarded,
 };
-use words::{Moved, Number, Stored, array_word, object_word, record_word};
-use writers::{Registers, Stepped, allot, frame_end, give_moved, give_number, store_cell};
-
-// What is read of the running frame's part of the memory and of the objects' part.
-fn fetch_in(
-    s: &[u8],
-    index: &Index,
-    p: Scope,
-    memory: &[u64],
-    r: Registers,
-    a: u8,
-    b: u8,
-    c: u8,
-) -> Moved
-    requires ready { Ready s.now index.now }
-    requires sane { Sane (length memory.now) r }
-    requires b_bound { (b < variables_in r) × (c < variables_in r) }
-    ensures { PlansMoved s.now p (frame_part r memory.now) (object_part r memory.now) (Op.Fetch a b c) a result }
-{
-    let base = r.base;
-    let end = frame_end(r);
-    let used = r.used;
-    fetch_guarded(s, index, p, &memory[base..end], &memory[..used], a, b, c)
-}
-
-fn store_in(index: &Index, memory: &[u64], r: Registers, a: u8, b: u8, c: u8) -> Stored
-    requires sane { Sane (length memory.now) r }
-    requires a_bound { (a < variables_in r) × ((b < variables_in r) × (c < variables_in r)) }
-    ensures { (s : List ℕ) → Ready s index.now → PlansStore s (frame_part r memory.now) (object_part r memory.now) (Op.Store a b c) result }
-{
-    let base = r.base;
-    let end = frame_end(r);
-    let used = r.used;
-    store_guarded(index, &memory[base..end], &memory[..used], a, b, c)
-}
-
-fn size_in(s: &[u8], index: &Index, p: Scope, memory: &[u64], r: Registers, a: u8, b: u8) -> Number
-    requires ready { Ready s.now index.now }
-    requires sane { Sane (length memory.now) r }
-    requires b_bound { b < variables_in r }
-    ensures { PlansNumber s.now p (frame_part r memory.now) (object_part r memory.now) (Op.Size a b) a result }
-{
-    let base = r.base;
-    let end = frame_end(r);
-    let used = r.used;
-    size_guarded(s, index, p, &memory[base..end], &memory[..used], a, b)
-}
-
-fn get_in(
-    s: &[u8],
-    index: &Index,
-    p: Scope,
-    memory: &[u64],
-    r: Registers,
-    a: u8,
-    b: u8,
-    k: u16,
-) -> Moved
-    requires ready { Ready s.now index.now }
-    requires sane { Sane (length memory.now) r }
-    requires b_bound { b < variables_in r }
-    ensures { PlansMoved s.now p (frame_part r memory.now) (object_part r memory.now) (Op.GetSlot a b k) a result }
-{
-    let base = r.base;
-    let end = frame_end(r);
-    let used = r.used;
-    get_guarded(s, index, p, &memory[base..end], &memory[..used], a, b, k)
-}
-
-fn set_in(
-    s: &[u8],
-    index: &Index,
-    p: Scope,
-    memory: &[u64],
-    r: Registers,
-    a: u8,
-    b: u8,
-    k: u16,
-) -> Stored
-    requires ready { Ready s.now index.now }
-    requires sane { Sane (length memory.now) r }
-    requires a_bound { (a < variables_in r) × (b < variables_in r) }
-    ensures { PlansStored s.now p (frame_part r memory.now) (object_part r memory.now) (Op.SetSlot a b k) result }
-{
-    let base = r.base;
-    let end = frame_end(r);
-    let used = r.used;
-    set_slot_guarded(s, index, p, &memory[base..end], &memory[..used], a, b, k)
-}
+use words::{array_word, object_word, record_word};
+use writers::{Next, Registers, Stepped, allot, give_moved, give_number, parts, store_cell};
 
 // A new array of n cells, where there is room for it, bound to variable a.
 fn give_array(
-    s: &[u8],
-    index: &Index,
+    s: Sheet,
     p: Scope,
     memory: &mut [u64],
     r: Registers,
     a: u8,
-    n: Number,
+    n: Result<u32, Halt>,
 ) -> Stepped
-    requires ready { Ready s.now index.now }
     requires sane { Sane (length memory.old) r }
     requires next_bound { r.next < 1000 }
     requires a_bound { a < variables_in r }
-    ensures { is_generic (named_as p.name) ≡ false → DoesInside s.now memory.old memory.new r result (array_for s.now p r a n) }
+    ensures { is_generic (named_as p.name) ≡ false → DoesInside s.entry.bytes.now memory.old memory.new r result (array_for s.entry.bytes.now p r a n) }
 {
-    match n {
-        Number::Is(x) => {
-            if (x as usize) < r.base - r.used {
-                return make_array(s, index, p, memory, r, a, x);
-            }
-            Stepped::Halt(17)
-        }
-        Number::Halt(k) => Stepped::Halt(k),
+    let x = n?;
+    if r.base - r.used <= (x as usize) {
+        return Err(Halt::MemoryFull);
     }
+    make_array(s, p, memory, r, a, x)
 }
 
 // The same where there is room.
-fn make_array(
-    s: &[u8],
-    index: &Index,
-    p: Scope,
-    memory: &mut [u64],
-    r: Registers,
-    a: u8,
-    n: u32,
-) -> Stepped
-    requires ready { Ready s.now index.now }
+fn make_array(s: Sheet, p: Scope, memory: &mut [u64], r: Registers, a: u8, n: u32) -> Stepped
     requires sane { Sane (length memory.old) r }
     requires next_bound { r.next < 1000 }
     requires a_bound { a < variables_in r }
     requires n_bound { n < r.base - r.used }
-    ensures { is_generic (named_as p.name) ≡ false → DoesInside s.now memory.old memory.new r result (array_for s.now p r a (Is n)) }
+    ensures { is_generic (named_as p.name) ≡ false → DoesInside s.entry.bytes.now memory.old memory.new r result (array_for s.entry.bytes.now p r a (Ok n)) }
 {
-    let stop = array_made_as(s, index, p, a);
-    if stop == 0 {
-        let element = declared_element(s, index, p, a);
-        let head = array_word(n, element, name_base(p.name), name_rights(p.name));
-        let name = object_word(r.used as u32, declared_rights(s, index, p, a));
-        return Stepped::Enter(allot(memory, r, a, head, n, name));
-    }
-    Stepped::Halt(stop)
+    array_made_as(s, p, a)?;
+    let element = declared_element(s, p, a);
+    let head = array_word(n, element, name_base(p.name), name_rights(p.name));
+    let name = object_word(r.used as u32, declared_rights(s, p, a));
+    Ok(Next::Enter(allot(memory, r, a, head, n, name)))
 }
 
-pub fn new_array(
-    s: &[u8],
-    index: &Index,
-    p: Scope,
-    memory: &mut [u64],
-    r: Registers,
-    a: u8,
-    b: u8,
-) -> Stepped
-    requires ready { Ready s.now index.now }
+pub fn new_array(s: Sheet, p: Scope, memory: &mut [u64], r: Registers, a: u8, b: u8) -> Stepped
     requires sane { Sane (length memory.old) r }
     requires next_bound { r.next < 1000 }
     requires named { Named (variables_in r) (Op.NewArray a b) }
-    requires scope_here { ScopeHere s.now memory.old r p }
-    ensures { PerformsInside watched s.now memory.old memory.new r result (Op.NewArray a b) }
+    requires scope_here { ScopeHere s.bytes.now memory.old r p }
+    ensures { PerformsInside watched s.entry.bytes.now memory.old memory.new r result (Op.NewArray a b) }
 {
-    let base = r.base;
-    let end = frame_end(r);
-    let n = sized(s, index, p, &memory[base..end], a, b);
-    give_array(s, index, p, memory, r, a, n)
+    let n = sized(s, p, parts(memory, r).frame, a, b);
+    give_array(s, p, memory, r, a, n)
 }
 
-pub fn fetch(
-    s: &[u8],
-    index: &Index,
-    p: Scope,
-    memory: &mut [u64],
-    r: Registers,
-    a: u8,
-    b: u8,
-    c: u8,
-) -> Stepped
-    requires ready { Ready s.now index.now }
+pub fn fetch(s: Sheet, p: Scope, memory: &mut [u64], r: Registers, a: u8, b: u8, c: u8) -> Stepped
     requires sane { Sane (length memory.old) r }
     requires next_bound { r.next < 1000 }
     requires named { Named (variables_in r) (Op.Fetch a b c) }
-    requires scope_here { ScopeHere s.now memory.old r p }
-    ensures { PerformsInside watched s.now memory.old memory.new r result (Op.Fetch a b c) }
+    requires scope_here { ScopeHere s.bytes.now memory.old r p }
+    ensures { PerformsInside watched s.entry.bytes.now memory.old memory.new r result (Op.Fetch a b c) }
 {
-    let m = fetch_in(s, index, p, memory, r, a, b, c);
+    let m = fetch_guarded(s, p, parts(memory, r), a, b, c);
     give_moved(memory, r, a, m)
 }
 
@@ -219,81 +93,51 @@ pub fn store(index: &Index, memory: &mut [u64], r: Registers, a: u8, b: u8, c: u
     requires named { Named (variables_in r) (Op.Store a b c) }
     ensures { (s : List ℕ) → Ready s index.now → PerformsInside watched s memory.old memory.new r result (Op.Store a b c) }
 {
-    let m = store_in(index, memory, r, a, b, c);
+    let m = store_guarded(index, parts(memory, r), a, b, c);
     store_cell(memory, r, m)
 }
 
-pub fn size(
-    s: &[u8],
-    index: &Index,
-    p: Scope,
-    memory: &mut [u64],
-    r: Registers,
-    a: u8,
-    b: u8,
-) -> Stepped
-    requires ready { Ready s.now index.now }
+pub fn size(s: Sheet, p: Scope, memory: &mut [u64], r: Registers, a: u8, b: u8) -> Stepped
     requires sane { Sane (length memory.old) r }
     requires next_bound { r.next < 1000 }
     requires named { Named (variables_in r) (Op.Size a b) }
-    requires scope_here { ScopeHere s.now memory.old r p }
-    ensures { PerformsInside watched s.now memory.old memory.new r result (Op.Size a b) }
+    requires scope_here { ScopeHere s.bytes.now memory.old r p }
+    ensures { PerformsInside watched s.entry.bytes.now memory.old memory.new r result (Op.Size a b) }
 {
-    let n = size_in(s, index, p, memory, r, a, b);
+    let n = size_guarded(s, p, parts(memory, r), a, b);
     give_number(memory, r, a, n)
 }
 
 // A new record of the owner's type, of n slots, where there is room for it, bound to variable a.
-fn make_record(
-    s: &[u8],
-    index: &Index,
-    p: Scope,
-    memory: &mut [u64],
-    r: Registers,
-    a: u8,
-    n: u32,
-) -> Stepped
-    requires ready { Ready s.now index.now }
+fn make_record(s: Sheet, p: Scope, memory: &mut [u64], r: Registers, a: u8, n: u32) -> Stepped
     requires sane { Sane (length memory.old) r }
     requires next_bound { r.next < 1000 }
     requires a_bound { a < variables_in r }
     requires n_bound { n < r.base - r.used }
-    ensures { DoesInside s.now memory.old memory.new r result (record_for s.now p r a n) }
+    ensures { DoesInside s.entry.bytes.now memory.old memory.new r result (record_for s.entry.bytes.now p r a n) }
 {
-    let stop = record_made_as(s, index, p, a);
-    if stop == 0 {
-        let head = record_word(n, field(s, p.head, 2));
-        let name = object_word(r.used as u32, declared_rights(s, index, p, a));
-        return Stepped::Enter(allot(memory, r, a, head, n, name));
-    }
-    Stepped::Halt(stop)
+    record_made_as(s, p, a)?;
+    let head = record_word(n, field(s.bytes, p.head, 2));
+    let name = object_word(r.used as u32, declared_rights(s, p, a));
+    Ok(Next::Enter(allot(memory, r, a, head, n, name)))
 }
 
-pub fn new_record(
-    s: &[u8],
-    index: &Index,
-    p: Scope,
-    memory: &mut [u64],
-    r: Registers,
-    a: u8,
-) -> Stepped
-    requires ready { Ready s.now index.now }
+pub fn new_record(s: Sheet, p: Scope, memory: &mut [u64], r: Registers, a: u8) -> Stepped
     requires sane { Sane (length memory.old) r }
     requires next_bound { r.next < 1000 }
     requires named { Named (variables_in r) (Op.NewRecord a) }
-    requires scope_here { ScopeHere s.now memory.old r p }
-    ensures { PerformsInside watched s.now memory.old memory.new r result (Op.NewRecord a) }
+    requires scope_here { ScopeHere s.bytes.now memory.old r p }
+    ensures { PerformsInside watched s.entry.bytes.now memory.old memory.new r result (Op.NewRecord a) }
 {
-    let n = byte(s, type_at(field(s, p.head, 2)), 3) as u32;
-    if (n as usize) < r.base - r.used {
-        return make_record(s, index, p, memory, r, a, n);
+    let n = u32::from(byte(s.bytes, type_at(field(s.bytes, p.head, 2)), 3));
+    if r.base - r.used <= (n as usize) {
+        return Err(Halt::MemoryFull);
     }
-    Stepped::Halt(17)
+    make_record(s, p, memory, r, a, n)
 }
 
 pub fn get_slot(
-    s: &[u8],
-    index: &Index,
+    s: Sheet,
     p: Scope,
     memory: &mut [u64],
     r: Registers,
@@ -301,20 +145,18 @@ pub fn get_slot(
     b: u8,
     k: u16,
 ) -> Stepped
-    requires ready { Ready s.now index.now }
     requires sane { Sane (length memory.old) r }
     requires next_bound { r.next < 1000 }
     requires named { Named (variables_in r) (Op.GetSlot a b k) }
-    requires scope_here { ScopeHere s.now memory.old r p }
-    ensures { PerformsInside watched s.now memory.old memory.new r result (Op.GetSlot a b k) }
+    requires scope_here { ScopeHere s.bytes.now memory.old r p }
+    ensures { PerformsInside watched s.entry.bytes.now memory.old memory.new r result (Op.GetSlot a b k) }
 {
-    let m = get_in(s, index, p, memory, r, a, b, k);
+    let m = get_guarded(s, p, parts(memory, r), a, b, k);
     give_moved(memory, r, a, m)
 }
 
 pub fn set_slot(
-    s: &[u8],
-    index: &Index,
+    s: Sheet,
     p: Scope,
     memory: &mut [u64],
     r: Registers,
@@ -322,13 +164,12 @@ pub fn set_slot(
     b: u8,
     k: u16,
 ) -> Stepped
-    requires ready { Ready s.now index.now }
     requires sane { Sane (length memory.old) r }
     requires next_bound { r.next < 1000 }
     requires named { Named (variables_in r) (Op.SetSlot a b k) }
-    requires scope_here { ScopeHere s.now memory.old r p }
-    ensures { PerformsInside watched s.now memory.old memory.new r result (Op.SetSlot a b k) }
+    requires scope_here { ScopeHere s.bytes.now memory.old r p }
+    ensures { PerformsInside watched s.entry.bytes.now memory.old memory.new r result (Op.SetSlot a b k) }
 {
-    let m = set_in(s, index, p, memory, r, a, b, k);
+    let m = set_slot_guarded(s, p, parts(memory, r), a, b, k);
     store_cell(memory, r, m)
 }

@@ -2,12 +2,11 @@
 use Rattle.model.specs.Modes.{watched}
 use Rattle.sheet.specs.Meaning.{qual_of}
 use Rattle.words.specs.Answers.{moved_to}
-use Rattle.watched_calls.proofs.Laws.{performs_seeing}
+use Rattle.watched_calls.proofs.Laws.{performs_reading}
 use Rattle.watched_objects.proofs.fetch.Goals as goal
 
 pub returns : goal.returns
 returns c =
-    let args = c.args in
-    let give-moved = c.give_moved in
-    let fetch-in = c.fetch_in-m in
-    λ input out. performs_seeing args.s.now input args.memory.now give-moved.new.memory out out args.r give-moved.result _ (λ z. moved_to watched (qual_of z) args.a fetch-in.result) (λ d q. give-moved.ensures watched d out fetch-in.ensures.0) c.requires.scope_here fetch-in.ensures.1
+    let a = c.args in
+    let asked = c.fetch_guarded-m in
+    λ input out. performs_reading a.s.bytes.now input a.memory.now c.give_moved.new.memory out out a.r c.give_moved.result _ (λ z. moved_to watched (qual_of z) a.a asked.result) (λ d q. c.give_moved.ensures watched d out asked.ensures.0) c.parts.ensures.frame c.parts.ensures.objects c.requires.scope_here asked.ensures.1

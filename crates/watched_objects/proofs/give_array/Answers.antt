@@ -1,25 +1,20 @@
 -- The test is that of the definition: an array of x cells takes x + 1 units.
-use native.Mathlib.Omega.{arith}
 use Rattle.model.specs.Modes.{watched}
-use Rattle.model.specs.Outcome.{memory_full}
+use Rattle.model.specs.declared.Halt.TheVariants.{MemoryFull}
+use Rattle.binding.proofs.Laws.{exit_is}
 use Rattle.writers.proofs.Effects.{does_stop, does_halt}
 use Rattle.writers.proofs.Planned.{array_full, array_halt}
 use Rattle.watched_objects.proofs.give_array.Goals as goal
 
-pub make_array-requires : goal.make_array-requires
-make_array-requires c =
-    record { ready = c.requires.ready; sane = c.requires.sane; next_bound = c.requires.next_bound; a_bound = c.requires.a_bound; n_bound = omega arith }
+pub returns-in_err-x : goal.returns-in_err-x
+returns-in_err-x c =
+    rw (exit_is c.from_residual.ensures.1)
+    (λ plain d out q. rw (c.in_err-x.was, array_halt) (does_halt watched d _ out c.args.r _))
 
-pub returns-then-x-r : goal.returns-then-x-r
-returns-then-x-r c =
-    λ plain d out q. rw c.in-Is.is (c.make_array.ensures plain d out q)
+pub returns-then-r-x : goal.returns-then-r-x
+returns-then-r-x c =
+    λ plain d out q. rw (c.in_ok-x.was, array_full watched _ _ _ _ c.if-r-x.true) (does_stop watched d _ out c.args.r MemoryFull)
 
-pub returns-else-x-r : goal.returns-else-x-r
-returns-else-x-r c =
-    let first-test = c.if-x-r in
-    let args = c.args in
-    λ plain d out q. rw (c.in-Is.is, array_full watched _ _ _ _ first-test.false) (does_stop watched d _ out args.r memory_full)
-
-pub returns-in-Halt : goal.returns-in-Halt
-returns-in-Halt c =
-    λ plain d out q. rw (c.in-Halt.is, array_halt) (does_halt watched d _ out c.args.r _)
+pub returns : goal.returns
+returns c =
+    λ plain d out q. rw c.in_ok-x.was (c.make_array.ensures plain d out q)

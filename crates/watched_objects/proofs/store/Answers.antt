@@ -2,13 +2,13 @@
 use Rattle.model.specs.Modes.{watched}
 use Rattle.sheet.specs.Meaning.{qual_of}
 use Rattle.words.specs.Answers.{stored}
-use Rattle.frames.proofs.Performs.{sees}
+use Rattle.frames.proofs.Performs.{sees, sees_parts}
 use Rattle.watched_calls.proofs.Laws.{performs_exactly}
 use Rattle.watched_objects.proofs.store.Goals as goal
 
 pub returns : goal.returns
 returns c =
-    let args = c.args in
-    let store-cell = c.store_cell in
-    let store_in = c.store_in-m in
-    λ s ready input out. performs_exactly s input args.memory.now store-cell.new.memory out out args.r store-cell.result _ (λ z. stored watched (qual_of z) store_in.result) (λ d q. store-cell.ensures watched d out (store_in.ensures s ready).0) (λ d t q i S. (store_in.ensures s ready).1 _ (sees watched d s args.memory.now out args.r t q S))
+    let a = c.args in
+    let asked = c.store_guarded-m in
+    λ s ready input out. performs_exactly s input a.memory.now c.store_cell.new.memory out out a.r c.store_cell.result _ (λ z. stored watched (qual_of z) asked.result) (λ d q. c.store_cell.ensures watched d out (rw c.parts.ensures.objects at (asked.ensures s ready).0))
+    (λ d t q i S. (asked.ensures s ready).1 _ (sees_parts watched (qual_of s) _ a.memory.now a.r c.parts.ensures.frame c.parts.ensures.objects (sees watched d s a.memory.now out a.r t q S)))
