@@ -15,8 +15,8 @@ use form::FormedSheet;
 use frames::instructions_of;
 use index::procedures::procedure_in;
 use lent_step::count;
-use words::{clear, first_in, number_in, variables_in};
 use model::Halt;
+use words::{clear, first_in, number_in, variables_in};
 use writers::{Next, Registers};
 
 // Main's frame, at the end of the memory; no frame waits for it.

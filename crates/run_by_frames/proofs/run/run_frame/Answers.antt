@@ -1,6 +1,7 @@
 -- Of every run that has come to the frame's start, the registers stand for the state that it reaches in as many steps as they count; they are those of the
 -- same frame, in its scope, until a step enters another.
 use mathlib.Core.Path.{refl, sym, ap, ◌∙◌}
+use Rattle.std.proofs.Common.{Ok}
 use Rattle.lent_step.specs.Counts.{turned}
 use Rattle.run_by_frames.proofs.Turn.{begun_kept, same_code, sane, ready, halts, completes, keeps_on, enters}
 use Rattle.run_by_frames.proofs.Scope.{scope_stays}
@@ -37,7 +38,7 @@ loop-r-preserved g c =
     let l = c.loop-r.invariant in
     let u = c.loop-r-test.true in
     let r = c.loop-r.r in
-    let is = ap (turned r) c.in-Ok-Go.is in
+    let is = ap (turned r) (c.in-Ok-Go.is ∙ ap Ok c.in-Ok-Go.field-0-is) in
     let a = keeps_on c.args.s.formed l.1.1.1.0 c.requires.begun u c.turn.ensures c.turn.auto.memory c.turn.auto.output _ l.1.1.0 is in
     let h = l.0 in (
       omega arith,
@@ -70,7 +71,7 @@ pub returns-in-Ok-Enter : goal.returns-in-Ok-Enter
 returns-in-Ok-Enter g c =
     let l = c.loop-r.invariant in
     let u = c.loop-r-test.true in
-    let is = ap (turned c.loop-r.r) c.in-Ok-Enter.is in
+    let is = ap (turned c.loop-r.r) (c.in-Ok-Enter.is ∙ ap Ok c.in-Ok-Enter.field-0-is) in
     let h = l.0 in
     λ d G. rw c.count.ensures (omega arith, (omega arith, (enters _ _ _ c.args.s.formed _ d _ _ _ _ (l.1.1.1.0 d G) u _ _ _ c.turn.ensures c.turn.auto.memory c.turn.auto.output _ is).1))
 
@@ -88,7 +89,7 @@ pub returns-in-Err : goal.returns-in-Err
 returns-in-Err g c =
     let l = c.loop-r.invariant in
     let is = ap (turned c.loop-r.r) c.in-Err.is in
-    λ d G. rw c.ended.ensures (halts _ _ _ c.args.s.formed _ d _ _ _ _ (l.1.1.1.0 d G) c.loop-r-test.true _ _ _ c.turn.ensures _ is)
+    λ d G. rw c.ended-in-Err.ensures (halts _ _ _ c.args.s.formed _ d _ _ _ _ (l.1.1.1.0 d G) c.loop-r-test.true _ _ _ c.turn.ensures _ is)
 
 pub count-requires-in-Ok-Done : goal.count-requires-in-Ok-Done
 count-requires-in-Ok-Done g c = omega (arith, c.loop-r-test.true)
@@ -106,8 +107,8 @@ shape_of-output-in-Ok-Done g c =
 pub returns-in-Ok-Done : goal.returns-in-Ok-Done
 returns-in-Ok-Done g c =
     let l = c.loop-r.invariant in
-    let is = ap (turned c.loop-r.r) c.in-Ok-Done.is in
-    λ d G. rw (c.ended-in-Ok-Done.ensures, c.count-in-Ok-Done.ensures) (completes _ _ _ c.args.s.formed _ d _ _ _ _ (l.1.1.1.0 d G) c.loop-r-test.true _ _ _ c.turn.ensures is)
+    let is = ap (turned c.loop-r.r) (c.in-Ok-Done.is ∙ ap Ok c.in-Ok-Done.field-0-is) in
+    λ d G. rw (c.ended.ensures, c.count-in-Ok-Done.ensures) (completes _ _ _ c.args.s.formed _ d _ _ _ _ (l.1.1.1.0 d G) c.loop-r-test.true _ _ _ c.turn.ensures is)
 
 pub shape_of-memory : goal.shape_of-memory
 shape_of-memory g c = (begun_kept c.loop-r.invariant.1.1.1.0 c.requires.begun).long

@@ -1,6 +1,5 @@
 -- Main's variables are counted in its word of the index; with room for its frame the run is that of its frames with all the fuel, and else there is none.
 use Prim.Native.Nat.{ℕ, ◌+◌, ◌≤◌, ◌<◌}
-use mathlib.Core.List.{List}
 use mathlib.Core.Path.{◌≡◌, refl, ap, ◌∙◌}
 use lib.ListN.{length}
 use Rattle.model.specs.Run.{opened}
@@ -40,7 +39,7 @@ run_until-requires g c =
     -- where the run stands with main's frame open
     let going : Going g.M.Machine.mode (record { sheet = args.s.sheet.bytes.now; input = args.input.now; output = args.output.now }) (length start.new.memory) args.fuel start.new.memory args.output.now start.result =
     begins_frame (starts _ _ _ _ _ args.fuel args.s.formed h start.auto.memory start.ensures.steps_value (start.ensures.stands_for _ _ _) c.requires.never_stuck) in
-    begun going
+    record { begun = begun going }
 
 pub returns-in-Rest : goal.returns-in-Rest
 unfolding opened
