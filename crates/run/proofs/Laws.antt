@@ -13,7 +13,8 @@ use Rattle.form.specs.WellFormed.{form_tests}
 use Rattle.model.proofs.Verdicts.{left_accepted}
 use Rattle.checking.specs.Check.{check, check_tests}
 use Rattle.theorem.proofs.Condition3.{condition3_holds}
-use Rattle.run_by_frames.specs.Reply.{EndedIs, ended}
+use Rattle.model.specs.Outcome.{stop_number}
+use Rattle.run_by_frames.specs.Reply.{EndedIs, ended, ending_stop}
 use Rattle.run_by_frames.specs.Turn.{NeverStuck}
 use Rattle.run_by_frames.specs.declared.Ended.{Ended}
 use Rattle.run.specs.Run.{answered, stopped_at, ends}
@@ -21,7 +22,7 @@ use Rattle.run.specs.declared.Reply.{Reply}
 
 -- what is answered at an end that the machine's answer is
 pub answers : (memory output output' : List ℕ) (e : Ended) (r : Reply) (zeros : List ℕ) (x : End)
-    → r ≡ stopped_at e.number e.steps e.put e.procedure e.instruction → zeros ≡ replicate (length memory) 0 → EndedIs e output output' x
+    → r ≡ stopped_at (stop_number (ending_stop e.ending)) e.steps e.put e.procedure e.instruction → zeros ≡ replicate (length memory) 0 → EndedIs e output output' x
     → ends memory output x ≡ some (answered r zeros output')
 answers memory output output' e r zeros (stopped x n put p i) q z (ended a b c d f o) = rw (q, z, a, b, c, d, f, o)
 answers memory output output' e r zeros (stuck_at n put p i) q z x = elim x [ ]

@@ -8,6 +8,8 @@ use native.Mathlib.Omega.{arith}
 use borrow.Author.Tests.{leb-true}
 use lib.Dec.{leb}
 use lib.ListN.{length}
+use Rattle.std.specs.Prelude.{Ok, Err}
+use Rattle.model.specs.declared.Reason.{Reason}
 use Rattle.model.specs.Modes.{Mode, plain, watched}
 use Rattle.model.specs.Outcome.{Stop, done, fuel_spent, blank, past_end, input_ended, output_full, memory_full, wrong_kind, missing_right, stop_number}
 use Rattle.model.specs.Refusal.{Accepted, Refused, Verdict, between, Gives, verdict, refusal_number}
@@ -72,11 +74,11 @@ stop_any missing_right = (omega arith, omega arith)
 
 -- of an answer by a verdict, from what is known of its refusals and of its end
 module _ (m : Mode) (sheet input : List ℕ) (fuel : ℕ) (memory output : List ℕ) (P : ℕ → Type 0) where
-  says : (v : Verdict) → ((n at : ℕ) → v ≡ Refused n at → P n) → P 10
+  says : (v : Verdict) → ((n : Reason) (at : ℕ) → v ≡ Refused n at → P (refusal_number n)) → P 10
       → (v ≡ Accepted → memory_fits memory ≡ true → Says P (ends memory output (end m sheet input fuel memory output)))
       → Says P (answer_by m sheet input fuel memory output v)
-  says (Refused n at) r t e = r n at refl
-  says Accepted r t e = fit (memory_fits memory) refl
+  says (Err x) r t e = r x.reason x.place refl
+  says (Ok u) r t e = fit (memory_fits memory) refl
     where
       fit : (b : Bool) → memory_fits memory ≡ b
           → Says P (cond b (ends memory output (end m sheet input fuel memory output)) (refuses memory output (refusal_number BigMemory) 0))
@@ -104,7 +106,7 @@ pub run_numbers : RunNumbers
 unfolding answer
 run_numbers sheet input fuel memory output w =
     says plain sheet input fuel memory output AllBut18And19 (check sheet)
-    (λ n at e. let g : Gives check_number (Refused n at) = rw e at (check_numbers sheet) in check_gives n g)
+    (λ n at e. let g : Gives check_number (Refused n at) = rw e at (check_numbers sheet) in check_gives (refusal_number n) g)
     (inl (omega arith, omega arith))
     (λ a h. plain_end sheet input fuel memory output w a h (end plain sheet input fuel memory output) refl)
 
@@ -121,7 +123,7 @@ pub watch_numbers : WatchNumbers
 unfolding answer
 watch_numbers sheet input fuel memory output =
     says watched sheet input fuel memory output AllBut6To9 (verdict (form_tests sheet))
-    (λ n at e. let g : Gives form_number (Refused n at) = rw e at (verdict_range form_number (form_tests sheet) (form_range sheet)) in inl (between_true 1 5 n g))
+    (λ n at e. let g : Gives form_number (Refused n at) = rw e at (verdict_range form_number (form_tests sheet) (form_range sheet)) in inl (between_true 1 5 (refusal_number n) g))
     (inr (omega arith, omega arith))
     (λ a h. watched_end sheet input fuel memory output (end watched sheet input fuel memory output) refl)
 
@@ -142,5 +144,5 @@ any_memory m sheet input fuel memory memory' output same = by (verdict_before m 
     fit false e = (refl, refl)
 
     by : (v : Verdict) → Alike (answer_by m sheet input fuel memory output v) (answer_by m sheet input fuel memory' output v)
-    by (Refused n at) = (refl, refl)
-    by Accepted = rw same (fit (leb (length memory') 65536) (run m (program_of sheet) (length memory') (length output) input fuel))
+    by (Err r) = (refl, refl)
+    by (Ok u) = rw same (fit (leb (length memory') 65536) (run m (program_of sheet) (length memory') (length output) input fuel))

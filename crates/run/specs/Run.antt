@@ -1,10 +1,10 @@
 -- What `run` and `watch` say of any bytes, input, fuel, memory and output, and what they leave behind (document 01, "What check, run and watch say").
 -- They are one definition: the mode tells which machine runs, and what is refused first.
-use Rattle.std.specs.Prelude.{ℕ, Bool, cond, List, leb, length, replicate}
+use Rattle.std.specs.Prelude.{ℕ, Bool, cond, List, leb, length, replicate, Ok, Err}
 use Rattle.std.proofs.Math.Option.{Option, none, some}
 use Rattle.model.specs.Modes.{Mode, plain, watched}
 use Rattle.model.specs.Outcome.{stop_number}
-use Rattle.model.specs.Refusal.{Accepted, Refused, Verdict, refusal_number}
+use Rattle.model.specs.Refusal.{Verdict, refusal_number}
 use Rattle.model.specs.declared.Reason.TheVariants.{BigMemory}
 use Rattle.model.specs.Run.{End, stopped, stuck_at, run, written}
 use Rattle.sheet.specs.Meaning.{program_of}
@@ -54,8 +54,8 @@ module _ (m : Mode) (sheet input : List ℕ) (fuel : ℕ) (memory output : List 
   end = run m (program_of sheet) (length memory) (length output) input fuel
 
   abbrev pub answer_by : Verdict → Option Answer
-  answer_by (Refused n at) = refuses memory output n at
-  answer_by Accepted = cond (memory_fits memory) (ends memory output end) (refuses memory output (refusal_number BigMemory) 0)
+  answer_by (Err r) = refuses memory output (refusal_number r.reason) r.place
+  answer_by (Ok u) = cond (memory_fits memory) (ends memory output end) (refuses memory output (refusal_number BigMemory) 0)
 
   unfoldable pub answer : Option Answer
   answer = answer_by (verdict_before m sheet)

@@ -10,12 +10,12 @@ use Rattle.run.proofs.run_lent.Goals as goal
 pub returns-then-memory-gt65536 : goal.returns-then-memory-gt65536
 unfolding memory_fits
 returns-then-memory-gt65536 g c =
-    let f = lt-leb _ _ c.if-memory-gt65536.true in rw (f, c.refusal.ensures)
+    let f = lt-leb _ _ c.if-memory-gt65536.true in rw (f, c.from.ensures, c.at.ensures)
 
 pub run_in-e-requires : goal.run_in-e-requires
 unfolding end
 run_in-e-requires g c =
-    record { loaded = c.requires.loaded; memory_len_bound = c.if-memory-gt65536.false; never_stuck = c.requires.never_stuck c.if-memory-gt65536.false }
+    record { memory_len_bound = c.if-memory-gt65536.false; never_stuck = c.requires c.if-memory-gt65536.false }
 
 pub returns : goal.returns
 unfolding memory_fits end
@@ -23,4 +23,4 @@ returns g c =
     let f = le-leb _ _ c.if-memory-gt65536.false in
     let run_in = c.run_in-e in
     let zeros = c.clear.ensures ∙ ap (λ (n : ℕ). replicate n 0) run_in.auto.memory in
-    rw f (answers _ _ _ _ _ _ _ c.stop.ensures zeros run_in.ensures)
+    rw f (answers _ _ _ _ _ _ _ c.from-2.ensures zeros run_in.ensures)
