@@ -7,4 +7,4 @@ returns-in-Ok c =
 
 pub returns-in-Err : goal.returns-in-Err
 returns-in-Err c =
-    let e = sym c.check.ensures ∙ c.in-Err.is in record { value = rw e; reply_after = rw e c.write-in-Err.ensures }
+    let e = sym c.check.ensures ∙ c.in-Err.is in record { value = rw e (c.from.ensures ∙ c.number.ensures); reply_after = rw e c.write-in-Err.ensures }
