@@ -1,197 +1,149 @@
 // The pass over all records in their order for 6 to 9, 20 and 21, one loop a kind.
 ghost use Rattle.std.specs.Prelude.{◌≡◌};
-ghost use Rattle.model.specs.Refusal.{verdict, refuse, each};
+ghost use Rattle.model.specs.Refusal.{Accepted, verdict, refuse, each};
 ghost use Rattle.model.specs.Rules.{type_rules, qual_rules, head_rules, variable_rules, instruction_rules, procedure_rules, access_rules};
-ghost use Rattle.model.specs.declared.Verdict.TheVariants.{Accepted};
 ghost use Rattle.sheet.specs.Layout.{procedures_of, variables_field, instructions_at, instruction_at, procedure_at};
 ghost use Rattle.sheet.specs.Decode.{operation_at};
 ghost use Rattle.sheet.specs.Meaning.{program_of, place_of};
-ghost use Rattle.index.specs.Indexed.{Ready};
 ghost use Rattle.access.specs.Inner.Callees.{OwnScope, CalleeThere, CalleesAt, Callees};
 
-use declaration_rules::{element_rule, has_closed_result, slots_rule, variable_number};
-use index::Index;
+use declaration_rules::{element_rule, has_closed_result, slots_rule, variable_rule};
 use index::procedures::{Scope, own_scope, procedure_in};
-use instruction_rules::instruction_number;
-use model::Verdict;
-use order::require;
+use index::sheets::Sheet;
+use instruction_rules::instruction_rule;
+use model::{Reason, Verdict, record_verdict, require};
 use sheet::bytes::{byte, word};
 use sheet::decode::instruction_in;
 use sheet::fields::field;
 use sheet::places::{instruction_from, qual_at, variable_at};
 
-// The verdict of one record.
-fn refused(number: u8, at: usize) -> Verdict
-    ensures { result ≡ refuse number at Accepted }
-{
-    if number == 0 {
-        return Verdict::Accepted;
-    }
-    Verdict::Refused(number, at)
-}
-
 // TY number i.
-fn type_access(s: &[u8], index: &Index, i: u8) -> Verdict
-    requires { Ready s.now index.now }
-    ensures { result ≡ verdict (type_rules (place_of s.now) (program_of s.now) i) }
+fn type_access(s: Sheet, i: u8) -> Verdict
+    ensures { result ≡ verdict (type_rules (place_of s.entry.bytes.now) (program_of s.entry.bytes.now) i) }
 {
-    let at = 6 + 12 * (i as usize);
-    refused(slots_rule(s, index, at), at)
+    let at = 6 + 12 * usize::from(i);
+    record_verdict(slots_rule(s, at), at)
 }
 
-fn types_access(s: &[u8], index: &Index, n: u8) -> Verdict
-    requires { Ready s.now index.now }
-    ensures { result ≡ verdict (each n (type_rules (place_of s.now) (program_of s.now))) }
+#[tactic(auto, using(model::proofs::Verdicts::each_pass))]
+fn types_access(s: Sheet, n: u8) -> Verdict
+    ensures { result ≡ verdict (each n (type_rules (place_of s.entry.bytes.now) (program_of s.entry.bytes.now))) }
 {
-    let mut i: u8 = 0;
-    while i < n {
-        let v = type_access(s, index, i);
-        let Verdict::Accepted = v else {
-            return v;
-        };
-        i += 1;
+    for i in 0..n {
+        type_access(s, i)?;
     }
-    Verdict::Accepted
+    Ok(())
 }
 
-fn qual_access(s: &[u8], index: &Index, j: u8) -> Verdict
-    requires { Ready s.now index.now }
-    ensures { result ≡ verdict (qual_rules (place_of s.now) (program_of s.now) j) }
+#[tactic(auto, using(crate::proofs::Places::qual_verdict))]
+fn qual_access(s: Sheet, j: u8) -> Verdict
+    ensures { result ≡ verdict (qual_rules (place_of s.entry.bytes.now) (program_of s.entry.bytes.now) j) }
 {
-    refused(element_rule(index, j), qual_at(s, j))
+    record_verdict(element_rule(s.index, j), qual_at(s.encoded(), j))
 }
 
-fn quals_access(s: &[u8], index: &Index, n: u8) -> Verdict
-    requires { Ready s.now index.now }
-    ensures { result ≡ verdict (each n (qual_rules (place_of s.now) (program_of s.now))) }
+#[tactic(auto, using(model::proofs::Verdicts::each_pass))]
+fn quals_access(s: Sheet, n: u8) -> Verdict
+    ensures { result ≡ verdict (each n (qual_rules (place_of s.entry.bytes.now) (program_of s.entry.bytes.now))) }
 {
-    let mut j: u8 = 0;
-    while j < n {
-        let v = qual_access(s, index, j);
-        let Verdict::Accepted = v else {
-            return v;
-        };
-        j += 1;
+    for j in 0..n {
+        qual_access(s, j)?;
     }
-    Verdict::Accepted
+    Ok(())
 }
 
 // The PR of procedure p, at a place.
-fn head_access(s: &[u8], index: &Index, p: usize, pr: u32) -> Verdict
-    requires ready { Ready s.now index.now }
-    requires pr_value { pr ≡ procedure_at s.now p }
-    ensures { result ≡ verdict (head_rules (place_of s.now) (program_of s.now) p) }
+#[tactic(auto, unfolding(model::specs::Refusal::verdict, model::specs::Refusal::refuse, model::specs::Refusal::failure, model::specs::Rules::head_rules))]
+fn head_access(s: Sheet, p: usize, pr: u32) -> Verdict
+    requires pr_value { pr ≡ procedure_at s.bytes.now p }
+    ensures { result ≡ verdict (head_rules (place_of s.entry.bytes.now) (program_of s.entry.bytes.now) p) }
 {
-    refused(require(has_closed_result(s, index, pr), 6, 0), pr as usize)
+    require(
+        has_closed_result(s, pr),
+        Reason::OpenExposed.at(pr as usize),
+    )
 }
 
 // A variable of procedure p, whose scope is c.
-fn variable_access(s: &[u8], index: &Index, p: usize, c: Scope, x: u8) -> Verdict
-    requires ready { Ready s.now index.now }
-    requires own_scope { OwnScope s.now p c }
-    ensures { result ≡ verdict (variable_rules (place_of s.now) (program_of s.now) p x) }
+#[tactic(auto, unfolding(model::specs::Refusal::verdict, model::specs::Rules::variable_rule, model::specs::Rules::variable_rules))]
+fn variable_access(s: Sheet, p: usize, c: Scope, x: u8) -> Verdict
+    requires own_scope { OwnScope s.bytes.now p c }
+    ensures { result ≡ verdict (variable_rules (place_of s.entry.bytes.now) (program_of s.entry.bytes.now) p x) }
 {
-    refused(
-        variable_number(s, index, c.head, c.start, x),
+    record_verdict(
+        variable_rule(s, c.head, c.start, x),
         variable_at(c.start, x),
     )
 }
 
-fn variables_access(s: &[u8], index: &Index, p: usize, c: Scope) -> Verdict
-    requires ready { Ready s.now index.now }
-    requires own_scope { OwnScope s.now p c }
-    ensures { result ≡ verdict (each (variables_field s.now (procedure_at s.now p)) (variable_rules (place_of s.now) (program_of s.now) p)) }
+#[tactic(auto, unfolding(sheet::specs::Layout::variables_field), using(model::proofs::Verdicts::each_pass))]
+fn variables_access(s: Sheet, p: usize, c: Scope) -> Verdict
+    requires own_scope { OwnScope s.bytes.now p c }
+    ensures { result ≡ verdict (each (variables_field s.entry.bytes.now (procedure_at s.entry.bytes.now p)) (variable_rules (place_of s.entry.bytes.now) (program_of s.entry.bytes.now) p)) }
 {
-    let n = field(s, c.head, 4);
-    let mut x: u8 = 0;
-    while x < n {
-        let v = variable_access(s, index, p, c, x);
-        let Verdict::Accepted = v else {
-            return v;
-        };
-        x += 1;
+    let n = field(s.bytes, c.head, 4);
+    for x in 0..n {
+        variable_access(s, p, c, x)?;
     }
-    Verdict::Accepted
+    Ok(())
 }
 
 // An instruction of it, at a place.
-fn instruction_access(s: &[u8], index: &Index, p: usize, c: Scope, i: u16, at: usize) -> Verdict
-    requires ready { Ready s.now index.now }
-    requires own_scope { OwnScope s.now p c }
-    requires at_value { at ≡ instruction_at s.now p i }
-    requires callee_there { CalleeThere s.now (operation_at s.now at) }
-    ensures { result ≡ verdict (instruction_rules (place_of s.now) (program_of s.now) p i) }
+#[tactic(auto, unfolding(model::specs::Refusal::verdict, model::specs::Rules::instruction_rules, sheet::specs::Decode::instruction_in))]
+fn instruction_access(s: Sheet, p: usize, c: Scope, i: u16, at: usize) -> Verdict
+    requires own_scope { OwnScope s.bytes.now p c }
+    requires at_value { at ≡ instruction_at s.bytes.now p i }
+    requires callee_there { CalleeThere s.bytes.now (operation_at s.bytes.now at) }
+    ensures { result ≡ verdict (instruction_rules (place_of s.entry.bytes.now) (program_of s.entry.bytes.now) p i) }
 {
-    let read = instruction_in(s, p, i, at);
-    refused(instruction_number(s, index, c, read), at)
+    let read = instruction_in(s.bytes, p, i, at);
+    record_verdict(instruction_rule(s, c, read), at)
 }
 
-fn instructions_access(s: &[u8], index: &Index, p: usize, c: Scope) -> Verdict
-    requires ready { Ready s.now index.now }
-    requires own_scope { OwnScope s.now p c }
-    requires callees_at { CalleesAt s.now p }
-    ensures { result ≡ verdict (each (instructions_at s.now (procedure_at s.now p)) (instruction_rules (place_of s.now) (program_of s.now) p)) }
+#[tactic(auto, unfolding(sheet::specs::Layout::instructions_at, crate::specs::Inner::Callees::CalleesAt), using(model::proofs::Verdicts::each_pass))]
+fn instructions_access(s: Sheet, p: usize, c: Scope) -> Verdict
+    requires own_scope { OwnScope s.bytes.now p c }
+    requires callees_at { CalleesAt s.bytes.now p }
+    ensures { result ≡ verdict (each (instructions_at s.entry.bytes.now (procedure_at s.entry.bytes.now p)) (instruction_rules (place_of s.entry.bytes.now) (program_of s.entry.bytes.now) p)) }
 {
-    let n = word(s, c.head as usize, 6);
-    let first = instruction_from(c.start, field(s, c.head, 4), 0);
-    let mut i: u16 = 0;
-    while i < n {
-        let v = instruction_access(s, index, p, c, i, first + 8 * (i as usize));
-        let Verdict::Accepted = v else {
-            return v;
-        };
-        i += 1;
+    let n = word(s.bytes, c.head as usize, 6);
+    let first = instruction_from(c.start, field(s.bytes, c.head, 4), 0);
+    for i in 0..n {
+        instruction_access(s, p, c, i, first + 8 * usize::from(i))?;
     }
-    Verdict::Accepted
+    Ok(())
 }
 
-fn procedure_access(s: &[u8], index: &Index, p: usize, c: Scope) -> Verdict
-    requires ready { Ready s.now index.now }
-    requires own_scope { OwnScope s.now p c }
-    requires callees_at { CalleesAt s.now p }
-    ensures { result ≡ verdict (procedure_rules (place_of s.now) (program_of s.now) p) }
+#[tactic(auto, unfolding(model::specs::Rules::procedure_rules), using(model::proofs::Verdicts::pass_by_pass))]
+fn procedure_access(s: Sheet, p: usize, c: Scope) -> Verdict
+    requires own_scope { OwnScope s.bytes.now p c }
+    requires callees_at { CalleesAt s.bytes.now p }
+    ensures { result ≡ verdict (procedure_rules (place_of s.entry.bytes.now) (program_of s.entry.bytes.now) p) }
 {
-    let head = head_access(s, index, p, c.head);
-    let Verdict::Accepted = head else {
-        return head;
-    };
-    let variables = variables_access(s, index, p, c);
-    let Verdict::Accepted = variables else {
-        return variables;
-    };
-    instructions_access(s, index, p, c)
+    head_access(s, p, c.head)?;
+    variables_access(s, p, c)?;
+    instructions_access(s, p, c)
 }
 
-fn procedures_access(s: &[u8], index: &Index, n: usize) -> Verdict
-    requires ready { Ready s.now index.now }
-    requires callees { Callees s.now }
-    requires n_value { n ≡ procedures_of s.now }
-    ensures { result ≡ verdict (each n (procedure_rules (place_of s.now) (program_of s.now))) }
+#[tactic(auto, using(model::proofs::Verdicts::each_pass))]
+fn procedures_access(s: Sheet, n: usize) -> Verdict
+    requires callees { Callees s.bytes.now }
+    requires n_value { n ≡ procedures_of s.bytes.now }
+    ensures { result ≡ verdict (each n (procedure_rules (place_of s.entry.bytes.now) (program_of s.entry.bytes.now))) }
 {
-    let mut p = 0;
-    while p < n {
-        let v = procedure_access(s, index, p, own_scope(s, procedure_in(index, p)));
-        let Verdict::Accepted = v else {
-            return v;
-        };
-        p += 1;
+    for p in 0..n {
+        procedure_access(s, p, own_scope(s.bytes, procedure_in(s.index, p)))?;
     }
-    Verdict::Accepted
+    Ok(())
 }
 
 // Refusals 6 to 9, 20 and 21 of a well-formed sheet.
-pub fn access(s: &[u8], index: &Index) -> Verdict
-    requires ready { Ready s.now index.now }
-    requires callees { Callees s.now }
-    ensures { result ≡ verdict (access_rules (place_of s.now) (program_of s.now)) }
+#[tactic(auto, unfolding(model::specs::Rules::access_rules, sheet::specs::Layout::types_of, sheet::specs::Layout::quals_of, sheet::specs::Layout::procedures_of), using(model::proofs::Verdicts::pass_by_pass))]
+pub fn access(s: Sheet) -> Verdict
+    requires callees { Callees s.bytes.now }
+    ensures { result ≡ verdict (access_rules (place_of s.entry.bytes.now) (program_of s.entry.bytes.now)) }
 {
-    let types = types_access(s, index, byte(s, 0, 3));
-    let Verdict::Accepted = types else {
-        return types;
-    };
-    let quals = quals_access(s, index, byte(s, 0, 4));
-    let Verdict::Accepted = quals else {
-        return quals;
-    };
-    procedures_access(s, index, byte(s, 0, 5) as usize)
+    types_access(s, byte(s.bytes, 0, 3))?;
+    quals_access(s, byte(s.bytes, 0, 4))?;
+    procedures_access(s, usize::from(byte(s.bytes, 0, 5)))
 }

@@ -2,31 +2,30 @@
 #![tactic(auto)]
 
 ghost use Rattle.std.specs.Prelude.{◌≡◌};
-ghost use Rattle.index.specs.Indexed.{Indexed};
+ghost use Rattle.form.specs.Yields.{Yields};
 ghost use Rattle.checking.specs.Check as def;
 
 use access::passes::access;
-use index::Index;
+use form::FormedSheet;
 use index::make::indexed;
-use model::Verdict;
+use index::sheets::AnySheet;
+use model::{Refusal, Verdict};
 use well_formed::well_formed;
 
-// The verdict, for who has made the index already.
-pub fn check_indexed(s: &[u8], index: &Index) -> Verdict
-    requires { Indexed s.now index.now }
-    ensures { result ≡ def.check s.now }
+// The verdict, for who has made the index already; an accepted sheet comes back as a well-formed one.
+pub fn check_indexed(s: AnySheet) -> Result<FormedSheet, Refusal>
+    ensures { Yields (def.check s.entry.bytes.now) s.entry result }
 {
-    let form = well_formed(s, index);
-    let Verdict::Accepted = form else {
-        return form;
-    };
-    access(s, index)
+    let formed = well_formed(s)?;
+    access(formed.sheet)?;
+    Ok(formed)
 }
 
-// Accepts a sheet, or refuses it with a number and a place.
+// Accepts a sheet, or refuses it with a reason and a place.
 pub fn check(s: &[u8]) -> Verdict
     ensures { result ≡ def.check s.now }
 {
     let index = indexed(s);
-    check_indexed(s, &index)
+    check_indexed(AnySheet::new(s, &index))?;
+    Ok(())
 }

@@ -1,4 +1,4 @@
-// The access rules of each declaration: refusals 6 and 7. The number of its first refusal, 0 where there is none.
+// The access rules of each declaration: its first refusal, a loose key or a false raise.
 #![tactic(auto)]
 
 ghost use Rattle.std.specs.Prelude.{◌≡◌, List, ℕ, ◌+◌};
@@ -12,44 +12,43 @@ ghost use Rattle.index.specs.Types.{qual_in};
 ghost use Rattle.index.specs.Indexed.{Ready};
 
 use index::Index;
+use index::sheets::Sheet;
 use index::types::{element_of, rights_of};
-use order::{equal, is_amplified, require};
+use model::{Reason, require};
+use order::{equal, is_amplified};
 use rights::has_right;
 use sheet::bytes::byte;
 use sheet::fields::{field, inner_of, need_of};
 
 // A qualified type without open.
+#[tactic(auto, unfolding(model::specs::Rules::closed))]
 fn is_closed(index: &Index, j: u8) -> bool
     ensures { result ≡ closed (qual_in index.now j) }
 {
     !has_right(0, rights_of(index, j))
 }
 
-fn closed_rule(index: &Index, j: u8) -> u8
+#[tactic(auto, unfolding(model::specs::Refusal::failure, model::specs::Rules::closed_rule))]
+fn closed_rule(index: &Index, j: u8) -> Result<(), Reason>
     ensures { result ≡ failure (closed_rule (qual_in index.now j)) }
 {
-    require(is_closed(index, j), 6, 0)
+    require(is_closed(index, j), Reason::OpenExposed)
 }
 
 // The slots of the TY at a place.
-pub fn slots_rule(s: &[u8], index: &Index, at: usize) -> u8
-    requires { Ready s.now index.now }
-    ensures { result ≡ failure (each (byte_at s.now at 3) (λ k. closed_rule (qual_of s.now (byte_at s.now at (4 + k))))) }
+#[tactic(auto, using(model::proofs::Verdicts::test_start))]
+pub fn slots_rule(s: Sheet, at: usize) -> Result<(), Reason>
+    ensures { result ≡ failure (each (byte_at s.entry.bytes.now at 3) (λ k. closed_rule (qual_of s.entry.bytes.now (byte_at s.entry.bytes.now at (4 + k))))) }
 {
-    let slots = byte(s, at, 3);
-    let mut k: u8 = 0;
-    while k < slots {
-        let n = closed_rule(index, byte(s, at, 4 + (k as usize)));
-        if 0 < n {
-            return n;
-        }
-        k += 1;
+    let slots = byte(s.bytes, at, 3);
+    for k in 0..slots {
+        closed_rule(s.index, byte(s.bytes, at, 4 + usize::from(k)))?;
     }
-    0
+    Ok(())
 }
 
 // The element of a QT.
-pub fn element_rule(index: &Index, j: u8) -> u8
+pub fn element_rule(index: &Index, j: u8) -> Result<(), Reason>
     ensures { result ≡ failure (closed_rule (element (qual_in index.now j))) }
 {
     let element = element_of(index, j);
@@ -57,15 +56,12 @@ pub fn element_rule(index: &Index, j: u8) -> u8
 }
 
 // The result of the PR at a place.
-pub fn has_closed_result(s: &[u8], index: &Index, pr: u32) -> bool
-    requires { Ready s.now index.now }
-    ensures { result ≡ closed_result (result_in s.now pr) }
+#[tactic(auto, unfolding(model::specs::Rules::closed_result, sheet::specs::Meaning::result_in, sheet::specs::Layout::result_at))]
+pub fn has_closed_result(s: Sheet, pr: u32) -> bool
+    ensures { result ≡ closed_result (result_in s.entry.bytes.now pr) }
 {
-    let result = field(s, pr, 5);
-    if result == 255 {
-        return true;
-    }
-    is_closed(index, result)
+    let result = field(s.bytes, pr, 5);
+    result == 255 || is_closed(s.index, result)
 }
 
 // Need and inner of a formal agree, ?R unread: where both sides read it alike, as ?R, they are equal exactly if they are so unread.
@@ -79,33 +75,34 @@ fn agree(index: &Index, owner: u8, need: u8, inner: u8) -> bool
     equal(index, name, need, name, inner)
 }
 
-fn formal_number(index: &Index, owner: u8, need: u8, inner: u8) -> u8
+#[tactic(auto, unfolding(model::specs::Refusal::failure, model::specs::Rules::formal_rule))]
+fn formal_rule(index: &Index, owner: u8, need: u8, inner: u8) -> Result<(), Reason>
     ensures { (s : List ℕ) → Ready s index.now → result ≡ failure (formal_rule owner (qual_of s need) (qual_of s inner)) }
 {
     let stands = is_closed(index, need)
         & (is_amplified(index, owner, inner) | is_closed(index, inner));
-    require(stands, 6, require(agree(index, owner, need, inner), 7, 0))
+    require(stands, Reason::OpenExposed)?;
+    require(agree(index, owner, need, inner), Reason::FalseRaise)
 }
 
-fn local_number(index: &Index, owner: u8, inner: u8) -> u8
+#[tactic(auto, unfolding(model::specs::Refusal::failure, model::specs::Rules::local_rule))]
+fn local_rule(index: &Index, owner: u8, inner: u8) -> Result<(), Reason>
     ensures { result ≡ failure (local_rule owner (qual_in index.now inner)) }
 {
     require(
         is_amplified(index, owner, inner) | is_closed(index, inner),
-        6,
-        0,
+        Reason::OpenExposed,
     )
 }
 
 // Variable x of the procedure at a place, whose VRs start at another.
-pub fn variable_number(s: &[u8], index: &Index, pr: u32, start: u32, x: u8) -> u8
-    requires { Ready s.now index.now }
-    ensures { result ≡ failure (declaration_rule (owner_at s.now pr) (formals_at s.now pr) x (need_in s.now start x) (inner_in s.now start x)) }
+pub fn variable_rule(s: Sheet, pr: u32, start: u32, x: u8) -> Result<(), Reason>
+    ensures { result ≡ failure (declaration_rule (owner_at s.entry.bytes.now pr) (formals_at s.entry.bytes.now pr) x (need_in s.entry.bytes.now start x) (inner_in s.entry.bytes.now start x)) }
 {
-    let owner = field(s, pr, 2);
-    let inner = inner_of(s, start, x);
-    if x < field(s, pr, 3) {
-        return formal_number(index, owner, need_of(s, start, x), inner);
+    let owner = field(s.bytes, pr, 2);
+    let inner = inner_of(s.bytes, start, x);
+    if x < field(s.bytes, pr, 3) {
+        return formal_rule(s.index, owner, need_of(s.bytes, start, x), inner);
     }
-    local_number(index, owner, inner)
+    local_rule(s.index, owner, inner)
 }

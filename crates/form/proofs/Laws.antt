@@ -1,27 +1,26 @@
 -- Laws of the tests of well-formedness, which the proofs of the passes and the layers above cite.
 use Prim.Native.Nat.{ℕ, zero, suc, ◌+◌, ◌*◌, ◌-◌, ◌<◌, ◌≤◌}
 use mathlib.Core.Path.{◌≡◌, sym, ap, ◌∙◌}
-use mathlib.Core.List.{List, [], ◌∷◌, ◌++◌}
-use mathlib.Core.Bool.{Bool, true, ◌&&◌, ◌||◌, cond}
+use mathlib.Core.List.{List, [], ◌++◌}
+use mathlib.Core.Bool.{Bool, true, ◌&&◌, ◌||◌}
 use native.Mathlib.Omega.{arith}
 use native.Mathlib.Numerals.{add-one}
 use lib.ListN.{length, get_or}
 use lib.Dec.{eqb}
 use borrow.Author.Count.{below_more}
-use borrow.Author.Tests.{leb-true, ltb-true, eq-eqb, ne_eqb, le-leb, lt-ltb, le-ltb}
-use Rattle.model.specs.Refusal.{Accepted, Tests, tests, failure, verdict, each}
+use borrow.Author.Tests.{leb-true, ltb-true, le-leb}
+use Rattle.model.specs.Refusal.{Accepted, verdict}
 use Rattle.model.specs.declared.Reason.TheVariants.{Torn, StrayMark, BadEdition, OffScale}
-use Rattle.std.specs.Prelude.{Ok, Err}
-use Rattle.model.proofs.Verdicts.{left_accepted, right_accepted, accepted_tests, passed_test, both_true, all_held}
-use Rattle.sheet.specs.Bytes.{byte_at, word_at, whole_at, Mark, mark, marked_at}
-use Rattle.sheet.specs.Layout.{hd_mark, edition_of, types_of, quals_of, procedures_of, formals_at, variables_field, instructions_at, is_bounded, start_from, instruction_from, code_at, k_at, procedure_at, start_at}
+use Rattle.model.proofs.Verdicts.{left_accepted, right_accepted, first_refuses, second_says, pass_start, pass_more, pass_refuses, accepted_tests, passed_test, both_true, all_held}
+use Rattle.sheet.specs.Bytes.{byte_at, whole_at, Mark, mark, marked_at}
+use Rattle.sheet.specs.Layout.{hd_mark, edition_of, types_of, quals_of, procedures_of, variables_field, start_from, instruction_from, procedure_at, start_at}
 use Rattle.sheet.specs.Reader.{record_bytes, past_at, left_at}
 use Rattle.sheet.proofs.Laws.{whole_true, record_inside, record_byte, hd_sized}
 use Rattle.index.specs.Procedures.{procedure_in, start_of, place_of}
 use Rattle.index.specs.Indexed.{ProcedureWord}
 use Rattle.limits.specs.declared.Limits.{Limits}
-use Rattle.limits.specs.Scale.{all_below, below_or_none, header_scale, actuals_scale}
-use Rattle.form.specs.WellFormed.{length_tests, record_tests, header_tests, layout_tests, limits_at, instruction_tests_at, instruction_tests, call_tests_at, call_tests, variable_uses}
+use Rattle.limits.specs.Scale.{all_below, below_or_none, header_scale}
+use Rattle.form.specs.WellFormed.{length_tests, record_tests, header_tests, layout_tests, limits_at, instruction_tests_at, instruction_tests}
 
 -- ---- single tests
 -- f holds of each number below n
@@ -72,21 +71,6 @@ pub instruction_here : (s : List ℕ) (pr start i at : ℕ) (l : Limits) → l �
 unfolding instruction_tests
 instruction_here s pr start i at l p e = rw (p, e)
 
-pub call_here : (s : List ℕ) (v start i at : ℕ) → at ≡ instruction_from start v i
-    → ◌≡◌ {A = List Tests} (tests at (call_tests_at s v at) ∷ []) (call_tests s v start i)
-unfolding call_tests
-call_here s v start i at e = rw e
-
--- those of the pass for calls, from where the records of a procedure stand
-module _ (s : List ℕ) (p pr start : ℕ) (e : start ≡ start_from s p pr) where
-  pub variables_here : (bounded : Bool) → bounded ≡ is_bounded s p pr
-      → ◌≡◌ {A = List Tests} (each (variables_field s pr) (variable_uses s bounded start)) (each (variables_field s pr) (variable_uses s (is_bounded s p pr) (start_from s p pr)))
-  variables_here bounded f = rw (e, f)
-
-  pub calls_here :
-      ◌≡◌ {A = List Tests} (each (instructions_at s pr) (call_tests s (variables_field s pr) start)) (each (instructions_at s pr) (call_tests s (variables_field s pr) (start_from s p pr)))
-  calls_here = rw e
-
 -- where the records of a procedure stand, from its word in the index
 module _ (s t : List ℕ) (p w : ℕ) (h : ProcedureWord s p (procedure_in t p)) (e : w ≡ procedure_in t p) (pr : ℕ) (f : pr ≡ place_of w) where
   pub placed : pr ≡ procedure_at s p
@@ -123,22 +107,6 @@ header_small s h =
     let e = passed_test BadEdition (eqb (edition_of s) 1 || eqb (edition_of s) 2) _ k.1 in
     let l = (all_held true _ (passed_test OffScale (header_scale (types_of s) (quals_of s) (procedures_of s)) [] e.1).0).1 in
     (leb-true (types_of s) 32 l.0, leb-true (quals_of s) 64 l.1.0, leb-true 1 (procedures_of s) l.1.1.0, leb-true (procedures_of s) 64 l.1.1.1.0)
-
--- the tests of a call, from what was read: no call, no such procedure, and else its actuals
-module _ (s : List ℕ) (v at : ℕ) where
-  pub call_none : (code : ℕ) → code ≡ byte_at s at 2 → (code ≡ 16 → ⊥) → Ok tt ≡ failure (call_tests_at s v at)
-  unfolding call_tests_at code_at failure
-  call_none code e h = rw (← e, ne_eqb code 16 h)
-
-  module _ (code k p : ℕ) (e : code ≡ byte_at s at 2) (c : code ≡ 16) (d : k ≡ word_at s at 6) (q : p ≡ byte_at s 0 5) where
-    pub call_outside : p ≤ k → Err OffScale ≡ failure (call_tests_at s v at)
-    unfolding call_tests_at code_at k_at procedures_of failure
-    call_outside h = rw (← e, eq-eqb code 16 c, ← d, ← q, le-ltb k p h)
-
-    pub call_inside : k < p → (f b : ℕ) → f ≡ formals_at s (procedure_at s k) → b ≡ byte_at s at 4 → (t : Bool) → t ≡ actuals_scale f b v
-        → cond t (Ok tt) (Err OffScale) ≡ failure (call_tests_at s v at)
-    unfolding call_tests_at code_at k_at procedures_of failure
-    call_inside h f b g i t j = rw (← e, eq-eqb code 16 c, ← d, ← q, lt-ltb k p h, ← g, ← i, ← j)
 
 pub layout_small : (s : List ℕ) → verdict (length_tests s ++ layout_tests s) ≡ Accepted
     → (types_of s ≤ 32) × (quals_of s ≤ 64) × (1 ≤ procedures_of s) × (procedures_of s ≤ 64)

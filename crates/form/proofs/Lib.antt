@@ -1,5 +1,4 @@
 pub mod Laws
-pub mod Misplaced
 pub mod Procedures
 pub mod WellFormed
 pub mod Numbers

@@ -1,2 +1,3 @@
 pub mod WellFormed
 pub mod Named
+pub mod Yields

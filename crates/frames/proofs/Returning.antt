@@ -5,7 +5,7 @@ use mathlib.Core.Path.{◌≡◌, refl, sym, ap, ◌∙◌}
 use mathlib.Core.Bool.{Bool, true, false}
 use mathlib.Core.List.{List, [], ◌∷◌, map}
 use Rattle.std.proofs.Common.{Ok, Err}
-use mathlib.Core.Logic.{⊎_elim}
+use mathlib.Core.Logic.{◌⊎◌, ⊎_elim}
 use mathlib.Core.Option.{Option, none, some}
 use borrow.Author.Tests.{eqb-true, eqb-false}
 use lib.Dec.{eqb}
@@ -265,7 +265,10 @@ module _ (s words : List ℕ) (r : Registers) (a w end : ℕ) (ends : end ≡ r.
       (stopped_after plain c words out r t S Blank)
 
   -- or there is a value to hand over, if any is asked for
-  module _ (there : w ≡ 0 → a ≡ 255) where
+  module _ (told : ((w ≡ 0) × (a ≡ 255)) ⊎ (w ≡ 0 → ⊥)) where
+    there : w ≡ 0 → a ≡ 255
+    there z = ⊎_elim (λ e. e.1) (λ n. absurd (n z)) told
+
     handed_over : (c : Given) (out : List ℕ) (t : State plain) → StandsFor plain c words out r t
         → (value : Option (Cell plain))
         × ((plan plain (program_of s) (view (length words) (length out) t) (Return a)

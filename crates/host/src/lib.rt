@@ -9,8 +9,8 @@ ghost use Rattle.checking.specs.Check.{check};
 ghost use Rattle.run.specs.Run.{answer};
 ghost use Rattle.replies.specs.Words.{returned, to_c};
 
-use model::Verdict;
-use replies::{put_at, put_reply};
+use replies::put_reply;
+use words::write;
 
 // The number of the refusal, 0 where the sheet is accepted; its place goes to the first word of the reply, where there is one.
 #[unsafe(no_mangle)]
@@ -19,13 +19,13 @@ pub extern "C" fn wn_check(sheet: &[u8], reply: &mut [u64]) -> u64
     ensures reply_after { reply.new ≡ set reply.old 0 (verdict_place (check sheet.now)) }
 {
     match checking::check(sheet) {
-        Verdict::Accepted => {
-            put_at(reply, 0, 0);
+        Ok(()) => {
+            write(reply, 0, 0);
             0
         }
-        Verdict::Refused(number, place) => {
-            put_at(reply, 0, place as u64);
-            number as u64
+        Err(refusal) => {
+            write(reply, 0, refusal.place as u64);
+            u64::from(refusal.reason.number())
         }
     }
 }

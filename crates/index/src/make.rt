@@ -5,7 +5,7 @@ ghost use Rattle.index.specs.Types.{use_in, UseTold};
 ghost use Rattle.index.specs.Indexed.{TypeWord, ProcedureWord, TypesFilled, ProceduresFilled, Indexed};
 
 use crate::Index;
-use crate::types::{element_in, shape_in, uses_name};
+use crate::types::{element_in, is_array_type, is_generic_type, uses_name};
 use sheet::bytes::{byte, word};
 use sheet::edition::Encoded;
 use sheet::places::{bound_size, instruction_from, qual_at, start_from};
@@ -35,11 +35,10 @@ fn shape_and_rights(base: u8, rights: u32) -> u64
 fn uses_by(index: &Index, j: u8, w: u64) -> bool
     ensures { result ≡ use_in index.now j w }
 {
-    let shape = shape_in(w);
-    if shape == 1 {
+    if is_array_type(w) {
         return uses_name(index, element_in(w, j));
     }
-    256 <= shape
+    is_generic_type(w)
 }
 
 // The word with what it tells of ?R.

@@ -10,7 +10,6 @@ ghost use Rattle.index.specs.Indexed.{PlacedWord};
 ghost use Rattle.index.specs.Scope.{bound_of_procedure, Bounded, ScopeOf};
 
 use crate::Index;
-use crate::sheets::Sheet;
 use sheet::edition::{Encoded, rights_at};
 use sheet::fields::field;
 use words::{bound_in, first_in, variables_in};
@@ -107,18 +106,19 @@ pub fn least_in(s: &[u8], w: u64, pr: u32) -> u32
     ensures { (k : ℕ) → PlacedWord s.now k w → pr ≡ procedure_at s.now k → result ≡ least (bound_in_sheet s.now k pr) }
 {
     if is_bounded_in(w) {
-        return rights_at(Encoded::new(s), (pr as usize) + 8);
+        let e = Encoded::new(s);
+        return rights_at(s, e.rights, (pr as usize) + 8);
     }
     0
 }
 
 // The procedure of a word, which reads ?R with its own bound.
-pub fn own_scope(s: Sheet, w: u64) -> Scope
-    ensures { (k : ℕ) → PlacedWord s.entry.bytes.now k w → Bounded s.entry.bytes.now k → ScopeOf s.entry.bytes.now k (own (bound_of_procedure s.entry.bytes.now k)) result }
+pub fn own_scope(s: &[u8], w: u64) -> Scope
+    ensures { (k : ℕ) → PlacedWord s.now k w → Bounded s.now k → ScopeOf s.now k (own (bound_of_procedure s.now k)) result }
 {
     let head = place_in(w);
     let start = start_in(w);
-    let name = own_name(base_in(s.bytes, w, head), least_in(s.bytes, w, head));
+    let name = own_name(base_in(s, w, head), least_in(s, w, head));
     Scope { head, start, name }
 }
 

@@ -1,6 +1,6 @@
 // The qualified types of an index by their numbers. A number from 64 on names none and reads as the integer type, so that no caller owes a bound.
 // A name is the word of what ?R is read as.
-ghost use Rattle.std.specs.Prelude.{◌≡◌, cond, eqb, ◌<◌, ◌≤◌};
+ghost use Rattle.std.specs.Prelude.{◌≡◌, cond, eqb, leb, ◌<◌, ◌≤◌};
 ghost use Rattle.model.specs.Qualified.{base, rights, is_integer, is_array, is_generic};
 ghost use Rattle.index.specs.Types.{word_in, named_as, name_type, read_word, word_as, shape_of, rights_of, element_of, uses_of, element_below, qual_in, type_in, ElementIn};
 
@@ -42,10 +42,10 @@ pub fn name_rights(name: u64) -> u32
 pub fn word_read(name: u64, w: u64) -> u64
     ensures { result ≡ read_word name w }
 {
-    if shape_in(w) < 256 {
-        return w;
+    if is_generic_type(w) {
+        return name_type(name);
     }
-    name_type(name)
+    w
 }
 
 // The word of QT j read so.
@@ -55,13 +55,33 @@ pub fn type_word_as(index: &Index, name: u64, j: u8) -> u64
     word_read(name, type_word(index, j))
 }
 
-// The shape in such a word, 256 more than its base for ?R, and the rights.
+// The shape in such a word, 256 more than its base for ?R. Two of them compare as numbers, also a base with ?R of that base.
 pub fn shape_in(w: u64) -> u16
     ensures { result ≡ shape_of w }
 {
     (w / 4294967296 % 512) as u16
 }
 
+// Whether the type of such a word is an integer, an array, ?R.
+pub fn is_integer_type(w: u64) -> bool
+    ensures { result ≡ eqb (shape_of w) 0 }
+{
+    shape_in(w) == 0
+}
+
+pub fn is_array_type(w: u64) -> bool
+    ensures { result ≡ eqb (shape_of w) 1 }
+{
+    shape_in(w) == 1
+}
+
+pub fn is_generic_type(w: u64) -> bool
+    ensures { result ≡ leb 256 (shape_of w) }
+{
+    256 <= shape_in(w)
+}
+
+// The rights in such a word.
 pub fn rights_in(w: u64) -> u32
     ensures { result ≡ rights_of w }
 {
@@ -90,7 +110,7 @@ pub fn element_in(w: u64, j: u8) -> u8
 pub fn rights_by(w: u64) -> u32
     ensures { result ≡ cond (eqb (shape_of w) 0) 0 (rights_of w) }
 {
-    if shape_in(w) == 0 {
+    if is_integer_type(w) {
         return 0;
     }
     rights_in(w)
@@ -113,7 +133,7 @@ pub fn element_of(index: &Index, j: u8) -> u8
     ensures { ElementIn index.now j result }
 {
     let w = type_word(index, j);
-    if shape_in(w) == 1 {
+    if is_array_type(w) {
         return element_in(w, j);
     }
     255
@@ -130,17 +150,17 @@ pub fn uses_name(index: &Index, j: u8) -> bool
 pub fn is_integer(index: &Index, j: u8) -> bool
     ensures { result ≡ is_integer (qual_in index.now j) }
 {
-    shape_in(type_word(index, j)) == 0
+    is_integer_type(type_word(index, j))
 }
 
 pub fn is_array(index: &Index, j: u8) -> bool
     ensures { result ≡ is_array (qual_in index.now j) }
 {
-    shape_in(type_word(index, j)) == 1
+    is_array_type(type_word(index, j))
 }
 
 pub fn is_generic(index: &Index, name: u64, j: u8) -> bool
     ensures { result ≡ is_generic (type_in index.now name j) }
 {
-    256 <= shape_in(type_word_as(index, name, j))
+    is_generic_type(type_word_as(index, name, j))
 }

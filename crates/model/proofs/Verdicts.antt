@@ -154,6 +154,13 @@ module _ (f : ℕ → List Test) where
 pub each_accepted : (f : ℕ → List Tests) (n : ℕ) → verdict (each n f) ≡ Accepted → (k : ℕ) → k < n → verdict (f k) ≡ Accepted
 each_accepted f n h k l = let e : 0 + k ≡ k = omega arith in rw e at (accepted_span f n 0 h k l)
 
+-- what the proofs of the passes cite: a loop over the records of one kind, one over the tests of a record, and one pass after another
+pub ruleset each_pass = (pass_start, pass_more, pass_refuses)
+
+pub ruleset each_test = (test_start, test_more, test_refuses)
+
+pub ruleset pass_by_pass = (first_refuses, second_says)
+
 -- ---- what an accepted list says of each test
 pub accepted_tests : (at : ℕ) (ts : List Test) → verdict (tests at ts ∷ []) ≡ Accepted → failure ts ≡ Ok tt
 unfolding verdict refuse

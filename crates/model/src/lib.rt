@@ -5,7 +5,7 @@ pub mod arithmetic; // the three operations that make one integer of two
 
 ghost use Rattle.std.specs.Prelude.{◌≡◌, cond};
 ghost use Rattle.model.specs.Outcome.{stop_number, stop_of};
-ghost use Rattle.model.specs.Refusal.{refusal_number, refused_at};
+ghost use Rattle.model.specs.Refusal.{Accepted, refusal_number, refused_at, refuse};
 
 // Why a sheet is refused. Its number is the paper's.
 #[derive(Clone, Copy, Debug, PartialEq, Eq)]
@@ -51,6 +51,14 @@ pub struct Refusal {
 
 // What a check says: accepted, or refused.
 pub type Verdict = Result<(), Refusal>;
+
+// The verdict on the record that starts at a byte, by the reason of its first test that fails.
+#[tactic(auto, unfolding(crate::specs::Refusal::refuse))]
+pub fn record_verdict(rule: Result<(), Reason>, at: usize) -> Verdict
+    ensures { result ≡ refuse rule at Accepted }
+{
+    rule.map_err(|reason| reason.at(at))
+}
 
 // An error where a test does not hold.
 pub fn require<E: Copy>(holds: bool, error: E) -> Result<(), E>

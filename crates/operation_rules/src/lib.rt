@@ -1,164 +1,140 @@
-// The rule of each operation but calls and returns, in the scope of a procedure, p: the number of its refusal, 0 where there is none.
-#![tactic(auto)]
+// The rule of each operation but calls and returns, in the scope of a procedure, p: its first refusal.
+#![tactic(auto, unfolding(model::specs::Refusal::failure, sheet::specs::Layout::owner_at, sheet::specs::Layout::named_of, model::specs::Rules::integer_rule, model::specs::Rules::integers_rule, model::specs::Rules::new_array_rule, model::specs::Rules::new_record_rule, model::specs::Rules::fetch_rule, model::specs::Rules::store_rule, model::specs::Rules::size_rule, model::specs::Rules::get_slot_rule, model::specs::Rules::set_slot_rule), using(crate::proofs::Laws::inner_is, crate::proofs::Laws::inner_integer, crate::proofs::Laws::inner_array, crate::proofs::Laws::slot_is, crate::proofs::Laws::inner_element))]
 
 ghost use Rattle.std.specs.Prelude.{◌≡◌};
 ghost use Rattle.model.specs.Refusal.{failure};
 ghost use Rattle.model.specs.Rules.{moves, integer_rule, integers_rule, new_array_rule, new_record_rule, fetch_rule, store_rule, size_rule, get_slot_rule, set_slot_rule};
 ghost use Rattle.sheet.specs.Layout.{owner_at, named_of};
-ghost use Rattle.index.specs.Indexed.{Ready};
 ghost use Rattle.index.specs.Scope.{inner_as, slot_as_read};
 
-use index::Index;
 use index::procedures::Scope;
+use index::sheets::Sheet;
 use index::types::{element_of, is_array, is_generic, is_integer, rights_as};
-use order::{is_owned, movement, require};
+use model::{Reason, require};
+use order::{is_owned, movement};
 use rights::{has_none_above, has_right, is_within};
 use sheet::bytes::byte;
 use sheet::fields::{field, inner_of, slot_of};
 use sheet::places::type_at;
 
-pub fn integer_rule(s: &[u8], index: &Index, p: Scope, a: u8) -> u8
-    requires { Ready s.now index.now }
-    ensures { result ≡ failure (integer_rule (inner_as s.now p a)) }
+pub fn integer_rule(s: Sheet, p: Scope, a: u8) -> Result<(), Reason>
+    ensures { result ≡ failure (integer_rule (inner_as s.entry.bytes.now p a)) }
 {
-    require(is_integer(index, inner_of(s, p.start, a)), 8, 0)
-}
-
-pub fn integers_rule(s: &[u8], index: &Index, p: Scope, a: u8, b: u8, c: u8) -> u8
-    requires { Ready s.now index.now }
-    ensures { result ≡ failure (integers_rule (inner_as s.now p a) (inner_as s.now p b) (inner_as s.now p c)) }
-{
-    let x = is_integer(index, inner_of(s, p.start, a));
-    let y = is_integer(index, inner_of(s, p.start, b));
-    let z = is_integer(index, inner_of(s, p.start, c));
-    require(x & y & z, 8, 0)
-}
-
-pub fn bind_rule(s: &[u8], index: &Index, p: Scope, a: u8, b: u8) -> u8
-    requires { Ready s.now index.now }
-    ensures { result ≡ failure (moves (inner_as s.now p b) (inner_as s.now p a)) }
-{
-    movement(
-        index,
-        p.name,
-        inner_of(s, p.start, b),
-        p.name,
-        inner_of(s, p.start, a),
-    )
-}
-
-pub fn array_rule(s: &[u8], index: &Index, p: Scope, a: u8, b: u8) -> u8
-    requires { Ready s.now index.now }
-    ensures { result ≡ failure (new_array_rule (inner_as s.now p a) (inner_as s.now p b)) }
-{
-    let to = inner_of(s, p.start, a);
-    let kinds = is_integer(index, inner_of(s, p.start, b)) & is_array(index, to);
     require(
-        kinds,
-        8,
-        require(is_within(rights_as(index, p.name, to), 14), 9, 0),
+        is_integer(s.index, inner_of(s.bytes, p.start, a)),
+        Reason::TypeMismatch,
     )
 }
 
-pub fn fetch_rule(s: &[u8], index: &Index, p: Scope, a: u8, b: u8, c: u8) -> u8
-    requires { Ready s.now index.now }
-    ensures { result ≡ failure (fetch_rule (inner_as s.now p a) (inner_as s.now p b) (inner_as s.now p c)) }
+pub fn integers_rule(s: Sheet, p: Scope, a: u8, b: u8, c: u8) -> Result<(), Reason>
+    ensures { result ≡ failure (integers_rule (inner_as s.entry.bytes.now p a) (inner_as s.entry.bytes.now p b) (inner_as s.entry.bytes.now p c)) }
 {
-    let of = inner_of(s, p.start, b);
-    let kinds = is_array(index, of) & is_integer(index, inner_of(s, p.start, c));
-    let moved = movement(
-        index,
-        p.name,
-        element_of(index, of),
-        p.name,
-        inner_of(s, p.start, a),
-    );
-    let held = rights_as(index, p.name, of);
-    require(kinds, 8, require(has_right(1, held), 9, moved))
+    let x = is_integer(s.index, inner_of(s.bytes, p.start, a));
+    let y = is_integer(s.index, inner_of(s.bytes, p.start, b));
+    let z = is_integer(s.index, inner_of(s.bytes, p.start, c));
+    require(x & y & z, Reason::TypeMismatch)
 }
 
-pub fn store_rule(s: &[u8], index: &Index, p: Scope, a: u8, b: u8, c: u8) -> u8
-    requires { Ready s.now index.now }
-    ensures { result ≡ failure (store_rule (inner_as s.now p a) (inner_as s.now p b) (inner_as s.now p c)) }
+pub fn bind_rule(s: Sheet, p: Scope, a: u8, b: u8) -> Result<(), Reason>
+    ensures { result ≡ failure (moves (inner_as s.entry.bytes.now p b) (inner_as s.entry.bytes.now p a)) }
 {
-    let to = inner_of(s, p.start, a);
-    let kinds = is_array(index, to) & is_integer(index, inner_of(s, p.start, b));
-    let moved = movement(
-        index,
-        p.name,
-        inner_of(s, p.start, c),
-        p.name,
-        element_of(index, to),
-    );
-    let held = rights_as(index, p.name, to);
-    require(kinds, 8, require(has_right(2, held), 9, moved))
+    let from = inner_of(s.bytes, p.start, b);
+    let to = inner_of(s.bytes, p.start, a);
+    movement(s, p.name, from, p.name, to)
 }
 
-pub fn size_rule(s: &[u8], index: &Index, p: Scope, a: u8, b: u8) -> u8
-    requires { Ready s.now index.now }
-    ensures { result ≡ failure (size_rule (inner_as s.now p a) (inner_as s.now p b)) }
+pub fn array_rule(s: Sheet, p: Scope, a: u8, b: u8) -> Result<(), Reason>
+    ensures { result ≡ failure (new_array_rule (inner_as s.entry.bytes.now p a) (inner_as s.entry.bytes.now p b)) }
 {
-    let of = inner_of(s, p.start, b);
-    let moved = integer_rule(s, index, p, a);
-    let kind = is_array(index, of);
-    let held = rights_as(index, p.name, of);
-    require(kind, 8, require(has_right(3, held), 9, moved))
-}
-
-pub fn record_rule(s: &[u8], index: &Index, p: Scope, a: u8) -> u8
-    requires { Ready s.now index.now }
-    ensures { result ≡ failure (new_record_rule (owner_at s.now p.head) (named_of s.now (owner_at s.now p.head)) (inner_as s.now p a)) }
-{
-    let owner = field(s, p.head, 2);
-    let named = byte(s, type_at(owner), 2);
-    let to = inner_of(s, p.start, a);
+    let size = inner_of(s.bytes, p.start, b);
+    let to = inner_of(s.bytes, p.start, a);
     require(
-        is_owned(index, p.name, owner, to),
-        8,
-        require(
-            !is_generic(index, p.name, to) & has_none_above(named, rights_as(index, p.name, to)),
-            9,
-            0,
-        ),
+        is_integer(s.index, size) & is_array(s.index, to),
+        Reason::TypeMismatch,
+    )?;
+    require(
+        is_within(rights_as(s.index, p.name, to), 14),
+        Reason::InsufficientRights,
     )
 }
 
-pub fn get_slot_rule(s: &[u8], index: &Index, p: Scope, a: u8, b: u8, k: u16) -> u8
-    requires { Ready s.now index.now }
-    ensures { result ≡ failure (get_slot_rule (owner_at s.now p.head) (inner_as s.now p a) (inner_as s.now p b) (slot_as_read s.now p (owner_at s.now p.head) k)) }
+pub fn fetch_rule(s: Sheet, p: Scope, a: u8, b: u8, c: u8) -> Result<(), Reason>
+    ensures { result ≡ failure (fetch_rule (inner_as s.entry.bytes.now p a) (inner_as s.entry.bytes.now p b) (inner_as s.entry.bytes.now p c)) }
 {
-    let owner = field(s, p.head, 2);
-    let from = inner_of(s, p.start, b);
-    let moved = movement(
-        index,
-        p.name,
-        slot_of(s, owner, k),
-        p.name,
-        inner_of(s, p.start, a),
-    );
+    let of = inner_of(s.bytes, p.start, b);
+    let at = inner_of(s.bytes, p.start, c);
     require(
-        is_owned(index, p.name, owner, from),
-        8,
-        require(has_right(0, rights_as(index, p.name, from)), 9, moved),
+        is_array(s.index, of) & is_integer(s.index, at),
+        Reason::TypeMismatch,
+    )?;
+    let held = rights_as(s.index, p.name, of);
+    require(has_right(1, held), Reason::InsufficientRights)?;
+    let to = inner_of(s.bytes, p.start, a);
+    movement(s, p.name, element_of(s.index, of), p.name, to)
+}
+
+pub fn store_rule(s: Sheet, p: Scope, a: u8, b: u8, c: u8) -> Result<(), Reason>
+    ensures { result ≡ failure (store_rule (inner_as s.entry.bytes.now p a) (inner_as s.entry.bytes.now p b) (inner_as s.entry.bytes.now p c)) }
+{
+    let to = inner_of(s.bytes, p.start, a);
+    let at = inner_of(s.bytes, p.start, b);
+    require(
+        is_array(s.index, to) & is_integer(s.index, at),
+        Reason::TypeMismatch,
+    )?;
+    let held = rights_as(s.index, p.name, to);
+    require(has_right(2, held), Reason::InsufficientRights)?;
+    let from = inner_of(s.bytes, p.start, c);
+    movement(s, p.name, from, p.name, element_of(s.index, to))
+}
+
+pub fn size_rule(s: Sheet, p: Scope, a: u8, b: u8) -> Result<(), Reason>
+    ensures { result ≡ failure (size_rule (inner_as s.entry.bytes.now p a) (inner_as s.entry.bytes.now p b)) }
+{
+    let of = inner_of(s.bytes, p.start, b);
+    require(is_array(s.index, of), Reason::TypeMismatch)?;
+    let held = rights_as(s.index, p.name, of);
+    require(has_right(3, held), Reason::InsufficientRights)?;
+    integer_rule(s, p, a)
+}
+
+pub fn record_rule(s: Sheet, p: Scope, a: u8) -> Result<(), Reason>
+    ensures { result ≡ failure (new_record_rule (owner_at s.entry.bytes.now p.head) (named_of s.entry.bytes.now (owner_at s.entry.bytes.now p.head)) (inner_as s.entry.bytes.now p a)) }
+{
+    let owner = field(s.bytes, p.head, 2);
+    let to = inner_of(s.bytes, p.start, a);
+    require(is_owned(s.index, p.name, owner, to), Reason::TypeMismatch)?;
+    let named = byte(s.bytes, type_at(owner), 2);
+    require(
+        !is_generic(s.index, p.name, to) & has_none_above(named, rights_as(s.index, p.name, to)),
+        Reason::InsufficientRights,
     )
 }
 
-pub fn set_slot_rule(s: &[u8], index: &Index, p: Scope, a: u8, b: u8, k: u16) -> u8
-    requires { Ready s.now index.now }
-    ensures { result ≡ failure (set_slot_rule (owner_at s.now p.head) (inner_as s.now p a) (inner_as s.now p b) (slot_as_read s.now p (owner_at s.now p.head) k)) }
+pub fn get_slot_rule(s: Sheet, p: Scope, a: u8, b: u8, k: u16) -> Result<(), Reason>
+    ensures { result ≡ failure (get_slot_rule (owner_at s.entry.bytes.now p.head) (inner_as s.entry.bytes.now p a) (inner_as s.entry.bytes.now p b) (slot_as_read s.entry.bytes.now p (owner_at s.entry.bytes.now p.head) k)) }
 {
-    let owner = field(s, p.head, 2);
-    let to = inner_of(s, p.start, a);
-    let moved = movement(
-        index,
-        p.name,
-        inner_of(s, p.start, b),
-        p.name,
-        slot_of(s, owner, k),
-    );
+    let owner = field(s.bytes, p.head, 2);
+    let of = inner_of(s.bytes, p.start, b);
+    require(is_owned(s.index, p.name, owner, of), Reason::TypeMismatch)?;
     require(
-        is_owned(index, p.name, owner, to),
-        8,
-        require(has_right(0, rights_as(index, p.name, to)), 9, moved),
-    )
+        has_right(0, rights_as(s.index, p.name, of)),
+        Reason::InsufficientRights,
+    )?;
+    let to = inner_of(s.bytes, p.start, a);
+    movement(s, p.name, slot_of(s.bytes, owner, k), p.name, to)
+}
+
+pub fn set_slot_rule(s: Sheet, p: Scope, a: u8, b: u8, k: u16) -> Result<(), Reason>
+    ensures { result ≡ failure (set_slot_rule (owner_at s.entry.bytes.now p.head) (inner_as s.entry.bytes.now p a) (inner_as s.entry.bytes.now p b) (slot_as_read s.entry.bytes.now p (owner_at s.entry.bytes.now p.head) k)) }
+{
+    let owner = field(s.bytes, p.head, 2);
+    let to = inner_of(s.bytes, p.start, a);
+    require(is_owned(s.index, p.name, owner, to), Reason::TypeMismatch)?;
+    require(
+        has_right(0, rights_as(s.index, p.name, to)),
+        Reason::InsufficientRights,
+    )?;
+    let from = inner_of(s.bytes, p.start, b);
+    movement(s, p.name, from, p.name, slot_of(s.bytes, owner, k))
 }

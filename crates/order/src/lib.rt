@@ -13,8 +13,8 @@ ghost use Rattle.order.specs.Words.{same_heads, alike_heads, covered_heads, type
 use index::Index;
 use index::sheets::Sheet;
 use index::types::{
-    element_in, element_number, rights_by, rights_in, shape_in, type_word, type_word_as, uses_name,
-    word_read,
+    element_in, element_number, is_array_type, is_generic_type, is_integer_type, rights_by,
+    rights_in, shape_in, type_word, type_word_as, uses_name, word_read,
 };
 use model::{Reason, require};
 use rights::{has_right, is_within};
@@ -37,15 +37,14 @@ pub fn is_amplified(index: &Index, owner: u8, j: u8) -> bool
 fn is_same_head(v: u64, w: u64) -> bool
     ensures { result ≡ same_heads v w }
 {
-    let b = shape_in(v);
-    (b == shape_in(w)) & ((b == 0) | (rights_in(v) == rights_in(w)))
+    (shape_in(v) == shape_in(w)) & (is_integer_type(v) | (rights_in(v) == rights_in(w)))
 }
 
 // Two arrays with the same rights: shape and rights stand side by side in their words, so that they are compared at once.
 fn is_same_array(v: u64, w: u64) -> bool
     ensures { result ≡ (eqb (shape_of v) 1 && same_heads v w) }
 {
-    (shape_in(v) == 1) & (v % 2199023255552 == w % 2199023255552)
+    is_array_type(v) & (v % 2199023255552 == w % 2199023255552)
 }
 
 // The word of an array's element, by the number in the array's own word, w. That number falls; one that does not is read as an integer.
@@ -67,7 +66,7 @@ fn equal_in(index: &Index, m: u64, i: u8, v: u64, n: u64, j: u8, w: u64) -> bool
     requires { ElementThere v i × ElementThere w j }
     ensures { result ≡ same (type_of index.now m i v) (type_of index.now n j w) }
 {
-    if shape_in(v) == 1 {
+    if is_array_type(v) {
         let e = element_word(index, v, i);
         let f = element_word(index, w, j);
         return equal_in(index, m, element_number(v), e, n, element_number(w), f)
@@ -83,7 +82,7 @@ fn is_alike_head(v: u64, w: u64) -> bool
     let b = shape_in(v);
     let c = shape_in(w);
     if b == c {
-        return (b < 256) | (rights_in(v) == rights_in(w));
+        return !is_generic_type(v) | (rights_in(v) == rights_in(w));
     }
     (2 <= b) & (b + 256 == c) | (2 <= c) & (c + 256 == b)
 }
@@ -92,17 +91,17 @@ fn is_alike_head(v: u64, w: u64) -> bool
 fn is_covered(v: u64, w: u64) -> bool
     ensures { result ≡ covered_heads v w }
 {
-    if shape_in(w) < 256 {
-        return is_within(rights_by(w), rights_by(v));
+    if is_generic_type(w) {
+        return is_generic_type(v);
     }
-    256 <= shape_in(v)
+    is_within(rights_by(w), rights_by(v))
 }
 
 // An array whose rights are among those of another, v.
 fn is_array_above(v: u64, w: u64) -> bool
     ensures { result ≡ (eqb (shape_of w) 1 && within (rights_of w) (rights_of v)) }
 {
-    (shape_in(w) == 1) & is_within(rights_in(w), rights_in(v))
+    is_array_type(w) & is_within(rights_in(w), rights_in(v))
 }
 
 // What is asked of the elements of two arrays, by whether the second array has store (document 02, S-3): with it they are equal, all the way down; without it
@@ -114,7 +113,7 @@ fn agree_in(index: &Index, stores: bool, m: u64, i: u8, v: u64, n: u64, j: u8, w
     if stores {
         return equal_in(index, m, i, v, n, j, w);
     }
-    if shape_in(v) == 1 {
+    if is_array_type(v) {
         let from = element_word(index, v, i);
         let to = element_word(index, w, j);
         let below = has_right(2, rights_in(w));
@@ -181,7 +180,7 @@ fn movement_of_words(index: &Index, m: u64, i: u8, n: u64, j: u8) -> Result<(), 
 {
     let v = type_word_as(index, m, i);
     let w = type_word_as(index, n, j);
-    if (shape_in(v) == 1) & (shape_in(w) == 1) {
+    if is_array_type(v) & is_array_type(w) {
         return array_movement(index, m, i, v, n, j, w);
     }
     require(is_alike_head(v, w), Reason::TypeMismatch)?;

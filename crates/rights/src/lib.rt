@@ -1,5 +1,5 @@
 // Sets of rights: bit i is right i.
-#![tactic(auto)]
+#![tactic(auto, unfolding(model::specs::Rights::within, model::specs::Rights::has, model::specs::Rights::none_above))]
 
 ghost use Rattle.std.specs.Prelude.{◌≡◌, ◌<◌};
 ghost use Rattle.model.specs.Rights.{within, has, none_above};

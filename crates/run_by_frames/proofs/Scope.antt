@@ -3,16 +3,17 @@ use Prim.Native.Nat.{ℕ, ◌+◌, ◌<◌}
 use mathlib.Core.Path.{◌≡◌, refl, sym, ap, ◌∙◌}
 use mathlib.Core.List.{List}
 use lib.ListN.{length, get_or}
+use Rattle.std.specs.Prelude.{Ok}
+use Rattle.model.specs.Refusal.{Accepted, verdict}
+use Rattle.form.specs.WellFormed.{form_tests}
 use Rattle.model.specs.Modes.{Mode, plain, watched}
 use Rattle.model.specs.Machine.{frame, State, state}
 use Rattle.index.specs.declared.procedures.Scope.{Scope}
 use Rattle.words.specs.Word.{low, number_of}
 use Rattle.writers.specs.declared.Registers.{Registers}
-use Rattle.writers.specs.declared.Stepped.{Stepped}
-use Rattle.writers.specs.declared.Stepped.TheVariants as S
+use Rattle.writers.specs.declared.Next.TheVariants as N
 use Rattle.writers.specs.Memory.{Given, variables_in, StandsFor}
-use Rattle.writers.specs.Steps.{running_set}
-use Rattle.frames.specs.Performs.{Loaded}
+use Rattle.writers.specs.Steps.{Stepped, running_set}
 use Rattle.frames.specs.Frames.{SetIn}
 use Rattle.frames.proofs.Returning.{sets_in}
 use Rattle.watched_calls.specs.Calls.{ScopeHere}
@@ -33,14 +34,14 @@ scope_kept {s} {words} {words'} {r} {q} {p} c out out' (state (frame k₀ i₀ z
     rw (same_set, same_procedure) before
 
 -- one turn of the frame that was entered with the registers `start`
-pub scope_stays : (m : Mode) (p : Scope) {s index input : List ℕ} (loaded : Loaded s index) {until : ℕ} {words₀ out₀ words out : List ℕ} {start r : Registers}
+pub scope_stays : (m : Mode) (p : Scope) {s input : List ℕ} (formed : verdict (form_tests s) ≡ Accepted) {until : ℕ} {words₀ out₀ words out : List ℕ} {start r : Registers}
     (K : Kept m s input until (length words₀) words₀ out₀ start words out r) (B : Begun m s input until words₀ out₀ start) (h : r.steps < until)
     {words' out' : List ℕ} {o : Stepped} (did : TurnIs m s input words words' out out' r o)
-    → length words' ≡ length words → length out' ≡ length out → (q : Registers) → r ≡ kept_with start r → o ≡ S.Go q
+    → length words' ≡ length words → length out' ≡ length out → (q : Registers) → r ≡ kept_with start r → o ≡ Ok (N.Go q)
     → ScopeFor m s words r p → ScopeFor m s words' (kept_with start q) p
-scope_stays plain p loaded K B h did lw lo q e is here = tt
-scope_stays watched p {s} {index} {input} loaded {until} {words₀} {out₀} {words} {out} {start} {r} K B h {words'} {out'} {o} did lw lo q e is here =
+scope_stays plain p formed K B h did lw lo q e is here = tt
+scope_stays watched p {s} {input} formed {until} {words₀} {out₀} {words} {out} {start} {r} K B h {words'} {out'} {o} did lw lo q e is here =
     let G = begun_kept K B in
-    let N = (goes_on watched s index input loaded until B.some_run (length words₀) words out r G h words' out' o did lw lo start q e is).1 in
+    let N = (goes_on watched s input formed until B.some_run (length words₀) words out r G h words' out' o did lw lo start q e is).1 in
     scope_kept B.some_run.given out out' G.now N.0.now B.some_run.same_sheet G.stands N.0.stands N.1
     (sym (ap (λ (x : Registers). x.procedure) e)) here

@@ -6,7 +6,9 @@ use mathlib.Core.Path.{◌≡◌, refl, sym, ap, subst, ◌∙◌}
 use mathlib.Core.List.{List, []}
 use borrow.Author.Tests.{le-leb, lt-leb}
 use lib.ListN.{length, drop}
-use Rattle.model.specs.Outcome.{Stop, done, fuel_spent, memory_full, stop_number, Res, ok, stop, stuck}
+use Rattle.std.specs.Prelude.{Ok, Err}
+use Rattle.model.specs.declared.Halt.{Halt}
+use Rattle.model.specs.Outcome.{Stop, done, fuel_spent, memory_full, Res, ok, stop, stuck}
 use Rattle.model.specs.Refusal.{Accepted, verdict}
 use Rattle.model.specs.Program.{Program}
 use Rattle.model.specs.Modes.{Mode}
@@ -22,17 +24,18 @@ use Rattle.form.specs.WellFormed.{form_tests}
 use Rattle.theorem.proofs.Formed.{formed}
 use Rattle.form.proofs.WellFormed.{instructions_few, instruction_whole, variables_named, actuals_there, callee_below}
 use Rattle.writers.specs.declared.Registers.{Registers}
-use Rattle.writers.specs.declared.Stepped.{Stepped}
-use Rattle.writers.specs.declared.Stepped.TheVariants as S
+use Rattle.writers.specs.declared.Next.TheVariants as N
 use Rattle.writers.specs.Memory.{Given, number_in, first_in, Sane, StandsFor}
-use Rattle.writers.specs.Steps.{After, at_next, running_set}
-use Rattle.frames.specs.Performs.{Loaded, performed}
+use Rattle.writers.specs.Steps.{Stepped, After, at_next, running_set}
+use Rattle.frames.specs.Performs.{performed}
 use Rattle.frames.specs.Fetch.{place_in, Fetchable, CodeOf}
 use Rattle.frames.proofs.Kept.{place_is}
 use Rattle.lent_step.specs.Counts.{Steppable, TurnIs, counted}
 use Rattle.lent_step.proofs.Laws.{same_step, counted_stands, turned_go, turned_enter, turned_halt, turned_done}
 use Rattle.run_by_frames.specs.declared.Ended.{Ended}
-use Rattle.run_by_frames.specs.Reply.{EndedIs, ended}
+use Rattle.run_by_frames.specs.declared.Ending.{Ending}
+use Rattle.run_by_frames.specs.declared.Ending.TheVariants as E
+use Rattle.run_by_frames.specs.Reply.{EndedIs, ended, ending_stop}
 use Rattle.run_by_frames.specs.declared.Paused.{Paused}
 use Rattle.run_by_frames.specs.declared.Paused.TheVariants as P
 use Rattle.run_by_frames.specs.declared.Halted.{Halted}
@@ -40,8 +43,8 @@ use Rattle.run_by_frames.specs.declared.Halted.TheVariants as H
 use Rattle.run_by_frames.specs.Turn.{NeverStuck, whole_run, Going, RunOf, Begun, PausedIs, HaltedIs, FrameRuns, RunsUntil}
 
 -- what is told at a stop after so many steps
-abbrev pub told : Registers → (number steps : ℕ) → Ended
-told r k n = record { number = k; steps = n; put = r.put; procedure = number_in r; instruction = r.next }
+abbrev pub told : Registers → Ending → (steps : ℕ) → Ended
+told r k n = record { ending = k; steps = n; put = r.put; procedure = number_in r; instruction = r.next }
 
 module _ (m : Mode) (c : Given) (words out : List ℕ) (r : Registers) where
   pub sane : (t : State m) → StandsFor m c words out r t → Sane (length words) r
@@ -63,37 +66,37 @@ module _ (m : Mode) (c : Given) (words out : List ℕ) (r : Registers) where
       }
 
   -- the run from a state that stops there
-  ends : (t : State m) → StandsFor m c words out r t → (x : Stop) (k n : ℕ) (out' : List ℕ) → k ≡ stop_number x → out' ≡ out
+  ends : (t : State m) → StandsFor m c words out r t → (x : Stop) (k : Ending) (n : ℕ) (out' : List ℕ) → ending_stop k ≡ x → out' ≡ out
       → EndedIs (told r k n) c.output out' (end_in x n t)
   ends (state (frame p i z vs) fs os input put) S x k n out' a b = ended a refl S.put_words S.procedure S.next (b ∙ S.output_is)
 
   -- a step that the definition is not stuck at
   module _ (words' out' : List ℕ) where
     module _ (n : ℕ) (t : State m) (s : StandsFor m c words out r t) where
-      halted : (k : ℕ) (q : Res (Next m)) → (q ≡ stuck → ⊥) → After m c words' out out' r t (S.Halt k) q
-          → IsOver (next_moment n t q) × EndedIs (told r k n) c.output out' (end_of (next_moment n t q))
+      halted : (k : Halt) (q : Res (Next m)) → (q ≡ stuck → ⊥) → After m c words' out out' r t (Err k) q
+          → IsOver (next_moment n t q) × EndedIs (told r (E.Halted k) n) c.output out' (end_of (next_moment n t q))
       unfolding next_moment
       halted k (ok x) free h = absurd h
-      halted k (stop x) free h = (tt, ends t s x k n out' h.number h.output_kept)
+      halted k (stop x) free h = (tt, ends t s x (E.Halted k) n out' h.halts h.output_kept)
       halted k stuck free h = absurd (free refl)
 
-      finishes : (q : Res (Next m)) → (q ≡ stuck → ⊥) → After m c words' out out' r t S.Done q
-          → IsOver (next_moment n t q) × EndedIs (told r 11 (n + 1)) c.output out' (end_of (next_moment n t q))
+      finishes : (q : Res (Next m)) → (q ≡ stuck → ⊥) → After m c words' out out' r t (Ok N.Done) q
+          → IsOver (next_moment n t q) × EndedIs (told r E.Done (n + 1)) c.output out' (end_of (next_moment n t q))
       unfolding next_moment
       finishes (ok (go u)) free h = absurd h
-      finishes (ok finished) free h = (tt, rw add-one (ends t s done 11 (suc n) out' refl h))
+      finishes (ok finished) free h = (tt, rw add-one (ends t s done E.Done (suc n) out' refl h))
       finishes (stop x) free h = absurd h
       finishes stuck free h = absurd (free refl)
 
     -- one that goes on gives the next state, in the same frame or in another
-    went : (b : State m) (q : Registers) (p : Res (Next m)) → (p ≡ stuck → ⊥) → After m c words' out out' r b (S.Go q) p
+    went : (b : State m) (q : Registers) (p : Res (Next m)) → (p ≡ stuck → ⊥) → After m c words' out out' r b (Ok (N.Go q)) p
         → (q ≡ at_next r q.next) × ((t : State m) × ((running_set t ≡ running_set b) × ((p ≡ ok (go t)) × StandsFor m c words' out' q t)))
     went b q (ok (go t)) free h = (h.0, (t, (h.1.0, (refl, h.1.1))))
     went b q (ok finished) free h = absurd h
     went b q (stop x) free h = absurd h
     went b q stuck free h = absurd (free refl)
 
-    entered : (b : State m) (q : Registers) (p : Res (Next m)) → (p ≡ stuck → ⊥) → After m c words' out out' r b (S.Enter q) p
+    entered : (b : State m) (q : Registers) (p : Res (Next m)) → (p ≡ stuck → ⊥) → After m c words' out out' r b (Ok (N.Enter q)) p
         → (t : State m) × ((p ≡ ok (go t)) × StandsFor m c words' out' q t)
     entered b q (ok (go t)) free h = (t, (refl, h))
     entered b q (ok finished) free h = absurd h
@@ -149,9 +152,9 @@ starts m c memory words r fuel wf room long none S free =
     }
 
 spent : (m : Mode) (c : Given) (memory fuel : ℕ) (words out : List ℕ) (r : Registers) → Going m c memory fuel words out r → r.steps ≡ fuel
-    → EndedIs (told r 12 r.steps) c.output out (whole_run m c memory fuel)
+    → EndedIs (told r E.FuelSpent r.steps) c.output out (whole_run m c memory fuel)
 unfolding run
-spent m c memory fuel words out r G e = rw (← e, G.reached) (ends m c words out r G.now G.stands fuel_spent 12 r.steps out refl refl)
+spent m c memory fuel words out r G e = rw (← e, G.reached) (ends m c words out r G.now G.stands fuel_spent E.FuelSpent r.steps out refl refl)
 
 -- every run that stood there stands here
 abbrev pub Kept : (m : Mode) → (s input : List ℕ) → (until memory : ℕ) → (words out : List ℕ) → Registers → (words' out' : List ℕ) → Registers → Type 0
@@ -182,21 +185,20 @@ same_code s start r code e part = part ∙ ap (λ (x : Registers). drop (first_i
 same_frame : (start r p : Registers) → r ≡ kept_with start r → p ≡ at_next r p.next → counted r p ≡ kept_with start (counted r p)
 same_frame start r p e f = ap (counted r) f ∙ ap (λ (x : Registers). counted r (at_next x p.next)) e
 
-module _ (m : Mode) (s index input : List ℕ) (loaded : Loaded s index) (until : ℕ) (d : RunOf s input until)
+module _ (m : Mode) (s input : List ℕ) (formed_s : verdict (form_tests s) ≡ Accepted) (until : ℕ) (d : RunOf s input until)
     (memory : ℕ) (words out : List ℕ) (r : Registers) (G : Going m d.given memory d.fuel words out r) (h : r.steps < until) where
   abbrev c : Given
   c = d.given
 
   well : verdict (form_tests c.sheet) ≡ Accepted
-  well = rw d.same_sheet loaded.formed
+  well = rw d.same_sheet formed_s
 
   paid_for : r.steps < d.fuel
   paid_for = omega (arith, d.enough)
 
-  pub ready : until < 2 ^ 64 → (code : List ℕ) → CodeOf s r code → Steppable s index code words r
+  pub ready : until < 2 ^ 64 → (code : List ℕ) → CodeOf s r code → Steppable s code words r
   ready f code part =
       record {
-        loaded = loaded;
         part = part;
         sane = sane m c words out r G.now G.stands;
         fetchable = subst (λ (z : List ℕ). Fetchable z r) d.same_sheet (fetchable m c words out r well G.now G.stands G.inside);
@@ -223,12 +225,12 @@ module _ (m : Mode) (s index input : List ℕ) (loaded : Loaded s index) (until 
     ended_as e a =
         rw (ends_there m (program_of c.sheet) memory (length c.output) c.input d.fuel r.steps G.now G.reached paid_for a.0) a.1
 
-    pub halts : (k : ℕ) → o ≡ S.Halt k → EndedIs (told r k r.steps) c.output out' (whole_run m c memory d.fuel)
+    pub halts : (k : Halt) → o ≡ Err k → EndedIs (told r (E.Halted k) r.steps) c.output out' (whole_run m c memory d.fuel)
     halts k e =
         let is = turned_halt r did.stepped k (sym did.counts ∙ e) in
         ended_as _ (halted m c words out r words' out' r.steps G.now G.stands k _ never (rw is at taken))
 
-    pub completes : o ≡ S.Done → EndedIs (told r 11 (r.steps + 1)) c.output out' (whole_run m c memory d.fuel)
+    pub completes : o ≡ Ok N.Done → EndedIs (told r E.Done (r.steps + 1)) c.output out' (whole_run m c memory d.fuel)
     completes e =
         let is = turned_done r did.stepped (sym did.counts ∙ e) in
         ended_as _ (finishes m c words out r words' out' r.steps G.now G.stands _ never (rw is at taken))
@@ -252,7 +254,7 @@ module _ (m : Mode) (s index input : List ℕ) (loaded : Loaded s index) (until 
       abbrev SameFrame : Registers → Type 0
       SameFrame q = (N : Going m c memory d.fuel words' out' q) × (running_set N.now ≡ running_set G.now)
 
-      pub goes_on : (start q : Registers) → r ≡ kept_with start r → o ≡ S.Go q → (q.steps ≡ r.steps + 1) × SameFrame (kept_with start q)
+      pub goes_on : (start q : Registers) → r ≡ kept_with start r → o ≡ Ok (N.Go q) → (q.steps ≡ r.steps + 1) × SameFrame (kept_with start q)
       unfolding reaches
       goes_on start q e is =
           let b = turned_go r did.stepped q (sym did.counts ∙ is) in
@@ -260,21 +262,21 @@ module _ (m : Mode) (s index input : List ℕ) (loaded : Loaded s index) (until 
           subst (λ (x : Registers). (x.steps ≡ r.steps + 1) × SameFrame (kept_with start x)) b.1.1
           (refl, subst SameFrame (same_frame start r b.0 e a.0) (reaches b.0 (a.1.0, a.1.1.1), a.1.1.0))
 
-      pub enters : (q : Registers) → o ≡ S.Enter q → (q.steps ≡ r.steps + 1) × Going m c memory d.fuel words' out' q
+      pub enters : (q : Registers) → o ≡ Ok (N.Enter q) → (q.steps ≡ r.steps + 1) × Going m c memory d.fuel words' out' q
       enters q is =
           let b = turned_enter r did.stepped q (sym did.counts ∙ is) in
           subst (λ (x : Registers). (x.steps ≡ r.steps + 1) × Going m c memory d.fuel words' out' x) b.1.1
           (refl, reaches b.0 (entered m c words out r words' out' G.now b.0 _ never (rw b.1.0 at taken)))
 
 -- the same of every run that came to the frame's start
-module _ {m : Mode} {s index input : List ℕ} (loaded : Loaded s index) {until : ℕ} {words₀ out₀ words out : List ℕ} {start r : Registers}
+module _ {m : Mode} {s input : List ℕ} (formed_s : verdict (form_tests s) ≡ Accepted) {until : ℕ} {words₀ out₀ words out : List ℕ} {start r : Registers}
     (K : Kept m s input until (length words₀) words₀ out₀ start words out r) (B : Begun m s input until words₀ out₀ start) (h : r.steps < until)
     {words' out' : List ℕ} {o : Stepped} (did : TurnIs m s input words words' out out' r o) (lw : length words' ≡ length words) (lo : length out' ≡ length out) where
-  pub keeps_on : (q : Registers) → r ≡ kept_with start r → o ≡ S.Go q
+  pub keeps_on : (q : Registers) → r ≡ kept_with start r → o ≡ Ok (N.Go q)
       → (q.steps ≡ r.steps + 1) × Kept m s input until (length words₀) words₀ out₀ start words' out' (kept_with start q)
   keeps_on q e is = (
-    (goes_on m s index input loaded until B.some_run (length words₀) words out r (begun_kept K B) h words' out' o did lw lo start q e is).0,
-    λ d G. (goes_on m s index input loaded until d (length words₀) words out r (K d G) h words' out' o did lw lo start q e is).1.0,
+    (goes_on m s input formed_s until B.some_run (length words₀) words out r (begun_kept K B) h words' out' o did lw lo start q e is).0,
+    λ d G. (goes_on m s input formed_s until d (length words₀) words out r (K d G) h words' out' o did lw lo start q e is).1.0,
   )
 
 -- ---- one frame
@@ -319,7 +321,7 @@ module _ {m : Mode} {c : Given} {fuel : ℕ} {words : List ℕ} {r : Registers} 
   begun = record { some_run = all_of c fuel; going = G; soon = G.paid }
 
   module _ (words' out' : List ℕ) (h : Halted) (runs : RunsUntil m c.sheet c.input fuel words words' c.output out' r h) where
-    pub rested : (q : Registers) → h ≡ H.Rest q → EndedIs (told q 12 q.steps) c.output out' (whole_run m c (length words) fuel)
+    pub rested : (q : Registers) → h ≡ H.Rest q → EndedIs (told q E.FuelSpent q.steps) c.output out' (whole_run m c (length words) fuel)
     rested q is =
         let a : HaltedIs m c (length words) fuel fuel words' out' (H.Rest q) = rw is at (runs (all_of c fuel) G) in
         spent m c (length words) fuel words' out' q a.1 a.0

@@ -4,12 +4,37 @@
 pub mod machine; // the plain machine and the watched one
 pub mod run; // from main's frame to the stop, or to a number of steps
 
+ghost use Rattle.std.specs.Prelude.{◌≡◌};
+ghost use Rattle.model.specs.Outcome.{stop_number};
+ghost use Rattle.run_by_frames.specs.Reply.{ending_stop};
+
+use model::Halt;
 use writers::Registers;
 
-// How a run ended: the number of the stop, steps, words put, procedure and instruction. With a number of 8 bits the compiler makes the loop slower.
+// Why a run ended.
+#[derive(Clone, Copy, Debug, PartialEq, Eq)]
+pub enum Ending {
+    Done,
+    FuelSpent,
+    Halted(Halt),
+}
+
+impl Ending {
+    pub fn number(self) -> u8
+        ensures { result ≡ stop_number (ending_stop self) }
+    {
+        match self {
+            Ending::Done => 11,
+            Ending::FuelSpent => 12,
+            Ending::Halted(k) => k.number(),
+        }
+    }
+}
+
+// How a run ended: why, steps, words put, procedure and instruction.
 #[derive(Clone, Copy)]
 pub struct Ended {
-    pub number: u64,
+    pub ending: Ending,
     pub steps: u64,
     pub put: usize,
     pub procedure: usize,

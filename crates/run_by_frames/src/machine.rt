@@ -1,13 +1,12 @@
 // The two machines, told apart by a type, so that each run is compiled for its own machine alone.
-ghost use Rattle.std.specs.Prelude.{List, ℕ, length};
+ghost use Rattle.std.specs.Prelude.{length};
 ghost use Rattle.model.specs.Modes.{Mode, plain, watched};
 ghost use Rattle.writers.specs.Memory.{Sane};
-ghost use Rattle.frames.specs.Performs.{Loaded};
 ghost use Rattle.lent_step.specs.Counts.{Steppable, TurnIs, turned};
 ghost use Rattle.run_by_frames.specs.Turn.{ScopeFor};
 
+use form::FormedSheet;
 use frames::set_in;
-use index::Index;
 use index::procedures::{Scope, frame_scope};
 use lent_step::step_by;
 use watched_step::step::guarded_step;
@@ -17,14 +16,13 @@ pub trait Machine {
     ghost mode: { Mode };
 
     // The scope of the running frame, which is the same as long as the frame runs on.
-    fn scope(s: &[u8], memory: &[u64], r: Registers) -> Scope
+    fn scope(s: FormedSheet, memory: &[u64], r: Registers) -> Scope
         requires { Sane (length memory.now) r }
-        ensures { (index : List ℕ) → Loaded s.now index → ScopeFor mode s.now memory.now r result };
+        ensures { ScopeFor mode s.entry.sheet.bytes.now memory.now r result };
 
     // One step, in the scope of the running frame. The plain machine's counts itself, the watched one's does not: the caller counts either.
     fn turn(
-        s: &[u8],
-        index: &Index,
+        s: FormedSheet,
         code: &[u8],
         p: Scope,
         input: &[u32],
@@ -32,9 +30,9 @@ pub trait Machine {
         output: &mut [u32],
         r: Registers,
     ) -> Stepped
-        requires steppable { Steppable s.now index.now code.now memory.old r }
-        requires scope_for { ScopeFor mode s.now memory.old r p }
-        ensures { TurnIs mode s.now input.now memory.old memory.new output.old output.new r (turned r result) };
+        requires steppable { Steppable s.sheet.bytes.now code.now memory.old r }
+        requires scope_for { ScopeFor mode s.sheet.bytes.now memory.old r p }
+        ensures { TurnIs mode s.entry.sheet.bytes.now input.now memory.old memory.new output.old output.new r (turned r result) };
 }
 
 pub struct Plain;
@@ -43,7 +41,7 @@ impl Machine for Plain {
     ghost mode = { plain };
 
     // No step of it reads a scope.
-    fn scope(_s: &[u8], _memory: &[u64], _r: Registers) -> Scope {
+    fn scope(_s: FormedSheet, _memory: &[u64], _r: Registers) -> Scope {
         Scope {
             head: 0,
             start: 0,
@@ -52,8 +50,7 @@ impl Machine for Plain {
     }
 
     fn turn(
-        s: &[u8],
-        index: &Index,
+        s: FormedSheet,
         code: &[u8],
         _p: Scope,
         input: &[u32],
@@ -61,7 +58,7 @@ impl Machine for Plain {
         output: &mut [u32],
         r: Registers,
     ) -> Stepped {
-        step_by(s, index, code, input, memory, output, r)
+        step_by(s, code, input, memory, output, r)
     }
 }
 
@@ -70,13 +67,12 @@ pub struct Watched;
 impl Machine for Watched {
     ghost mode = { watched };
 
-    fn scope(s: &[u8], memory: &[u64], r: Registers) -> Scope {
-        frame_scope(s, r.procedure, set_in(memory, r))
+    fn scope(s: FormedSheet, memory: &[u64], r: Registers) -> Scope {
+        frame_scope(s.sheet.bytes, r.procedure, set_in(memory, r))
     }
 
     fn turn(
-        s: &[u8],
-        index: &Index,
+        s: FormedSheet,
         code: &[u8],
         p: Scope,
         input: &[u32],
@@ -84,6 +80,6 @@ impl Machine for Watched {
         output: &mut [u32],
         r: Registers,
     ) -> Stepped {
-        guarded_step(s, index, code, p, input, memory, output, r)
+        guarded_step(s, code, p, input, memory, output, r)
     }
 }

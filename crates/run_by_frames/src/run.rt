@@ -5,33 +5,32 @@ ghost use Rattle.model.specs.Run.{run, opened};
 ghost use Rattle.sheet.specs.Layout.{variables_field, procedure_at};
 ghost use Rattle.sheet.specs.Meaning.{program_of};
 ghost use Rattle.writers.specs.Memory.{StandsFor, number_in};
-ghost use Rattle.frames.specs.Performs.{Loaded};
 ghost use Rattle.frames.specs.Fetch.{CodeOf};
 ghost use Rattle.run_by_frames.specs.Reply.{EndedIs};
 ghost use Rattle.run_by_frames.specs.Turn.{NeverStuck, Begun, FrameRuns, RunsUntil};
 
 use crate::machine::Machine;
-use crate::{Ended, Halted, Paused};
+use crate::{Ended, Ending, Halted, Paused};
+use form::FormedSheet;
 use frames::instructions_of;
-use index::Index;
 use index::procedures::procedure_in;
 use lent_step::count;
 use words::{clear, first_in, number_in, variables_in};
-use writers::{Registers, Stepped};
+use model::Halt;
+use writers::{Next, Registers};
 
 // Main's frame, at the end of the memory; no frame waits for it.
-fn open_main(s: &[u8], index: &Index, memory: &mut [u64], v: usize) -> Registers
-    requires loaded { Loaded s.now index.now }
-    requires v_value { (v ≡ variables_field s.now (procedure_at s.now 0)) × (v < 256) }
+fn open_main(s: FormedSheet, memory: &mut [u64], v: usize) -> Registers
+    requires v_value { (v ≡ variables_field s.sheet.bytes.now (procedure_at s.sheet.bytes.now 0)) × (v < 256) }
     requires v_in_bounds { (v + 2 ≤ length memory.old) × (length memory.old ≤ 65536) }
     ensures steps_value { result.steps ≡ 0 }
-    ensures stands_for { (m : Mode) (input out : List ℕ) → StandsFor m (record { sheet = s.now; input = input; output = out }) memory.new out result (opened m (program_of s.now) (length memory.old) (length out) input) }
+    ensures stands_for { (m : Mode) (input out : List ℕ) → StandsFor m (record { sheet = s.entry.sheet.bytes.now; input = input; output = out }) memory.new out result (opened m (program_of s.entry.sheet.bytes.now) (length memory.old) (length out) input) }
 {
     let len = memory.len();
     let at = len - (v + 2);
     clear(&mut memory[at..len]);
     Registers {
-        procedure: procedure_in(index, 0),
+        procedure: procedure_in(s.sheet.index, 0),
         next: 0,
         base: at,
         used: 0,
@@ -41,11 +40,11 @@ fn open_main(s: &[u8], index: &Index, memory: &mut [u64], v: usize) -> Registers
     }
 }
 
-fn ended(number: u8, r: Registers) -> Ended
-    ensures { result ≡ record { number = number; steps = r.steps; put = r.put; procedure = number_in r; instruction = r.next } }
+fn ended(ending: Ending, r: Registers) -> Ended
+    ensures { result ≡ record { ending = ending; steps = r.steps; put = r.put; procedure = number_in r; instruction = r.next } }
 {
     Ended {
-        number: number as u64,
+        ending,
         steps: r.steps,
         put: r.put,
         procedure: number_in(r.procedure) as usize,
@@ -56,8 +55,7 @@ fn ended(number: u8, r: Registers) -> Ended
 // The run of one frame: to other registers, to a number of steps, or to the end. Only the next instruction and the count of steps change in it, which is what
 // makes the loop fast.
 fn run_frame<M: Machine>(
-    s: &[u8],
-    index: &Index,
+    s: FormedSheet,
     code: &[u8],
     input: &[u32],
     memory: &mut [u64],
@@ -65,39 +63,29 @@ fn run_frame<M: Machine>(
     start: Registers,
     until: u64,
 ) -> Paused
-    requires loaded { Loaded s.now index.now }
-    requires code_of { CodeOf s.now start code.now }
-    requires begun { Begun M.mode s.now input.now until memory.old output.old start }
-    ensures { FrameRuns M.mode s.now input.now until memory.old memory.new output.old output.new start result }
+    requires code_of { CodeOf s.sheet.bytes.now start code.now }
+    requires begun { Begun M.mode s.sheet.bytes.now input.now until memory.old output.old start }
+    ensures { FrameRuns M.mode s.entry.sheet.bytes.now input.now until memory.old memory.new output.old output.new start result }
 {
-    let procedure = start.procedure;
-    let base = start.base;
-    let used = start.used;
-    let taken = start.taken;
-    let put = start.put;
     let p = M::scope(s, memory, start);
     let mut r = start;
     while r.steps < until {
-        match M::turn(s, index, code, p, input, memory, output, r) {
-            Stepped::Go(q) => {
+        match M::turn(s, code, p, input, memory, output, r) {
+            Ok(Next::Go(q)) => {
                 r = Registers {
-                    procedure,
                     next: q.next,
-                    base,
-                    used,
-                    taken,
-                    put,
                     steps: r.steps + 1,
+                    ..start
                 };
             }
-            Stepped::Enter(q) => {
+            Ok(Next::Enter(q)) => {
                 return Paused::Enter(count(r, q));
             }
-            Stepped::Halt(k) => {
-                return Paused::End(ended(k, r));
+            Ok(Next::Done) => {
+                return Paused::End(ended(Ending::Done, count(r, r)));
             }
-            Stepped::Done => {
-                return Paused::End(ended(11, count(r, r)));
+            Err(k) => {
+                return Paused::End(ended(Ending::Halted(k), r));
             }
         }
     }
@@ -106,22 +94,20 @@ fn run_frame<M: Machine>(
 
 // From registers and memory that stand where a run does, to where it stands after `until` steps, or to its end.
 pub fn run_until<M: Machine>(
-    s: &[u8],
-    index: &Index,
+    s: FormedSheet,
     input: &[u32],
     memory: &mut [u64],
     output: &mut [u32],
     start: Registers,
     until: u64,
 ) -> Halted
-    requires loaded { Loaded s.now index.now }
-    requires begun { Begun M.mode s.now input.now until memory.old output.old start }
-    ensures { RunsUntil M.mode s.now input.now until memory.old memory.new output.old output.new start result }
+    requires begun { Begun M.mode s.sheet.bytes.now input.now until memory.old output.old start }
+    ensures { RunsUntil M.mode s.entry.sheet.bytes.now input.now until memory.old memory.new output.old output.new start result }
 {
     let mut r = start;
     loop {
-        let code = instructions_of(s, first_in(r.procedure) as usize);
-        match run_frame::<M>(s, index, code, input, memory, output, r, until) {
+        let code = instructions_of(s.sheet.bytes, first_in(r.procedure) as usize);
+        match run_frame::<M>(s, code, input, memory, output, r, until) {
             Paused::Enter(q) => {
                 r = q;
             }
@@ -137,31 +123,29 @@ pub fn run_until<M: Machine>(
 
 // A run of a sheet that is never stuck, in a memory of at most 65,536 words, which holds nothing of account before or after.
 pub fn run_in<M: Machine>(
-    s: &[u8],
-    index: &Index,
+    s: FormedSheet,
     input: &[u32],
     fuel: u64,
     memory: &mut [u64],
     output: &mut [u32],
 ) -> Ended
-    requires loaded { Loaded s.now index.now }
     requires memory_len_bound { length memory.old ≤ 65536 }
-    requires never_stuck { NeverStuck (run M.mode (program_of s.now) (length memory.old) (length output.old) input.now fuel) }
-    ensures { EndedIs result output.old output.new (run M.mode (program_of s.now) (length memory.old) (length output.old) input.now fuel) }
+    requires never_stuck { NeverStuck (run M.mode (program_of s.sheet.bytes.now) (length memory.old) (length output.old) input.now fuel) }
+    ensures { EndedIs result output.old output.new (run M.mode (program_of s.entry.sheet.bytes.now) (length memory.old) (length output.old) input.now fuel) }
 {
-    let v = variables_in(procedure_in(index, 0)) as usize;
+    let v = variables_in(procedure_in(s.sheet.index, 0)) as usize;
     if memory.len() < v + 2 {
         return Ended {
-            number: 17,
+            ending: Ending::Halted(Halt::MemoryFull),
             steps: 0,
             put: 0,
             procedure: 0,
             instruction: 0,
         };
     }
-    let start = open_main(s, index, memory, v);
-    match run_until::<M>(s, index, input, memory, output, start, fuel) {
-        Halted::Rest(r) => ended(12, r),
+    let start = open_main(s, memory, v);
+    match run_until::<M>(s, input, memory, output, start, fuel) {
+        Halted::Rest(r) => ended(Ending::FuelSpent, r),
         Halted::End(e) => e,
     }
 }

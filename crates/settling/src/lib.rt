@@ -15,7 +15,8 @@ use index::Index;
 use index::procedures::{Scope, instance_name};
 use index::sheets::Sheet;
 use index::types::{
-    element_number, element_of, name_rights, rights_in, shape_in, type_word, type_word_as,
+    element_number, element_of, is_array_type, is_generic_type, name_rights, rights_in, shape_in,
+    type_word, type_word_as,
 };
 use model::{Halt, Reason};
 use rights::is_within;
@@ -77,10 +78,11 @@ fn settles_base(index: &Index, n: u64, j: u8, m: u64, i: u8) -> Settles
     requires { is_array (type_in index.now n j) ≡ false }
     ensures { SettlesIs (type_in index.now n j) (type_in index.now m i) result }
 {
-    let shape = shape_in(type_word_as(index, n, j));
-    if shape < 256 {
+    let need = type_word_as(index, n, j);
+    if !is_generic_type(need) {
         return Settles::Unused;
     }
+    let shape = shape_in(need);
     let v = type_word_as(index, m, i);
     let b = shape_in(v);
     if b == shape {
@@ -97,7 +99,7 @@ fn innermost(index: &Index, j: u8, i: u8) -> u16
     ensures { Innermost index.now j i result }
 {
     let w = type_word(index, j);
-    if shape_in(w) == 1 {
+    if is_array_type(w) {
         let e = element_number(w);
         if e < j {
             return innermost(index, e, element_of(index, i));

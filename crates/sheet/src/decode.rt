@@ -43,7 +43,6 @@ impl From<Fields> for Operation {
 }
 
 // The operation of the IN at a place.
-#[tactic(auto, unfolding(crate::specs::Decode::operation_at, crate::specs::Layout::code_at, crate::specs::Layout::k_at))]
 pub fn operation_at(s: &[u8], at: usize) -> Operation
     ensures { result ≡ operation_at s.now at }
 {
@@ -57,7 +56,6 @@ pub fn operation_at(s: &[u8], at: usize) -> Operation
 }
 
 // Instruction i of procedure p, which stands at a place.
-#[tactic(auto, unfolding(crate::specs::Decode::instruction_in))]
 pub fn instruction_in(s: &[u8], p: usize, i: u16, at: usize) -> Instruction
     ensures { result ≡ instruction_in s.now p i at }
 {

@@ -35,13 +35,13 @@ impl<'a> Encoded<'a> {
     }
 }
 
-// The rights in the QT or the GN at a place, after its base.
-pub fn rights_at(e: Encoded, at: usize) -> u32
-    ensures { result ≡ rights_at e.entry.bytes.now at }
+// The rights in the QT or the GN at a place, after its base, by the bytes that they take.
+pub fn rights_at(s: &[u8], size: u8, at: usize) -> u32
+    ensures { size ≡ rights_size (edition_in s.now) → result ≡ rights_at s.now at }
 {
-    let low = u32::from(word(e.bytes, at, 3));
-    if e.rights == 4 {
-        return low + 65536 * u32::from(word(e.bytes, at, 5));
+    let low = u32::from(word(s, at, 3));
+    if size == 4 {
+        return low + 65536 * u32::from(word(s, at, 5));
     }
     low
 }

@@ -44,7 +44,7 @@ pub fn qual_fields(e: Encoded, at: usize) -> QualFields
     }
     QualFields {
         base: byte(e.bytes, at, 2),
-        rights: rights_at(e, at),
+        rights: rights_at(e.bytes, e.rights, at),
         element: byte(e.bytes, at, 3 + n),
     }
 }

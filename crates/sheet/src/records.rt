@@ -6,7 +6,6 @@ use crate::bytes::{marked, whole};
 use crate::edition::rights_size;
 
 // The size of the record whose mark stands at a place, 0 where no known mark does.
-#[tactic(auto, unfolding(crate::specs::Reader::size_at))]
 fn size_at(s: &[u8], at: usize) -> usize
     ensures { result ≡ size_at s.now at }
 {

@@ -5,7 +5,7 @@ ghost use Rattle.std.specs.Prelude.{◌+◌, ◌≤◌, ◌≡◌, ◌++◌, len
 ghost use Rattle.io.specs.Counts.{IsPrefixLen};
 ghost use Rattle.verdict_line.specs.Line.{decimal, line};
 
-use model::{Refusal, Verdict};
+use model::Verdict;
 
 // No line is longer: twenty digits hold every number.
 pub const LINE_BYTES: usize = 64;
@@ -34,6 +34,7 @@ fn append_decimal(out: &mut [u8], at: usize, n: u64) -> usize
 }
 
 // Puts the line of a verdict at the start of what is lent, and gives how many bytes it has.
+// It is no `Display`, which would have to fit: no clause of `write!` says that it gives no error where there is room.
 #[tactic(auto, unfolding(crate::specs::Line::ascii, crate::specs::Line::line))]
 pub fn put_line(v: Verdict, out: &mut [u8; LINE_BYTES]) -> usize
     ensures prefix_len { IsPrefixLen result out.new }
@@ -41,19 +42,12 @@ pub fn put_line(v: Verdict, out: &mut [u8; LINE_BYTES]) -> usize
 {
     match v {
         Ok(()) => append(out, 0, b"accepted 0 0\n"),
-        Err(r) => put_refusal(r, out),
+        Err(r) => {
+            let word = append(out, 0, b"refused ");
+            let numbered = append_decimal(out, word, u64::from(r.reason.number()));
+            let parted = append(out, numbered, b" ");
+            let placed = append_decimal(out, parted, r.place as u64);
+            append(out, placed, b"\n")
+        }
     }
-}
-
-#[tactic(auto, unfolding(crate::specs::Line::ascii, crate::specs::Line::line))]
-fn put_refusal(r: Refusal, out: &mut [u8]) -> usize
-    requires { 64 ≤ length out.old }
-    ensures upper_bound { result ≤ length out.old }
-    ensures out_after { take result out.new ≡ line (Err r) }
-{
-    let word = append(out, 0, b"refused ");
-    let numbered = append_decimal(out, word, u64::from(r.reason.number()));
-    let parted = append(out, numbered, b" ");
-    let placed = append_decimal(out, parted, r.place as u64);
-    append(out, placed, b"\n")
 }

@@ -91,7 +91,7 @@ pub fn call(
     ensures { PerformsInside watched s.entry.sheet.bytes.now memory.old memory.new r result (Op.Call a b k) }
 {
     let callee = procedure_in(s.sheet.index, k as usize);
-    let own = own_scope(s.sheet, callee);
+    let own = own_scope(s.sheet.bytes, callee);
     if (a != 255) & (field(s.sheet.bytes, own.head, 5) == 255) {
         return Err(Halt::WrongKind);
     }

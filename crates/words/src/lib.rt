@@ -1,5 +1,5 @@
 // One word of the memory: what it stands for, and how it is read and written.
-#![tactic(auto)]
+#![tactic(auto, unfolding(crate::specs::Word::low, crate::specs::Word::tag, crate::specs::Word::payload, crate::specs::Word::pack))]
 
 ghost use Rattle.std.specs.Prelude.{◌≡◌, ℕ, ◌+◌, ◌<◌, ◌≤◌, ◌^◌, length, get_or, set, replicate, eqb};
 ghost use Rattle.model.specs.Qualified.{Qual, declared};

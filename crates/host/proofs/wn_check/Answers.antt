@@ -1,10 +1,10 @@
 use mathlib.Core.Path.{sym, ◌∙◌}
 use Rattle.host.proofs.wn_check.Goals as goal
 
-pub returns-in-Accepted : goal.returns-in-Accepted
-returns-in-Accepted c =
-    let e = sym c.check.ensures ∙ c.in-Accepted.is in record { value = rw e; reply_after = rw e c.put_at.ensures }
+pub returns-in-Ok : goal.returns-in-Ok
+returns-in-Ok c =
+    let e = sym c.check.ensures ∙ c.in-Ok.is in record { value = rw e; reply_after = rw e c.write.ensures }
 
-pub returns-in-Refused : goal.returns-in-Refused
-returns-in-Refused c =
-    let e = sym c.check.ensures ∙ c.in-Refused.is in record { value = rw e; reply_after = rw e c.put_at-in-Refused.ensures }
+pub returns-in-Err : goal.returns-in-Err
+returns-in-Err c =
+    let e = sym c.check.ensures ∙ c.in-Err.is in record { value = rw e; reply_after = rw e c.write-in-Err.ensures }

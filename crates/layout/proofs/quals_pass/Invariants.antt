@@ -1,10 +1,7 @@
-use Prim.Native.Nat.{◌-◌}
-use Rattle.model.proofs.Verdicts.{Passing}
+use mathlib.Core.Path.{◌≡◌}
+use Rattle.model.specs.Refusal.{Accepted, verdict, span}
 use Rattle.form.specs.WellFormed.{qual_tests}
 use Rattle.layout.proofs.quals_pass.Given as goal
 
 abbrev pub invariant-loop-j : goal.invariant-loop-j
-invariant-loop-j l = Passing (qual_tests l.s) l.q l.j
-
-abbrev pub decreases-loop-j : goal.decreases-loop-j
-decreases-loop-j l = l.q - l.j
+invariant-loop-j l = verdict (span (qual_tests l.e.bytes.now) 0 l.j) ≡ Accepted

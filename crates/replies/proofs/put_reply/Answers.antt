@@ -2,4 +2,4 @@ use Rattle.replies.proofs.put_reply.Goals as goal
 
 pub returns : goal.returns
 returns c =
-    rw (c.put_at-5.ensures, c.put_at-4.ensures, c.put_at-3.ensures, c.put_at-2.ensures, c.put_at.ensures)
+    rw (c.write-5.ensures, c.write-4.ensures, c.write-3.ensures, c.write-2.ensures, c.write.ensures)

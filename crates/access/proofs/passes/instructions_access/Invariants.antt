@@ -1,11 +1,9 @@
-use Prim.Native.Nat.{◌-◌}
+use mathlib.Core.Path.{◌≡◌}
+use Rattle.std.specs.Prelude.{Ok}
+use Rattle.model.specs.Refusal.{verdict, span}
 use Rattle.model.specs.Rules.{instruction_rules}
-use Rattle.model.proofs.Verdicts.{Passing}
 use Rattle.sheet.specs.Meaning.{program_of, place_of}
 use Rattle.access.proofs.passes.instructions_access.Given as goal
 
 abbrev pub invariant-loop-i : goal.invariant-loop-i
-invariant-loop-i l = Passing (instruction_rules (place_of l.s) (program_of l.s) l.p) l.n l.i
-
-abbrev pub decreases-loop-i : goal.decreases-loop-i
-decreases-loop-i l = l.n - l.i
+invariant-loop-i l = verdict (span (instruction_rules (place_of l.s.bytes.now) (program_of l.s.bytes.now) l.p) 0 l.i) ≡ Ok tt

@@ -1,17 +1,10 @@
--- The loop over the TY records: what is left to say is the verdict from the present record on.
-use Rattle.model.proofs.Verdicts.{pass_start, pass_next, pass_stop, pass_end}
+-- The first record that is refused is the refusal.
+use mathlib.Core.Path.{sym, ◌∙◌}
+use Rattle.std.proofs.lemmas.Result.{err_from_is_err_and}
+use Rattle.model.proofs.Verdicts.{pass_refuses}
 use Rattle.access.proofs.passes.types_access.Goals as goal
 
-pub loop-i-init : goal.loop-i-init
-loop-i-init c = pass_start _ _
-
-pub returns-in_default : goal.returns-in_default
-returns-in_default c =
-    pass_stop _ _ _ c.loop-i.invariant c.loop-i-test.true _ _ _ c.type_access-v.ensures c.in_default.is
-
-pub loop-i-preserved : goal.loop-i-preserved
-loop-i-preserved c =
-    pass_next _ _ _ c.loop-i.invariant c.loop-i-test.true _ c.type_access-v.ensures c.in-Accepted.is
-
-pub returns : goal.returns
-returns c = pass_end _ _ _ c.loop-i.invariant c.loop-i-test.false
+pub returns-in_err-type_access : goal.returns-in_err-type_access
+returns-in_err-type_access c =
+    let p = err_from_is_err_and c.from_residual.result c.from_residual.ensures.1 in
+    rw (p.1, p.2) (pass_refuses _ _ _ _ c.loop-i-test.true c.loop-i.invariant (sym c.in_err-type_access.was ∙ c.type_access.ensures))

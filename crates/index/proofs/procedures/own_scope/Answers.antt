@@ -7,7 +7,7 @@ use Rattle.index.proofs.procedures.own_scope.Goals as goal
 pub returns : goal.returns
 unfolding own
 returns c k p h =
-    let s = c.args.s.bytes.now in
+    let s = c.args.s.now in
     let here = c.place_in-head.ensures ∙ p.place in
     let base = c.base_in.ensures k p here ∙ ap (λ (pr : _). bound_base (bound_in_sheet s k pr)) here in
     let set = c.least_in.ensures k p here ∙ ap (λ (pr : _). least (bound_in_sheet s k pr)) here in

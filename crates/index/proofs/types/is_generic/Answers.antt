@@ -4,4 +4,4 @@ use Rattle.index.proofs.Reading.{generic_as}
 use Rattle.index.proofs.types.is_generic.Goals as goal
 
 pub returns : goal.returns
-returns c = rw (c.shape_in.ensures, c.type_word_as.ensures) (sym (generic_as _ _ _))
+returns c = rw (c.is_generic_type.ensures, c.type_word_as.ensures) (sym (generic_as _ _ _))

@@ -9,7 +9,7 @@ abbrev pub invariant-loop-r : goal.invariant-loop-r
 invariant-loop-r g l =
     (l.initial.r.steps ≤ l.r.steps)
     × ((l.r.steps ≤ l.until)
-    × ((l.r ≡ kept_with l.initial.r l.r) × (Kept g.M.Machine.mode l.s l.input l.until (length l.initial.memory) l.initial.memory l.initial.output l.initial.r l.memory l.output l.r × ScopeFor g.M.Machine.mode l.s l.memory l.r l.p)))
+    × ((l.r ≡ kept_with l.initial.r l.r) × (Kept g.M.Machine.mode l.s.sheet.bytes.now l.input l.until (length l.initial.memory) l.initial.memory l.initial.output l.initial.r l.memory l.output l.r × ScopeFor g.M.Machine.mode l.s.sheet.bytes.now l.memory l.r l.p)))
 
 abbrev pub decreases-loop-r : goal.decreases-loop-r
 decreases-loop-r g l = l.until - l.r.steps

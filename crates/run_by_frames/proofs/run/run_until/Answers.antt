@@ -10,7 +10,7 @@ loop-q-init g c = (c.requires.begun.soon, λ d G. G)
 
 pub run_frame-requires : goal.run_frame-requires
 run_frame-requires g c =
-    record { loaded = c.requires.loaded; code_of = c.instructions_of-code.ensures ∙ ap (λ n. drop n c.args.s.now) c.first_in.ensures; begun = begins c.loop-q.invariant.1 c.requires.begun c.loop-q.invariant.0 }
+    record { code_of = c.instructions_of-code.ensures ∙ ap (λ n. drop n c.args.s.sheet.bytes.now) c.first_in.ensures; begun = begins c.loop-q.invariant.1 c.requires.begun c.loop-q.invariant.0 }
 
 pub loop-q-smaller : goal.loop-q-smaller
 loop-q-smaller g c =

@@ -1,10 +1,7 @@
-use Prim.Native.Nat.{◌-◌}
-use Rattle.model.proofs.Verdicts.{Passing}
+use mathlib.Core.Path.{◌≡◌}
+use Rattle.model.specs.Refusal.{Accepted, verdict, span}
 use Rattle.form.specs.WellFormed.{variable_uses}
 use Rattle.well_formed.proofs.uses.variable_uses.Given as goal
 
 abbrev pub invariant-loop-x : goal.invariant-loop-x
-invariant-loop-x l = Passing (variable_uses l.s l.bounded l.start) l.n l.x
-
-abbrev pub decreases-loop-x : goal.decreases-loop-x
-decreases-loop-x l = l.n - l.x
+invariant-loop-x l = verdict (span (variable_uses l.s.bytes.now l.bounded l.start) 0 l.x) ≡ Accepted

@@ -1,7 +1,0 @@
--- Past the end `get_or` gives its default.
-use lib.ListN.{get_or-eq_default}
-use mathlib.Core.Path.{sym}
-use Rattle.words.proofs.read.Goals as goal
-
-pub returns-else-i-b : goal.returns-else-i-b
-returns-else-i-b c = sym (get_or-eq_default c.args.b.now 0 c.if-i-b.false)
