@@ -53,6 +53,7 @@ fn no_integer(blank: bool) -> Halt
 }
 
 // The integer in variable x. The tag tells it; why there is none is asked only then.
+#[tactic(auto, using(crate::proofs::Laws::one_word, crate::proofs::Laws::no_word))]
 pub fn integer_in(f: &[u64], x: u8) -> Result<u32, Halt>
     requires { x < length f.now }
     ensures { (q : ℕ → Qual) (g : Program) (v : View watched) (h : List ℕ) → Sees watched q v f.now h → number_as watched result ≡ one_integer watched g v x }
@@ -65,6 +66,7 @@ pub fn integer_in(f: &[u64], x: u8) -> Result<u32, Halt>
 }
 
 // The integers in variables b and c.
+#[tactic(auto, using(crate::proofs::Laws::both_words, crate::proofs::Laws::no_words))]
 fn two_integers(f: &[u64], b: u8, c: u8) -> Result<(u32, u32), Halt>
     requires { (b < length f.now) × (c < length f.now) }
     ensures { (q : ℕ → Qual) (g : Program) (v : View watched) (h : List ℕ) → Sees watched q v f.now h → pair_as result ≡ integers watched g v b c }
@@ -78,6 +80,7 @@ fn two_integers(f: &[u64], b: u8, c: u8) -> Result<(u32, u32), Halt>
 }
 
 // The input that a take finds may go into variable a.
+#[tactic(auto, using(crate::proofs::Laws::integer_in_type, index::proofs::Ready::of_sheet))]
 pub fn takes_integer(s: Sheet, p: Scope, a: u8) -> bool
     ensures { result ≡ is_integer (inner_as s.entry.bytes.now p a) }
 {
@@ -92,6 +95,7 @@ fn give(s: Sheet, p: Scope, a: u8, n: u32) -> Result<u32, Halt>
     Ok(n)
 }
 
+#[tactic(auto, unfolding(model::specs::Machine::plan))]
 pub fn set_guarded(s: Sheet, p: Scope, a: u8, k: u16) -> Result<u32, Halt>
     ensures { (f h : List ℕ) → PlansNumber s.entry.bytes.now p f h (Op.Set a k) a result }
 {
@@ -257,6 +261,7 @@ pub fn declared_element(s: Sheet, p: Scope, a: u8) -> u8
     element_of(s.index, inner_of(s.bytes, p.start, a))
 }
 
+#[tactic(auto, using(crate::proofs::Laws::type_in_lem, index::proofs::Ready::of_sheet))]
 pub fn declared_rights(s: Sheet, p: Scope, a: u8) -> u32
     ensures { result ≡ rights (inner_as s.entry.bytes.now p a) }
 {

@@ -4,7 +4,7 @@ use native.Mathlib.Omega.{arith}
 use mathlib.Core.Path.{◌≡◌, refl}
 use lib.ListN.{length-set}
 use Rattle.binding.proofs.Laws.{exit_is}
-use Rattle.watched_calls.proofs.Calling.{bound_none, bound_more, bound_stop, bound_done}
+use Rattle.watched_calls.proofs.Calling.{bound_none, bound_more, bound_stop}
 use Rattle.watched_calls.proofs.bind_actuals.Goals as goal
 
 pub loop-j-init : goal.loop-j-init
@@ -12,17 +12,6 @@ loop-j-init c =
     let a = c.args in
     let e : a.f - 0 ≡ a.f = omega arith in
     (refl, λ k z at. rw e (bound_none a.s.bytes.now a.memory.now a.r k a.b z a.at a.f))
-
-pub actual_in-requires : goal.actual_in-requires
-actual_in-requires c = rw c.loop-j.invariant.0 c.requires.sane
-
-pub bounds-memory-at : goal.bounds-memory-at
-bounds-memory-at c =
-    let turn = c.loop-j-test.true in
-    let frame = c.requires.sane.frame in
-    let room = c.requires.used_le_at.1 in
-    let long = c.loop-j.invariant.0 in
-    omega arith
 
 pub returns-in_err-w : goal.returns-in_err-w
 returns-in_err-w c =
@@ -46,9 +35,3 @@ loop-j-preserved c =
       simp length-set loop.invariant.0,
       λ k z at. bound_more (loop.invariant.1 k z at) c.actual_in.result (a.f - (loop.j + 1)) (omega arith) (λ u T. c.actual_in.ensures.1 u k z at T) c.in_ok-w.was (rw c.in_ok-w.was at c.actual_in.ensures.0) (omega arith) (omega arith) (omega arith),
     )
-
-pub returns : goal.returns
-returns c =
-    let loop = c.loop-j in
-    let end = c.loop-j.auto.j-end in
-    λ k z at. let e : loop.j ≡ c.args.f = omega arith in bound_done (loop.invariant.1 k z at) e (omega arith)

@@ -21,15 +21,15 @@ returns-then-a-field c =
     let to = c.own_scope-own.ensures a.k (placed_word C) (bound_within s index L a.k c.requires.callable.procedure) in
     call_unkept s a.memory.now a.r a.a a.b a.k c.requires.scope_here to c.field.ensures c.if-a-field.true
 
-pub enter-requires : goal.enter-requires
-enter-requires c =
+pub enter-requires-clause-enterable : goal.enter-requires-clause-enterable
+enter-requires-clause-enterable c =
     let a = c.args in
     let s = a.s.sheet.bytes.now in
     let index = a.s.sheet.index.now in
     let L = loaded a.s in
     let C = word_is s index L a.k c.requires.callable.procedure c.procedure_in-callee.ensures in
     let few = formals_within s index L a.k c.requires.callable.procedure in
-    record { sane = c.requires.sane; enterable = record { next = c.requires.callable.next; formals = rw (C.formals, C.variables) few } }
+    record { next = c.requires.callable.next; formals = rw (C.formals, C.variables) few }
 
 pub returns-in_err-name : goal.returns-in_err-name
 unfolding result_at

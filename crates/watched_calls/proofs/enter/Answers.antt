@@ -1,5 +1,4 @@
 -- The room is tested first; then the actuals are bound into the words where the frame will stand, which is opened around them.
-use native.Mathlib.Omega.{arith}
 use mathlib.Core.Path.{subst, ◌∙◌, ap}
 use Rattle.model.specs.Modes.{watched}
 use Rattle.model.specs.Qualified.{rights}
@@ -13,18 +12,6 @@ pub returns-then-r-v : goal.returns-then-r-v
 returns-then-r-v c =
     let a = c.args in
     λ k z scope C. enter_full a.s.bytes.now a.memory.now a.r a.a a.b k _ z C _ c.variables_in-v.ensures c.if-r-v.true
-
-pub bind_actuals-requires : goal.bind_actuals-requires
-bind_actuals-requires c =
-    let few = c.requires.enterable.formals in
-    let room = c.if-r-v.false in
-    record { sane = c.requires.sane; used_le_at = (omega arith, omega (arith, c.formals_in-f.ensures, c.variables_in-v.ensures)) }
-
-pub open-requires : goal.open-requires
-open-requires c =
-    let few = c.requires.enterable.formals in
-    let room = c.if-r-v.false in
-    record { sane = rw c.bind_actuals.auto.memory c.requires.sane; next_bound = c.requires.enterable.next; v_bound = (omega (arith, c.variables_in-v.ensures), room); f_le_v = omega (arith, c.formals_in-f.ensures, c.variables_in-v.ensures) }
 
 pub returns-in_err-bind_actuals : goal.returns-in_err-bind_actuals
 returns-in_err-bind_actuals c =

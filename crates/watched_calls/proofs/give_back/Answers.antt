@@ -11,10 +11,6 @@ returns-in_err-handed_by c =
     rw (exit_is c.from_residual.ensures.1)
     (gives_halt a.s.sheet.bytes.now a.memory.now a.memory.now a.r a.a c.requires.scope_here c.handed_by.result c.handed_by.ensures c.in_err-handed_by.was)
 
-pub resume_with-requires : goal.resume_with-requires
-resume_with-requires c =
-    record { sane = c.requires.sane; cell = rw (c.in_ok-handed_by.was, c.in-Some.is) at c.handed_by.ensures.0 }
-
 pub returns-in-None : goal.returns-in-None
 returns-in-None c =
     let a = c.args in

@@ -20,9 +20,6 @@ pub returns-then-kept : goal.returns-then-kept
 returns-then-kept c =
     returns_dropped watched c.args.s.sheet.bytes.now c.args.memory.now c.args.r c.kept_in-kept.result (omega (arith, c.if-memory-frame_end.false, c.frame_end.ensures)) (c.kept_in-kept.ensures watched) c.waiting-back.result (c.waiting-back.ensures.waits watched) c.if-kept.true _
 
-pub set_in-requires : goal.set_in-requires
-set_in-requires c = omega (arith, c.waiting-back.ensures.base_in_bounds, c.requires.sane.small)
-
 pub returns-in_err-x : goal.returns-in_err-x
 returns-in_err-x c =
     let a = c.args in

@@ -14,7 +14,3 @@ returns-in_err-x c =
 pub returns-then-r-x : goal.returns-then-r-x
 returns-then-r-x c =
     λ plain d out q. rw (c.in_ok-x.was, array_full watched _ _ _ _ c.if-r-x.true) (does_stop watched d _ out c.args.r MemoryFull)
-
-pub returns : goal.returns
-returns c =
-    λ plain d out q. rw c.in_ok-x.was (c.make_array.ensures plain d out q)
