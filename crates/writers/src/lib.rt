@@ -68,13 +68,15 @@ pub fn parts<'a>(memory: &'a [u64], r: Registers) -> Parts<'a>
     }
 }
 
-// Variable a of the running frame becomes a word.
+// Variable a of the running frame becomes a word. The frame's part is lent whole, so that a loop holds its place in one register.
 pub fn put_variable(memory: &mut [u64], r: Registers, a: u8, w: u64)
     requires sane { Sane (length memory.old) r }
     requires a_bound { a < variables_in r }
     ensures { memory.new ≡ set memory.old (r.base + a) w }
 {
-    memory[r.base + (a as usize)] = w;
+    let end = frame_end(r);
+    let frame = &mut memory[r.base..end];
+    frame[a as usize] = w;
 }
 
 // Variable a becomes an integer.
