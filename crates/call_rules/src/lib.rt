@@ -13,7 +13,7 @@ ghost use Rattle.settling.specs.Settles.{callee_as, BoundOf};
 use index::procedures::Scope;
 use index::sheets::Sheet;
 use model::{Reason, require};
-use order::movement;
+use order::movement_in;
 use settling::settled_by;
 use sheet::fields::{field, inner_of, need_of};
 
@@ -27,7 +27,7 @@ pub fn return_rule(s: Sheet, p: Scope, a: u8) -> Result<(), Reason>
         return require(result == 255, Reason::TypeMismatch);
     }
     require(result != 255, Reason::TypeMismatch)?;
-    movement(s, p.name, inner_of(s.bytes, p.start, a), p.name, result)
+    movement_in(s, p.name, inner_of(s.bytes, p.start, a), p.name, result)
 }
 
 // Actual j of a call with variables from b on moves to need j of the procedure called, whose scope is `to`.
@@ -38,7 +38,7 @@ fn actual_rule(s: Sheet, p: Scope, to: Scope, b: u8, j: u8) -> Result<(), Reason
     let x = u16::from(b) + u16::from(j);
     let from = field(s.bytes, p.start, 2 + 4 * x);
     let need = need_of(s.bytes, to.start, j);
-    movement(s, p.name, from, to.name, need)
+    movement_in(s, p.name, from, to.name, need)
 }
 
 #[tactic(auto, using(model::proofs::Verdicts::each_test), unfolding(sheet::specs::Layout::formals_at))]
@@ -68,7 +68,7 @@ fn kept_result_rule(s: Sheet, p: Scope, to: Scope, a: u8) -> Result<(), Reason>
     if (a == 255) | (result == 255) {
         return Ok(());
     }
-    movement(s, to.name, result, p.name, inner_of(s.bytes, p.start, a))
+    movement_in(s, to.name, result, p.name, inner_of(s.bytes, p.start, a))
 }
 
 // The movements of a call, where ?R of the procedure called stands for what a name has.

@@ -1,9 +1,9 @@
 -- The instruction that the registers name, read from the running procedure's part of the sheet; and what is known of a call.
-use Prim.Native.Nat.{ℕ, ◌+◌, ◌-◌, ◌*◌, ◌≤◌}
+use Prim.Native.Nat.{ℕ, ◌+◌, ◌-◌, ◌*◌}
 use native.Mathlib.Omega.{arith}
 use mathlib.Core.Path.{◌≡◌, ap, sym, subst, ◌∙◌}
 use mathlib.Core.List.{List}
-use lib.ListN.{length, get_or, drop, length-drop}
+use lib.ListN.{get_or, drop}
 use lib.Seq.{get_or-drop}
 use Rattle.model.specs.Rules.{callee}
 use Rattle.model.specs.declared.Operation.{Operation}
@@ -31,12 +31,6 @@ operation_drop s n at =
 module _ (s : List ℕ) (r : Registers) (code : List ℕ) (K : CodeOf s r code) where
   pub code_operation : operation_at code (8 * r.next) ≡ operation_at s (place_in r)
   code_operation = rw K (operation_drop s (first_in r) (8 * r.next))
-
-  pub code_whole : Fetchable s r → 8 * r.next + 8 ≤ length code
-  code_whole F =
-      let whole = F.whole in
-      let long : length code ≡ length s - first_in r = ap length K ∙ length-drop (first_in r) s in
-      omega arith
 
 pub callable : (s : List ℕ) (r : Registers) (a b k : ℕ) → Fetchable s r → operation_at s (place_in r) ≡ Call a b k → Callable s r a b k
 unfolding callee

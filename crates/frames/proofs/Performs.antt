@@ -1,13 +1,12 @@
 -- What an instruction asks for, and its writer, together are an operation, of either machine. What is asked for may be known only where the definition
 -- is not stuck.
-use Prim.Native.Nat.{ℕ, zero, suc, ◌+◌, ◌-◌, ◌<◌}
+use Prim.Native.Nat.{ℕ, zero, suc, ◌-◌, ◌<◌}
 use native.Mathlib.Omega.{arith}
 use mathlib.Core.Path.{◌≡◌, refl, sym, ap, subst, ◌∙◌}
 use mathlib.Core.List.{List}
 use Rattle.std.proofs.Common.{Result, Ok, Err}
 use lib.Dec.{ltb}
-use lib.ListN.{length, take, drop, length-drop}
-use lib.Seq.{length-take-le}
+use lib.ListN.{length, drop}
 use Rattle.model.specs.declared.Halt.{Halt}
 use Rattle.model.specs.Outcome.{output_full, Res, ok, stop, stuck, ensure, ◌>>=◌, ◌>>◌}
 use Rattle.model.specs.Modes.{Mode, SettledSet}
@@ -25,7 +24,7 @@ use Rattle.words.specs.Sees.{Sees}
 use Rattle.words.specs.Answers.{UnlessStuck, number_as}
 use Rattle.writers.specs.declared.Registers.{Registers}
 use Rattle.writers.specs.declared.Next.TheVariants.{Go, Enter, Done}
-use Rattle.writers.specs.Memory.{Given, variables_in, Sane, object_part, frame_part, SeesIn, Stands, StandsFor}
+use Rattle.writers.specs.Memory.{Given, object_part, frame_part, SeesIn, Stands, StandsFor}
 use Rattle.writers.specs.Steps.{Stepped, After, Does, branched, jumped, put_effect, take_effect}
 use Rattle.writers.proofs.View.{view_sees, free_is, next_input_is}
 use Rattle.frames.specs.Performs.{Performs}
@@ -66,28 +65,10 @@ module _ (m : Mode) (c : Given) (words before out : List ℕ) (r : Registers) (t
 
 -- ---- an operation
 
--- what is seen of the memory, with the running frame's part as the code cuts it, up to an end
-abbrev pub SeesCut : (m : Mode) → (qual : ℕ → Qual) → View m → (words : List ℕ) → Registers → (end : ℕ) → Type 0
-SeesCut m qual v words r end = Sees m qual v (take (end - r.base) (drop r.base words)) (object_part r words)
-
-pub sees_cut : (m : Mode) (q : ℕ → Qual) (v : View m) (words : List ℕ) (r : Registers) (end : ℕ) → end ≡ r.base + variables_in r
-    → SeesIn m q v words r → SeesCut m q v words r end
-sees_cut m q v words r end is S =
-    let n : variables_in r ≡ end - r.base = omega arith in
-    subst (λ (k : ℕ). Sees m q v (take k (drop r.base words)) (object_part r words)) n S
-
 -- the same, with both parts as `writers::parts` gives them
 pub sees_parts : (m : Mode) (q : ℕ → Qual) (v : View m) (words : List ℕ) (r : Registers) {f h : List ℕ} → f ≡ frame_part r words → h ≡ object_part r words
     → SeesIn m q v words r → Sees m q v f h
 sees_parts m q v words r e d S = rw (e, d) S
-
--- that part has as many words as the frame has variables
-pub cut_length : (words : List ℕ) (r : Registers) (end : ℕ) → Sane (length words) r → end ≡ r.base + variables_in r
-    → length (take (end - r.base) (drop r.base words)) ≡ variables_in r
-cut_length words r end sane is =
-    let frame-fits = sane.frame in
-    let n : end - r.base ≡ variables_in r = omega arith in
-    rw n (length-take-le (variables_in r) (drop r.base words) (rw length-drop (omega arith)))
 
 -- the word of the running procedure tells where its records stand
 pub placed : {m : Mode} {c : Given} {words out : List ℕ} {r : Registers} {p i : ℕ} {z : SettledSet m} {vs : List (Cell m)} {fs : List (Frame m)} {os : List (Object m)}
@@ -138,13 +119,6 @@ module _ (m : Mode) (s input words words' before out : List ℕ) (r : Registers)
     performs_if_seeing planned =
         performs_if (λ c t q i S. planned (view (length words) (length before) t) (runs m c s words before r t q S) (sees m c s words before r t q S))
 
-    -- the same, with the variables' part as the code cuts it
-    pub performs_if_frame : (end : ℕ) → end ≡ r.base + variables_in r →
-        ((v : View m) → Running s words r v → SeesCut m (qual_of s) v words r end
-        → UnlessStuck (plan m (program_of s) v op) (Fine × (e (qual_of s) ≡ plan m (program_of s) v op)))
-        → Performs m s input words words' before out r o op
-    performs_if_frame end is planned = performs_if_seeing (λ v R S. planned v R (sees_cut m (qual_of s) v words r end is S))
-
   -- the three for a writer that always does what it is told
   module _ (does : (c : Given) → Does m c words words' before out r o (e (qual_of c.sheet))) where
     pub performs :
@@ -165,23 +139,12 @@ module _ (m : Mode) (s input words words' before out : List ℕ) (r : Registers)
     performs_seeing planned =
         performs (λ c t q i S. planned (view (length words) (length before) t) (runs m c s words before r t q S) (sees m c s words before r t q S))
 
-    pub performs_frame : (end : ℕ) → end ≡ r.base + variables_in r →
-        ((v : View m) → Running s words r v → SeesCut m (qual_of s) v words r end
-        → UnlessStuck (plan m (program_of s) v op) (e (qual_of s) ≡ plan m (program_of s) v op))
-        → Performs m s input words words' before out r o op
-    performs_frame end is planned = performs_seeing (λ v R S. planned v R (sees_cut m (qual_of s) v words r end is S))
-
 -- ---- the writers that take an integer, an input word or an output word
 
 -- the number n is that of variable x
 abbrev pub ReadsIn : (m : Mode) → (s words : List ℕ) → Registers → Result ℕ Halt → ℕ → Type 0
 ReadsIn m s words r n x =
     (v : View m) → SeesIn m (qual_of s) v words r → UnlessStuck (one_integer m (program_of s) v x) (number_as m n ≡ one_integer m (program_of s) v x)
-
--- the same, in the part of the memory that the code cuts
-abbrev pub Reads : (m : Mode) → (s words : List ℕ) → Registers → (end : ℕ) → Result ℕ Halt → ℕ → Type 0
-Reads m s words r end n x =
-    (v : View m) → SeesCut m (qual_of s) v words r end → UnlessStuck (one_integer m (program_of s) v x) (number_as m n ≡ one_integer m (program_of s) v x)
 
 module _ (m : Mode) (g : Program) (v : View m) (a : ℕ) (n : Result ℕ Halt)
     (reads : UnlessStuck (one_integer m g v a) (number_as m n ≡ one_integer m g v a)) where
@@ -210,10 +173,6 @@ module _ (m : Mode) (s input words words' before out : List ℕ) (r : Registers)
   performs_jump_in n k does reads =
       performs_seeing m s input words words' before out r o (Op.JumpZero a k) (λ q. jumped m k n) does (λ v R S. jumps m (program_of s) v a n (reads v S) k)
 
-  pub performs_jump : (n : Result ℕ Halt) (k end : ℕ) → end ≡ r.base + variables_in r → ((c : Given) → Does m c words words' before out r o (jumped m k n))
-      → Reads m s words r end n a → Performs m s input words words' before out r o (Op.JumpZero a k)
-  performs_jump n k end is does reads = performs_jump_in n k does (λ v S. reads v (sees_cut m (qual_of s) v words r end is S))
-
   pub performs_put_in : (n : Result ℕ Halt) → ((c : Given) → Does m c words words' before out r o (put_effect m (length before - r.put) n)) → ReadsIn m s words r n a
       → Performs m s input words words' before out r o (Op.Put a)
   performs_put_in n does reads =
@@ -221,11 +180,6 @@ module _ (m : Mode) (s input words words' before out : List ℕ) (r : Registers)
       (λ c t q i S.
       let v = view (length words) (length before) t in
       puts m (program_of s) v a n (reads v (sees m c s words before r t q S)) (length before - r.put) (free_is m c words before r t S))
-
-  pub performs_put : (n : Result ℕ Halt) (end : ℕ) → end ≡ r.base + variables_in r
-      → ((c : Given) → Does m c words words' before out r o (put_effect m (length before - r.put) n)) → Reads m s words r end n a
-      → Performs m s input words words' before out r o (Op.Put a)
-  performs_put n end is does reads = performs_put_in n does (λ v S. reads v (sees_cut m (qual_of s) v words r end is S))
 
   pub performs_take : ((c : Given) → Does m c words words' before out r o (take_effect m a (first_of (drop r.taken input))))
       → ((v : View m) → Running s words r v → first_of (drop r.taken input) ≡ v.next_input

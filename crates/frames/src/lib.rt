@@ -69,8 +69,7 @@ pub fn open(memory: &mut [u64], r: Registers, a: u8, w: u64, set: u32, v: usize,
     }
 }
 
-// A call of procedure k with variables from b on, which keeps variable a: it asks for the room first, then for the actuals. It reads the index alone; the
-// sheet is there for the contract.
+// A call of procedure k with variables from b on, which keeps variable a: it asks for the room first, then for the actuals.
 pub fn call(s: FormedSheet, memory: &mut [u64], r: Registers, a: u8, b: u8, k: u16) -> Stepped
     requires sane { Sane (length memory.old) r }
     requires callable { Callable s.sheet.bytes.now r a b k }

@@ -1,4 +1,4 @@
-// The watched machine for a host written in C, in a library of its own: there the flag that tells the machines apart is a constant.
+// The watched machine for a host written in C, in a library of its own.
 #![tactic(auto)]
 
 ghost use Rattle.std.specs.Prelude.{◌≡◌};

@@ -1,5 +1,5 @@
 -- What a procedure's word says of its bound, where a GN has it, and the names made of it.
-use Prim.Native.Nat.{ℕ, ◌+◌, ◌-◌, ◌*◌, ◌/◌, ◌%◌, ◌^◌, ◌<◌}
+use Prim.Native.Nat.{ℕ, ◌+◌, ◌*◌, ◌/◌, ◌%◌, ◌^◌, ◌<◌}
 use mathlib.Core.Path.{◌≡◌, ap, ◌∙◌}
 use mathlib.Core.List.{List}
 use mathlib.Core.Bool.{true, false}
@@ -8,7 +8,7 @@ use Rattle.model.specs.Qualified.{declared, generic}
 use Rattle.model.specs.Generic.{bound_base, least}
 use lib.Dec.{ltb}
 use Rattle.sheet.specs.Bytes.{byte_at}
-use Rattle.sheet.specs.Layout.{rights_size, edition_in, rights_at, bound_base_at, least_at, is_bounded, bound_size, procedure_at}
+use Rattle.sheet.specs.Layout.{rights_at, bound_base_at, least_at, is_bounded, procedure_at}
 use Rattle.sheet.specs.Meaning.{bound_in_sheet}
 use Rattle.sheet.proofs.Laws.{bound_told}
 use Rattle.words.specs.Word.{bound_of}
@@ -18,11 +18,6 @@ use Rattle.index.specs.Indexed.{PlacedWord}
 -- its GN has a size exactly where there is one
 pub bounded : {s : List ℕ} {k w : ℕ} → PlacedWord s k w → ltb 0 (bound_of w) ≡ is_bounded s k (procedure_at s k)
 bounded {s} {k} p = ap (ltb 0) p.bound ∙ bound_told s k (procedure_at s k)
-
--- and is longer than its rights by the mark and the base
-pub bound_rights : {s : List ℕ} {k w : ℕ} → PlacedWord s k w → is_bounded s k (procedure_at s k) ≡ true → bound_of w - 3 ≡ rights_size (edition_in s)
-unfolding bound_size
-bound_rights p h = rw (p.bound, h) (omega arith)
 
 module _ (s : List ℕ) (k pr : ℕ) where
   pub base_some : is_bounded s k pr ≡ true → bound_base (bound_in_sheet s k pr) ≡ byte_at s pr 10

@@ -1,6 +1,6 @@
 -- One word of an index filled in: the others stay.
 use Prim.Native.Nat.{ℕ, zero, suc, ◌+◌, ◌*◌, ◌/◌, ◌%◌, ◌^◌, ◌<◌}
-use mathlib.Core.Path.{◌≡◌, refl, sym, ap, ◌∙◌}
+use mathlib.Core.Path.{◌≡◌, refl, ap, ◌∙◌}
 use mathlib.Core.List.{List}
 use mathlib.Core.Bool.{Bool, true, false, cond}
 use native.Mathlib.Omega.{arith}
@@ -10,7 +10,7 @@ use lib.Seq.{get_or-set_same, get_or-set_other}
 use Rattle.sheet.specs.Layout.{base_of, rights_field, element_field, formals_at, variables_field, bound_size, start_from, variable_at, instruction_from, procedure_at, start_at, instruction_at}
 use Rattle.words.specs.Word.{number_of, variables_of, formals_of, bound_of, first_of, procedure_word}
 use Rattle.words.proofs.Laws.{procedure_tag, number_is, variables_is, formals_is, bound_is, first_is}
-use Rattle.index.specs.Types.{rights_of, shape_of, element_of, uses_of, element_below, use_in, UseTold}
+use Rattle.index.specs.Types.{rights_of, shape_of, element_of}
 use Rattle.index.specs.Indexed.{TypeWord, ProcedureWord}
 use Rattle.index.specs.Procedures.{start_of, place_of}
 use borrow.Author.Count.{below_more}
@@ -59,32 +59,6 @@ module _ (b r e : ℕ) (h : b < 2 ^ 8) (k : r < 2 ^ 32) (l : e < 2 ^ 8) where
         rights = rw (is, ← base, ← rights) (part_rights (eqb b 255));
         element = rw (is, ← element) (part_element (eqb b 255));
       }
-
--- a word with the bit above its parts
-module _ (w : ℕ) (h : w < 2 ^ 49) where
-  shape_under_use : (w + 562949953421312) / 2 ^ 32 % 2 ^ 9 ≡ w / 2 ^ 32 % 2 ^ 9
-  shape_under_use = omega arith
-
-  rights_under_use : (w + 562949953421312) % 2 ^ 32 ≡ w % 2 ^ 32
-  rights_under_use = omega arith
-
-  element_under_use : (w + 562949953421312) / 2 ^ 41 % 2 ^ 8 ≡ w / 2 ^ 41 % 2 ^ 8
-  element_under_use = omega arith
-
-  pub with_use : (s t : List ℕ) (j : ℕ) → TypeWord s j w → use_in t j w ≡ true
-      → TypeWord s j (w + 562949953421312) × UseTold t j (w + 562949953421312)
-  unfolding shape_of rights_of element_of uses_of element_below
-  with_use s t j of told =
-      let one : (w + 562949953421312) / 2 ^ 49 % 2 ≡ 1 = omega arith in (
-        record { small = of.small; shape = shape_under_use ∙ of.shape; rights = rights_under_use ∙ of.rights; element = element_under_use ∙ of.element },
-        rw (one, shape_under_use, element_under_use) (sym told),
-      )
-
-  pub without_use : (t : List ℕ) (j : ℕ) → use_in t j w ≡ false → UseTold t j w
-  unfolding uses_of
-  without_use t j told =
-      let none : w / 2 ^ 49 % 2 ≡ 0 = omega arith in
-      rw none (sym told)
 
 -- the word of no variables for a place
 pub end_place : (at : ℕ) → at < 2 ^ 31 → place_of (procedure_word 0 0 0 0 (at + 8)) ≡ at

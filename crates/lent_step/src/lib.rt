@@ -77,7 +77,7 @@ pub fn step_lent(
     o
 }
 
-// The same on registers by value, which a covered loop can call.
+// The same on registers by value, as a loop holds them.
 pub fn step_by(
     s: FormedSheet,
     code: &[u8],

@@ -54,13 +54,6 @@ module _ {E : Type 0} where
   accepted_right (Ok u) w h = h
   accepted_right (Err e) w h = absurd (not_accepted e h)
 
-  -- two passes of a function: where the first accepted, and where it refused
-  pub then_accepted : (v e w : Result (Unit {0}) E) → v ≡ e → v ≡ Ok tt → and_then e w ≡ w
-  then_accepted v e w p h = let q : e ≡ Ok tt = sym p ∙ h in rw q
-
-  pub then_refused : (v e w : Result (Unit {0}) E) (r : E) → v ≡ e → v ≡ Err r → v ≡ and_then e w
-  then_refused v e w r p h = let q : e ≡ Err r = sym p ∙ h in rw q (h ∙ refl)
-
 -- the two halves of an accepted list
 module _ (xs ys : List Tests) where
   pub left_accepted : verdict (xs ++ ys) ≡ Accepted → verdict xs ≡ Accepted

@@ -11,7 +11,7 @@ use index::procedures::Scope;
 use index::sheets::Sheet;
 use index::types::{element_of, is_array, is_generic, is_integer, rights_as};
 use model::{Reason, require};
-use order::{is_owned, movement};
+use order::{is_owned, movement_in};
 use rights::{has_none_above, has_right, is_within};
 use sheet::bytes::byte;
 use sheet::fields::{field, inner_of, slot_of};
@@ -40,7 +40,7 @@ pub fn bind_rule(s: Sheet, p: Scope, a: u8, b: u8) -> Result<(), Reason>
 {
     let from = inner_of(s.bytes, p.start, b);
     let to = inner_of(s.bytes, p.start, a);
-    movement(s, p.name, from, p.name, to)
+    movement_in(s, p.name, from, p.name, to)
 }
 
 pub fn array_rule(s: Sheet, p: Scope, a: u8, b: u8) -> Result<(), Reason>
@@ -70,7 +70,7 @@ pub fn fetch_rule(s: Sheet, p: Scope, a: u8, b: u8, c: u8) -> Result<(), Reason>
     let held = rights_as(s.index, p.name, of);
     require(has_right(1, held), Reason::InsufficientRights)?;
     let to = inner_of(s.bytes, p.start, a);
-    movement(s, p.name, element_of(s.index, of), p.name, to)
+    movement_in(s, p.name, element_of(s.index, of), p.name, to)
 }
 
 pub fn store_rule(s: Sheet, p: Scope, a: u8, b: u8, c: u8) -> Result<(), Reason>
@@ -85,7 +85,7 @@ pub fn store_rule(s: Sheet, p: Scope, a: u8, b: u8, c: u8) -> Result<(), Reason>
     let held = rights_as(s.index, p.name, to);
     require(has_right(2, held), Reason::InsufficientRights)?;
     let from = inner_of(s.bytes, p.start, c);
-    movement(s, p.name, from, p.name, element_of(s.index, to))
+    movement_in(s, p.name, from, p.name, element_of(s.index, to))
 }
 
 pub fn size_rule(s: Sheet, p: Scope, a: u8, b: u8) -> Result<(), Reason>
@@ -122,7 +122,7 @@ pub fn get_slot_rule(s: Sheet, p: Scope, a: u8, b: u8, k: u16) -> Result<(), Rea
         Reason::InsufficientRights,
     )?;
     let to = inner_of(s.bytes, p.start, a);
-    movement(s, p.name, slot_of(s.bytes, owner, k), p.name, to)
+    movement_in(s, p.name, slot_of(s.bytes, owner, k), p.name, to)
 }
 
 pub fn set_slot_rule(s: Sheet, p: Scope, a: u8, b: u8, k: u16) -> Result<(), Reason>
@@ -136,5 +136,5 @@ pub fn set_slot_rule(s: Sheet, p: Scope, a: u8, b: u8, k: u16) -> Result<(), Rea
         Reason::InsufficientRights,
     )?;
     let from = inner_of(s.bytes, p.start, b);
-    movement(s, p.name, from, p.name, slot_of(s.bytes, owner, k))
+    movement_in(s, p.name, from, p.name, slot_of(s.bytes, owner, k))
 }

@@ -210,7 +210,7 @@ fn is_read_alike(index: &Index, m: u64, n: u64, i: u8) -> bool
 // The refusal of a movement from QT i to QT j: of type, then of rights; none where the type moves to itself. Two calls, so that the compiler keeps the words
 // out of the way of most movements, which are of one type.
 #[tactic(auto, using(crate::proofs::Laws::moves_itself))]
-pub fn movement_in(index: &Index, m: u64, i: u8, n: u64, j: u8) -> Result<(), Reason>
+pub fn movement(index: &Index, m: u64, i: u8, n: u64, j: u8) -> Result<(), Reason>
     requires { UsesTold index.now }
     ensures { result ≡ failure (moves (type_in index.now m i) (type_in index.now n j)) }
 {
@@ -225,10 +225,10 @@ pub fn movement_in(index: &Index, m: u64, i: u8, n: u64, j: u8) -> Result<(), Re
 
 // The same in a sheet's index, which tells of ?R.
 #[tactic(auto, using(index::proofs::Ready::of_sheet))]
-pub fn movement(s: Sheet, m: u64, i: u8, n: u64, j: u8) -> Result<(), Reason>
+pub fn movement_in(s: Sheet, m: u64, i: u8, n: u64, j: u8) -> Result<(), Reason>
     ensures { result ≡ failure (moves (type_in s.entry.index.now m i) (type_in s.entry.index.now n j)) }
 {
-    movement_in(s.index, m, i, n, j)
+    movement(s.index, m, i, n, j)
 }
 
 // QT i ≥ QT j.
@@ -237,5 +237,5 @@ pub fn is_above(index: &Index, m: u64, i: u8, n: u64, j: u8) -> bool
     requires { UsesTold index.now }
     ensures { result ≡ order (type_in index.now m i) (type_in index.now n j) }
 {
-    movement_in(index, m, i, n, j).is_ok()
+    movement(index, m, i, n, j).is_ok()
 }

@@ -1,4 +1,4 @@
-// What each instruction of the plain machine asks for, found by reading alone: f is the running frame's part of the memory.
+// What each instruction of the plain machine asks for, found by reading alone: f is the running frame's part of the memory, p that and the objects'.
 // A blank that is read or moved stops. No kind is tested: where a value has not the kind due the definition is stuck, and of an accepted sheet
 // condition 3 says that it never is. The variables that are read are the frame's, which the callers owe.
 #![tactic(auto)]

@@ -3,46 +3,16 @@ use Prim.Native.Nat.{ℕ, suc, ◌+◌, ◌*◌, ◌-◌, ◌<◌, ◌≤◌}
 use mathlib.Core.Path.{◌≡◌, refl, ◌∙◌}
 use mathlib.Core.List.{List}
 use mathlib.Core.Logic.{◌⊎◌, inl, inr, ⊎_elim}
-use mathlib.Core.Bool.{Bool, true, false, ◌&&◌, cond}
+use mathlib.Core.Bool.{Bool, true, false, cond}
 use native.Mathlib.Omega.{arith}
-use lib.Dec.{leb, ltb, eqb}
+use lib.Dec.{ltb, eqb}
 use lib.ListN.{length, take, drop, length-take, length-drop}
 use lib.Seq.{get_or-take, get_or-drop, length-take-le}
-use borrow.Author.Tests.{leb-true, leb-false, le-leb, lt-leb, ltb-true, ltb-false, lt-ltb, eqb-true}
+use borrow.Author.Tests.{leb-true, lt-ltb, eqb-true}
 use Rattle.model.proofs.Verdicts.{both_true}
 use Rattle.sheet.specs.Bytes.{byte_at, number_at, word_at, whole_at, mark, marked_at}
-use Rattle.sheet.specs.Layout.{hd_mark, in_mark, rights_size, edition_in, rights_at, is_bounded, bound_size, variable_at, inner_at, need_at, variables_field, instructions_at, start_from, instruction_from, procedure_at}
+use Rattle.sheet.specs.Layout.{hd_mark, in_mark, rights_size, edition_in, rights_at, is_bounded, bound_size, variable_at, inner_at, variables_field, instructions_at, start_from, instruction_from, procedure_at}
 use Rattle.sheet.specs.Reader.{size_at, record_bytes}
-
--- ---- tests
--- the test of a loop with two ends: in a turn, and after it
-pub both_below : (i n m : ℕ) → ltb i n && ltb i m ≡ true → (i < n) × (i < m)
-both_below i n m h = go (ltb i n) (ltb i m) refl refl h
-  where
-    go : (a b : Bool) → ltb i n ≡ a → ltb i m ≡ b → a && b ≡ true → (i < n) × (i < m)
-    go true true p q h = (ltb-true i n p, ltb-true i m q)
-    go true false p q h = absurd (let z : ◌≡◌ {A = ℕ} 0 1 = cc in omega arith)
-    go false b p q h = absurd (let z : ◌≡◌ {A = ℕ} 0 1 = cc in omega arith)
-
-pub one_passed : (i n m : ℕ) → ltb i n && ltb i m ≡ false → (n ≤ i) ⊎ (m ≤ i)
-one_passed i n m h = go (ltb i n) (ltb i m) refl refl h
-  where
-    go : (a b : Bool) → ltb i n ≡ a → ltb i m ≡ b → a && b ≡ false → (n ≤ i) ⊎ (m ≤ i)
-    go true true p q h = absurd (let z : ◌≡◌ {A = ℕ} 0 1 = cc in omega arith)
-    go true false p q h = inr (ltb-false i m q)
-    go false b p q h = inl (ltb-false i n p)
-
--- two orders that say the same are one test
-pub leb_iff : (a b c d : ℕ) → (a ≤ b → c ≤ d) → (c ≤ d → a ≤ b) → leb a b ≡ leb c d
-leb_iff a b c d f g = same (leb c d) (λ e. g (leb-true c d e)) (λ e. other (leb a b) refl e)
-  where
-    same : (t : Bool) → (t ≡ true → a ≤ b) → (t ≡ false → b < a) → leb a b ≡ t
-    same true f g = le-leb a b (f refl)
-    same false f g = lt-leb a b (g refl)
-
-    other : (t : Bool) → leb a b ≡ t → leb c d ≡ false → b < a
-    other true h e = let z : c ≤ d = f (leb-true a b h) in let w : d < c = leb-false c d e in omega arith
-    other false h e = leb-false a b h
 
 -- n bytes that stand whole end within the list
 pub whole_true : (s : List ℕ) (at n : ℕ) → whole_at s at n ≡ true → at + n ≤ length s
@@ -137,7 +107,3 @@ module _ (s : List ℕ) (start x : ℕ) where
   pub inner_field : byte_at s start (2 + 4 * x) ≡ inner_at s start x
   unfolding byte_at inner_at variable_at
   inner_field = let e : start + (2 + 4 * x) ≡ start + 4 * x + 2 = omega arith in rw e
-
-  pub need_field : byte_at s start (3 + 4 * x) ≡ need_at s start x
-  unfolding byte_at need_at variable_at
-  need_field = let e : start + (3 + 4 * x) ≡ start + 4 * x + 3 = omega arith in rw e

@@ -1,4 +1,4 @@
-// What the edition of a sheet decides (document 02, S-5): how many bytes rights take. Nothing above the index asks for it but the layout's own tests.
+// What the edition of a sheet decides (document 02, S-5): how many bytes rights take.
 ghost use Rattle.std.specs.Prelude.{◌≡◌, ◌≤◌};
 ghost use Rattle.sheet.specs.Layout.{rights_size, edition_in, rights_at};
 

@@ -134,11 +134,6 @@ module _ {s words words' : List ℕ} {r : Registers} {k b : ℕ} {z : Rights} {a
               (next_planned v S ∙ rw e (before_one (cells_at s words' at j) d (actuals watched (program_of s) v k b z (suc j) n')));
         }
 
--- all of them
-pub bound_done : {s words words' : List ℕ} {r : Registers} {k b : ℕ} {z : Rights} {at j n f : ℕ} → Bound s words words' r k b z at j n → j ≡ f → n ≡ 0
-    → Bound s words words' r k b z at f 0
-bound_done B e z = rw (← e, ← z) B
-
 bound_all : {s words words' : List ℕ} {r : Registers} {k b : ℕ} {z : Rights} {at f : ℕ} → Bound s words words' r k b z at f 0
     → (v : View watched) → SeesIn watched (qual_of s) v words r → actuals watched (program_of s) v k b z 0 f ≡ ok (cells_at s words' at f)
 unfolding actuals before ◌>>=◌

@@ -269,9 +269,6 @@ module _ (p v f g i : ℕ) (p-fits : p < 2 ^ 6) (v-fits : v < 2 ^ 8) (f-fits : f
   pub procedure_tag : tag (procedure_word p v f g i) ≡ 6
   procedure_tag = tag_pack 6 _ i (omega arith) i-fits
 
-  pub procedure_is : IsProcedure (procedure_word p v f g i)
-  procedure_is m qual = slot_procedure m qual _ (tag_pack 6 _ i (omega arith) i-fits)
-
   pub number_is : number_of (procedure_word p v f g i) ≡ p
   number_is =
       let here : (((g * 2 ^ 8 + f) * 2 ^ 6 + p) * 2 ^ 8 + v) / 2 ^ 8 % 2 ^ 6 ≡ p = omega arith in

@@ -1,4 +1,4 @@
--- What the code's answers ask for: for each case of an answer the effect, or the stop of its number.
+-- What the code's answers ask for: for each case of an answer the effect, or its stop.
 use Rattle.std.specs.Prelude.{ℕ, ◌<◌, ◌≡◌, List, Result, Ok, Err}
 use Rattle.std.proofs.Math.Option.{some}
 use Rattle.model.specs.declared.Halt.{Halt}

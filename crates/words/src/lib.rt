@@ -7,7 +7,7 @@ ghost use Rattle.model.specs.Generic as generic;
 ghost use Rattle.model.specs.Modes.{Mode, settled_set, carried, element_info, type_info};
 ghost use Rattle.model.specs.Machine.{word, object, filled, array_head, record_head};
 ghost use Rattle.words.specs.Word.{cell, head, back, low, tag, payload, size_of, info_of, settled_base, back_kept, back_next, number_of, variables_of, formals_of, bound_of, first_of, procedure_word, slot_in};
-ghost use Rattle.words.specs.Answer.{read_filled};
+ghost use Rattle.words.specs.Answer.{read_cell, read_filled};
 
 use model::Halt;
 
@@ -50,11 +50,21 @@ pub fn write(b: &mut [u64], i: usize, w: u64)
     }
 }
 
-// A filled cell is known by its word.
+// A word read as a cell: 0 is blank, a filled cell is known by its word.
+pub fn cell_of(w: u64) -> Option<u64>
+    ensures { result ≡ read_cell w }
+{
+    if w == 0 { None } else { Some(w) }
+}
+
+// The word of a filled cell.
 pub fn filled(w: u64) -> Result<u64, Halt>
     ensures { result ≡ read_filled w }
 {
-    if w == 0 { Err(Halt::Blank) } else { Ok(w) }
+    let Some(word) = cell_of(w) else {
+        return Err(Halt::Blank);
+    };
+    Ok(word)
 }
 
 // The integer of a word, or an object's rights; the name of an object; the size in the head of an object.
