@@ -7,5 +7,6 @@ pub mod types; // the qualified types by their numbers
 pub mod procedures; // the procedures by theirs
 pub mod make; // the index from the bytes
 
-// 64 words of qualified types, then 65 of procedures: the last of these has the place where the records end.
+// 64 words of qualified types, then 65 of procedures: the last of these has the place where the records end. One array of a fixed size,
+// for there is no heap.
 pub type Index = [u64; 129];

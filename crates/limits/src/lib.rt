@@ -8,7 +8,7 @@ ghost use Rattle.limits.specs.Scale.{below_or_none, header_scale, rights_scale, 
 use rights::{has_none_above, has_right, is_within};
 use sheet::decode::Fields;
 
-// Where it is due a number below n, else 255.
+// Where it is due a number below n, else 255, which the format writes for none.
 #[tactic(auto, unfolding(crate::specs::Scale::below_or_none))]
 pub fn below_or_none(n: u8, due: bool, x: u8) -> bool
     ensures { result ≡ below_or_none n due x }

@@ -87,7 +87,8 @@ impl Halt {
     }
 }
 
-// One of seventeen kinds of work. a, b and c are variables, k a number; 255 as a variable is none.
+// One of seventeen kinds of work. a, b and c are variables, k a number; 255 as a variable is none, as it stands in the format's
+// bytes and in `optional`.
 #[derive(Clone, Copy)]
 pub enum Operation {
     Set(u8, u16), // a := k

@@ -21,7 +21,8 @@ use run_by_frames::run::run_in;
 use well_formed::well_formed;
 use words::clear;
 
-// What a run says: the number and place of a refusal; or the number of the stop, steps, words put, procedure and instruction.
+// What a run says: the number and place of a refusal; or the number of the stop, steps, words put, procedure and instruction. One struct of numbers, as C
+// reads it.
 #[derive(Clone, Copy)]
 pub struct Reply {
     pub number: u64,

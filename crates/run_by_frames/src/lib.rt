@@ -49,7 +49,7 @@ pub enum Paused {
     End(Ended),
 }
 
-// What a run to a number of steps came to: a rest, from which it can go on, or the end.
+// What a run to a number of steps came to: a rest, from which it can go on, or the end. Neither is an error.
 #[derive(Clone, Copy)]
 pub enum Halted {
     Rest(Registers),

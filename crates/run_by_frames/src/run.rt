@@ -92,7 +92,8 @@ fn run_frame<M: Machine>(
     Paused::Rest(r)
 }
 
-// From registers and memory that stand where a run does, to where it stands after `until` steps, or to its end.
+// From registers and memory that stand where a run does, to where it stands after `until` steps, or to its end. No index is counted: a frame's run tells what
+// comes next.
 pub fn run_until<M: Machine>(
     s: FormedSheet,
     input: &[u32],

@@ -7,7 +7,7 @@ ghost use Rattle.verdict_line.specs.Line.{decimal, line};
 
 use model::Verdict;
 
-// No line is longer: twenty digits hold every number.
+// No line is longer: twenty digits hold every number. The line is put in a lent buffer, for there is no heap.
 pub const LINE_BYTES: usize = 64;
 
 // Puts some bytes after the first `at` of the line, and gives how many it has then.

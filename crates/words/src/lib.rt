@@ -86,7 +86,7 @@ pub fn size_of(w: u64) -> u32
     (w / 34359738368 % 65536) as u32
 }
 
-// What a word is.
+// What a word is: three bits of it, whose numbers are the layout of the lent memory.
 fn tag_of(w: u64) -> u8
     ensures { result ≡ tag w }
 {
