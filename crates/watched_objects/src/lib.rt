@@ -65,7 +65,6 @@ fn make_array(s: Sheet, p: Scope, memory: &mut [u64], r: Registers, a: u8, n: u3
     Ok(Next::Enter(allot(memory, r, a, head, n, name)))
 }
 
-#[inline(never)]
 pub fn new_array(s: Sheet, p: Scope, memory: &mut [u64], r: Registers, a: u8, b: u8) -> Stepped
     requires sane { Sane (length memory.old) r }
     requires next_bound { r.next < 1000 }
@@ -123,7 +122,6 @@ fn make_record(s: Sheet, p: Scope, memory: &mut [u64], r: Registers, a: u8, n: u
     Ok(Next::Enter(allot(memory, r, a, head, n, name)))
 }
 
-#[inline(never)]
 pub fn new_record(s: Sheet, p: Scope, memory: &mut [u64], r: Registers, a: u8) -> Stepped
     requires sane { Sane (length memory.old) r }
     requires next_bound { r.next < 1000 }
