@@ -18,8 +18,8 @@ use order::{elements_agree, is_amplified};
 use rights::{has_right, is_within};
 use sheet::fields::{field, inner_of, need_of};
 use words::{
-    filled, is_array_head, is_integer_word, is_object_word, is_record_head, kind_in, low_of,
-    name_of, object_word, read, settled_base,
+    cell_of, filled, is_array_head, is_integer_word, is_object_word, is_record_head, kind_in,
+    low_of, name_of, object_word, read, settled_base,
 };
 
 // The name of what ?R stands for in the element of an array, by its head.
@@ -73,7 +73,9 @@ fn is_integer_bound(index: &Index, q: u8, w: u64) -> bool
 pub fn bind_word(index: &Index, name: u64, h: &[u64], q: u8, w: u64) -> Result<u64, Halt>
     ensures { BindsWord (qual_in index.now) h.now (type_in index.now name q) w result }
 {
-    let x = filled(w)?;
+    let Some(x) = cell_of(w) else {
+        return Err(Halt::Blank);
+    };
     if is_integer_bound(index, q, x) {
         return Ok(x);
     }

@@ -7,7 +7,7 @@ use mathlib.Core.Option.{Option, none, some}
 use lib.Dec.{eqb}
 use Rattle.std.specs.Prelude.{Result, Ok, Err}
 use Rattle.model.specs.declared.Reason.{Reason}
-use Rattle.model.specs.declared.Reason.TheVariants.{TypeMismatch}
+use Rattle.model.specs.declared.Reason.TheVariants.{TypeMismatch, Unsettled, ShortSet}
 use Rattle.model.specs.Qualified.{Qual}
 use Rattle.model.specs.Generic.{Bound, own, read, read_result}
 use Rattle.model.specs.Refusal.{test, failure, each}
@@ -131,6 +131,12 @@ module _ (inner : ℕ → Qual) (c : Callee) (a b : ℕ) {x : Result ℕ SettleE
   unfolding failure call_rule settling_rule
   call_refused Why.Unsettled e s = let h = subst (λ (y : Result ℕ SettleError). Settling inner c b y) e s in rw h
   call_refused Why.Short e s = let h = subst (λ (y : Result ℕ SettleError). Settling inner c b y) e s in rw (h.0, h.1)
+
+  pub call_unsettled : x ≡ Err Why.Unsettled → Settling inner c b x → Err Unsettled ≡ failure (call_rule inner c a b)
+  call_unsettled = call_refused Why.Unsettled
+
+  pub call_short : x ≡ Err Why.Short → Settling inner c b x → Err ShortSet ≡ failure (call_rule inner c a b)
+  call_short = call_refused Why.Short
 
   pub call_passes : (n : ℕ) (r : Result (Unit {0}) Reason) → x ≡ Ok n → Settling inner c b x → r ≡ failure (passing_rule inner c (named_as n) a b) → r ≡ failure (call_rule inner c a b)
   unfolding failure call_rule settling_rule

@@ -84,7 +84,7 @@ fn passing(s: Sheet, p: Scope, to: Scope, name: u64, a: u8, b: u8) -> Result<(),
 }
 
 // A call, in the scope of a procedure, p, of the one of scope `to`, which reads ?R itself there and has a bound or none: what it settles, then its movements.
-#[tactic(auto, using(crate::proofs::Laws::call_refused, crate::proofs::Laws::call_passes))]
+#[tactic(auto, using(crate::proofs::Laws::call_refused, crate::proofs::Laws::call_unsettled, crate::proofs::Laws::call_short, crate::proofs::Laws::call_passes))]
 pub fn call_rule(s: Sheet, p: Scope, bounded: bool, to: Scope, a: u8, b: u8) -> Result<(), Reason>
     ensures { (bound : Bound) → BoundOf bound bounded to → result ≡ failure (call_rule (inner_as s.entry.bytes.now p) (callee_as s.entry.bytes.now bound to) a b) }
 {

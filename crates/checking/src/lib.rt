@@ -13,6 +13,7 @@ use model::{Refusal, Verdict};
 use well_formed::well_formed;
 
 // The verdict, for who has made the index already; an accepted sheet comes back as a well-formed one.
+#[tactic(auto, using(crate::proofs::Laws::form_refuses, crate::proofs::Laws::access_says))]
 pub fn check_indexed(s: AnySheet) -> Result<FormedSheet, Refusal>
     ensures { Yields (def.check s.entry.bytes.now) s.entry result }
 {

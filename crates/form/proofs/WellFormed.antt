@@ -23,7 +23,9 @@ use Rattle.sheet.specs.Decode.{unlisted, operation_by, decode, fields_at, operat
 use Rattle.sheet.specs.declared.decode.Fields.{Fields}
 use Rattle.sheet.specs.Meaning.{slot_in_sheet, inner_in, need_in, result_in, bound_in_sheet}
 use Rattle.sheet.proofs.Instructions.{by_line}
+use Rattle.index.specs.Indexed.{Indexed, Ready}
 use Rattle.index.specs.Scope.{bound_of_procedure, Bounded}
+use Rattle.index.proofs.Ready.{ready}
 use Rattle.limits.specs.declared.Limits.{Limits}
 use Rattle.limits.specs.Scale.{all_below, below_or_none, type_scale, rights_scale, qual_scale, procedure_scale, bound_scale, variable_scale, operand_limits, line_limits, line_scale, instruction_scale, actuals_scale}
 use Rattle.form.specs.WellFormed.{length_tests, header_tests, type_tests, qual_tests, variable_tests, limits_at, instruction_tests_at, instruction_tests, procedure_tests, leftover_tests, layout_tests, call_tests_at, call_tests, slot_uses, result_uses, head_uses, variable_uses, procedure_calls_at, procedure_calls, calls_tests, form_tests}
@@ -141,6 +143,10 @@ module _ (s : List ℕ) (wf : verdict (form_tests s) ≡ Accepted) where
   pub form_small : (types_of s ≤ 32) × (quals_of s ≤ 64) × (1 ≤ procedures_of s) × (procedures_of s ≤ 64)
   unfolding layout_tests
   form_small = header_small s (left_accepted (header_tests s) _ layout_accepted)
+
+  -- so that its index has room for them
+  pub form_ready : (t : List ℕ) → Indexed s t → Ready s t
+  form_ready t x = ready s t x form_small.1 form_small.3
 
   -- the last procedure ends where the sheet ends
   pub form_ends : procedure_at s (procedures_of s) ≡ length s

@@ -15,7 +15,7 @@ use Rattle.sheet.specs.Decode.{operation_at}
 use Rattle.sheet.specs.Meaning.{qual_of}
 use Rattle.words.specs.Word.{cell, back, slot_in, variables_of}
 use Rattle.index.specs.Indexed.{ProcedureWord}
-use Rattle.words.proofs.Laws.{slot_zero, tagged_procedure}
+use Rattle.words.proofs.Laws.{slot_zero, no_other_procedure}
 use Rattle.writers.specs.declared.Registers.{Registers}
 use Rattle.writers.specs.Memory.{Given, slots, variables_in, Sane, object_part, Stands, AllSound, kept_byte, back_to, procedure_slot, flat_frames}
 use Rattle.writers.proofs.Change.{map_take, map_drop, map_replicate}
@@ -149,7 +149,7 @@ module _ {m : Mode} {c : Given} {words out : List â„•} {r : Registers} {p i : â„
       let frame-fits = S.sane.frame in
       let slot = slot_in m (qual_of c.sheet) in
       record {
-        is_procedure = tagged_procedure _ of.tagged;
+        is_procedure = no_other_procedure _ of.is_procedure;
         procedure = of.number;
         next = refl;
         first = of.first;

@@ -9,7 +9,7 @@ use lib.ListN.{length, get_or, set, replicate}
 use lib.Seq.{get_or-set_same, get_or-set_other}
 use Rattle.sheet.specs.Layout.{base_of, rights_field, element_field, formals_at, variables_field, bound_size, start_from, variable_at, instruction_from, procedure_at, start_at, instruction_at}
 use Rattle.words.specs.Word.{number_of, variables_of, formals_of, bound_of, first_of, procedure_word}
-use Rattle.words.proofs.Laws.{procedure_tag, number_is, variables_is, formals_is, bound_is, first_is}
+use Rattle.words.proofs.Laws.{procedure_no_other, procedure_is, number_is, variables_is, formals_is, bound_is, first_is}
 use Rattle.index.specs.Types.{rights_of, shape_of, element_of}
 use Rattle.index.specs.Indexed.{TypeWord, ProcedureWord}
 use Rattle.index.specs.Procedures.{start_of, place_of}
@@ -82,7 +82,7 @@ entry s k v f g i w small few fewer short near variables formals bound first is 
     let bounds : bound_of w ≡ g = ap bound_of is ∙ bound_is k v f g i small few fewer short near in
     let begins : start_of w ≡ start_at s k = rw (starts, has) (omega arith) in
     record {
-      tagged = rw is (procedure_tag k v f g i small few fewer short near);
+      is_procedure = rw is (procedure_no_other _ (procedure_is k v f g i small few fewer short near));
       number = ap number_of is ∙ number_is k v f g i small few fewer short near;
       formals = ap formals_of is ∙ formals_is k v f g i small few fewer short near ∙ formals;
       variables = has ∙ variables;

@@ -1,12 +1,12 @@
 -- What it is for an index to be that of a sheet.
-use Rattle.std.specs.Prelude.{ℕ, ◌≤◌, ◌<◌, ◌≡◌, List, cond, eqb, length, get_or}
+use Rattle.std.specs.Prelude.{ℕ, ◌≤◌, ◌<◌, ◌≡◌, true, List, cond, eqb, length, get_or}
 use Rattle.std.specs.Coded.{Coded-set, coded_bool, coded_ℕ, le_prop}
 use Rattle.model.specs.Set.{Qual-set}
 use Rattle.sheet.specs.Layout.{quals_of, base_of, rights_field, element_field, procedures_of, formals_at, variables_field, bound_size, procedure_at, start_at, instruction_at}
 use Rattle.sheet.specs.Meaning.{qual_of}
 use Rattle.index.specs.Types.{rights_of, shape_of, element_of, qual_in, UseTold, UsesTold}
 use Rattle.index.specs.Procedures.{procedure_in, start_of, place_of}
-use Rattle.words.specs.Word.{number_of, variables_of, formals_of, bound_of, first_of, tag}
+use Rattle.words.specs.Word.{number_of, variables_of, formals_of, bound_of, first_of, no_other}
 
 -- the word of QT j, whose base is a byte; 255 is ?R, which has no rights of its own
 pub record TypeWord (s : List ℕ) (j w : ℕ) : Type 0 where
@@ -23,8 +23,8 @@ pub record PlacedWord (s : List ℕ) (k w : ℕ) : Type 0 where
 
 -- the word of procedure k
 pub record ProcedureWord (s : List ℕ) (k w : ℕ) : Type 0 where
-  -- it is a procedure's (`IsProcedure`)
-  pub tagged : tag w ≡ 6
+  -- it is a procedure's: `IsProcedure w`, by the word alone (crates/words/proofs/Laws.antt leads from each to the other)
+  pub is_procedure : no_other w ≡ true
   pub number : number_of w ≡ k
   pub formals : formals_of w ≡ formals_at s (procedure_at s k)
   pub variables : variables_of w ≡ variables_field s (procedure_at s k)

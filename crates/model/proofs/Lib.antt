@@ -1,5 +1,6 @@
 pub mod Formed
 pub mod Verdicts
+pub mod Passing
 pub mod Rights
 pub mod Order
 pub mod OutsideIn

@@ -70,7 +70,7 @@ module _ (xs ys : List Tests) where
   second_says h k = rw (verdict_append xs ys, ← h) k
 
 -- ---- the loop over a span: what was passed, and the first refusal
-span_append : {A : Type 0} (f : ℕ → List A) (i m k : ℕ) → span f i (m + k) ≡ span f i m ++ span f (i + m) k
+pub span_append : {A : Type 0} (f : ℕ → List A) (i m k : ℕ) → span f i (m + k) ≡ span f i m ++ span f (i + m) k
 unfolding span
 span_append f i zero k = let e : i + 0 ≡ i = omega arith in let d : 0 + k ≡ k = omega arith in rw (e, d) refl
 span_append f i (suc m) k =

@@ -56,7 +56,8 @@ impl Arithmetic for Comparison {
 
     ghost planned = { comparison_planned };
 
+    #[tactic(auto, unfolding(crate::specs::Machine::flag))]
     fn apply(m: u32, n: u32) -> u32 {
-        if m < n { 1 } else { 0 }
+        u32::from(m < n)
     }
 }

@@ -12,7 +12,7 @@ use Rattle.model.specs.Machine.{Value, word, object, Cell, empty, filled, Head, 
 use Rattle.words.specs.Word.{low, payload, size_of, cell, slot_in, as_cell}
 use Rattle.words.specs.Sees.{head_size, Sees}
 use Rattle.words.specs.Answer.{read_filled}
-use Rattle.words.specs.Answers.{MovedOk, InObject, UnlessStuck, halted, moved_to, moving}
+use Rattle.words.specs.Answers.{MovedOk, InObject, UnlessStuck, number_as, halted, moved_to, moving}
 use Rattle.words.proofs.Laws.{blank_word, filled_word, size_word, is_cell, same_size, told_blank, told_filled}
 
 -- ---- where nothing is claimed
@@ -47,14 +47,15 @@ holds q v x w here not0 = by (filled_word plain q w here not0)
     by (inl e) = record { slot = here; value = word (low w); filled = e; kind = inl refl }
     by (inr e) = record { slot = here; value = object (payload w); filled = e; kind = inr refl }
 
+pub word_there : {q : ℕ → Qual} {v : View plain} {f h : List ℕ} (s : Sees plain q v f h) {x w y : ℕ} → w ≡ get_or f x 0 → (y ≡ w) × (w ≡ 0 → ⊥) → Holds q v x y
+word_there {q} {v} s {x} {w} {y} at k = holds q v x y (ap (slot_in plain q) (k.0 ∙ at) ∙ s.variable x) (λ z. k.1 (sym k.0 ∙ z))
+
 module _ {q : ℕ → Qual} {v : View plain} {f h : List ℕ} (s : Sees plain q v f h) {x w : ℕ} {r : Result ℕ Halt} (at : w ≡ get_or f x 0) (is : r ≡ read_filled w) where
   pub blank_there : {k : Halt} → r ≡ Err k → (k ≡ Blank) × (v.variable x ≡ empty)
   blank_there told = let k = told_blank is told in (k.0, blank_word plain q w (ap (slot_in plain q) at ∙ s.variable x) k.1)
 
   pub filled_there : {y : ℕ} → r ≡ Ok y → Holds q v x y
-  filled_there {y} told =
-      let k = told_filled is told in
-      holds q v x y (ap (slot_in plain q) (k.0 ∙ at) ∙ s.variable x) (λ z. k.1 (sym k.0 ∙ z))
+  filled_there told = word_there s at (told_filled is told)
 
 -- ---- one and two integers
 
@@ -70,6 +71,12 @@ module _ (g : Program) (v : View plain) (b : ℕ) where
       by : (B.value ≡ word (low w)) ⊎ (B.value ≡ object (payload w)) → (one_integer plain g v b ≡ stuck) ⊎ (one_integer plain g v b ≡ ok (low w))
       by (inl i) = inr (rw (B.filled, i))
       by (inr o) = inl (rw (B.filled, o))
+
+-- a blank that is read stops
+pub blank_read : {q : ℕ → Qual} (g : Program) {v : View plain} {f h : List ℕ} (x : ℕ) {w : ℕ} → w ≡ get_or f x 0 → w ≡ 0 → Sees plain q v f h
+    → UnlessStuck (one_integer plain g v x) (number_as plain (Err Blank) ≡ one_integer plain g v x)
+unfolding number_as halted
+blank_read {q} g {v} x {w} at z s = due (one_blank g v x (blank_word plain q w (ap (slot_in plain q) at ∙ s.variable x) z)) sym
 
 -- two integers, b before c, make one on its way into variable a
 module _ (g : Program) (v : View plain) (a b c : ℕ) (op : ℕ → ℕ → ℕ) where

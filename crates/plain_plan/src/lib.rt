@@ -14,14 +14,16 @@ ghost use Rattle.words.specs.Answers.{UnlessStuck, MovedOk, StoredOk, number_as,
 
 use model::Halt;
 use model::arithmetic::Arithmetic;
-use words::{Parts, Stored, filled, low_of, name_of, read, size_of, word_at};
+use words::{Parts, Stored, cell_of, filled, low_of, name_of, read, size_of, word_at};
 
-// The integer in variable x.
+// The integer in variable x. A cell is taken apart by `let .. else` here as in the watched machine's tests (docs/DECISIONS.md, "Each place has its form").
 pub fn integer_at(f: &[u64], x: u8) -> Result<u32, Halt>
     requires { x < length f.now }
     ensures { (q : ℕ → Qual) (g : Program) (v : View plain) (h : List ℕ) → Sees plain q v f.now h → UnlessStuck (one_integer plain g v x) (number_as plain result ≡ one_integer plain g v x) }
 {
-    let w = filled(word_at(f, x))?;
+    let Some(w) = cell_of(word_at(f, x)) else {
+        return Err(Halt::Blank);
+    };
     Ok(low_of(w))
 }
 

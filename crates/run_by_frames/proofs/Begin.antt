@@ -17,7 +17,7 @@ use Rattle.sheet.specs.Meaning.{program_of, qual_of}
 use Rattle.form.specs.WellFormed.{form_tests}
 use Rattle.form.proofs.WellFormed.{form_small}
 use Rattle.words.specs.Word.{cell, slot_in}
-use Rattle.words.proofs.Laws.{slot_zero, tagged_procedure}
+use Rattle.words.proofs.Laws.{slot_zero, no_other_procedure}
 use Rattle.writers.specs.Memory.{AllSound, StandsFor, flat_objects, flat_frames}
 use Rattle.writers.proofs.Change.{map_drop, map_replicate}
 
@@ -60,7 +60,7 @@ begins m s words zeros input out v w wf of e room small cleared =
     let l = length_framed words zeros v room cleared in
     let has = of.variables in
     record {
-      is_procedure = tagged_procedure _ of.tagged;
+      is_procedure = no_other_procedure _ of.is_procedure;
       procedure = of.number;
       next = refl;
       first = of.first;

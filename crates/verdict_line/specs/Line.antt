@@ -19,6 +19,9 @@ unfoldable pub decimal : ℕ → List ℕ
 decimal n = digits_within 20 n
 
 -- "The word, the number and the place are parted by one space; an accepted sheet is `accepted 0 0`."
+unfoldable pub refused_line : (number place : ℕ) → List ℕ
+refused_line number place = ascii "refused " ++ decimal number ++ ascii " " ++ decimal place ++ ascii "\n"
+
 unfoldable pub line : Verdict → List ℕ
 line (Ok u) = ascii "accepted 0 0\n"
-line (Err r) = ascii "refused " ++ decimal (refusal_number r.reason) ++ ascii " " ++ decimal r.place ++ ascii "\n"
+line (Err r) = refused_line (refusal_number r.reason) r.place

@@ -3,7 +3,7 @@
 
 ghost use Rattle.std.specs.Prelude.{◌+◌, ◌≤◌, ◌≡◌, ◌++◌, length, take};
 ghost use Rattle.io.specs.Counts.{IsPrefixLen};
-ghost use Rattle.verdict_line.specs.Line.{decimal, line};
+ghost use Rattle.verdict_line.specs.Line.{decimal, refused_line, line};
 
 use model::Verdict;
 
@@ -42,12 +42,19 @@ pub fn put_line(v: Verdict, out: &mut [u8; LINE_BYTES]) -> usize
 {
     match v {
         Ok(()) => append(out, 0, b"accepted 0 0\n"),
-        Err(r) => {
-            let word = append(out, 0, b"refused ");
-            let numbered = append_decimal(out, word, u64::from(r.reason.number()));
-            let parted = append(out, numbered, b" ");
-            let placed = append_decimal(out, parted, r.place as u64);
-            append(out, placed, b"\n")
-        }
+        Err(r) => put_refusal(r.reason.number(), r.place, out),
     }
+}
+
+// The same of a refusal by any number, whether a reason has it or not.
+#[tactic(auto, unfolding(crate::specs::Line::ascii, crate::specs::Line::refused_line))]
+pub fn put_refusal(number: u8, place: usize, out: &mut [u8; LINE_BYTES]) -> usize
+    ensures prefix_len { IsPrefixLen result out.new }
+    ensures out_after { take result out.new ≡ refused_line number place }
+{
+    let word = append(out, 0, b"refused ");
+    let numbered = append_decimal(out, word, u64::from(number));
+    let parted = append(out, numbered, b" ");
+    let placed = append_decimal(out, parted, place as u64);
+    append(out, placed, b"\n")
 }

@@ -50,7 +50,7 @@ use Rattle.frames.specs.Frames.{Callable, Opened}
 use Rattle.frames.proofs.Kept.{kept_here}
 use Rattle.frames.proofs.Performs.{sees}
 use Rattle.frames.proofs.Returning.{planned_as}
-use Rattle.watched_calls.specs.Calls.{ScopeHere, cells_at, before, Bound, Binds, entering, Enters}
+use Rattle.watched_calls.specs.Calls.{StopsBy, ScopeHere, cells_at, before, Bound, Binds, entering, Enters}
 use Rattle.watched_calls.proofs.Laws.{in_scope, stopped_as, performs_exactly}
 
 -- ---- one actual after another
@@ -250,6 +250,17 @@ entered s k v b head start name =
       name = name ∙ settled_instance (bound_of_procedure s v.procedure) v.set_held (bound_of_procedure s k) ((program_of s).formals k) ((program_of s).need k) (λ j. (program_of s).inner v.procedure (b + j));
     }
 
+-- what is settled, or the stop, by what `settled_by` says
+module _ (inner : ℕ → Qual) (c : Callee) (b : ℕ) {x : Result ℕ SettleError} where
+  pub settles_name : (n : ℕ) → x ≡ Ok n → Settling inner c b x → Settling inner c b (Ok n)
+  settles_name n e h = subst (λ (y : Result ℕ SettleError). Settling inner c b y) e h
+
+  pub stops_by : (e : SettleError) → x ≡ Err e → Settling inner c b x → StopsBy inner c b (halt_of e)
+  stops_by e is h = record { why = e; stop = refl; told = subst (λ (y : Result ℕ SettleError). Settling inner c b y) is h }
+
+  pub stops_unsettled : x ≡ Err Why.Unsettled → Settling inner c b x → StopsBy inner c b WrongKind
+  stops_unsettled = stops_by Why.Unsettled
+
 -- its needs and its result, as it reads them itself
 callee_is : {s : List ℕ} {k : ℕ} {to : Scope} → ScopeOf s k (own (bound_of_procedure s k)) to → callee_as s (bound_of_procedure s k) to ≡ called (program_of s) k
 callee_is {s} {k} scope =
@@ -274,21 +285,30 @@ module _ (s words : List ℕ) (r : Registers) (a b k : ℕ) {p to : Scope} (here
         (subst (λ (f : Callee). Settling (inner_as s p) f b x) (callee_is scope) told)
 
     -- why nothing is settled is the stop
-    pub call_stops : (e : SettleError) → Settling (inner_as s p) (callee_as s (bound_of_procedure s k) to) b (Err e)
-        → (input out : List ℕ) → Performs watched s input words words out out r (Err (halt_of e)) (Call a b k)
+    pub call_unsettled : Settling (inner_as s p) (callee_as s (bound_of_procedure s k) to) b (Err Why.Unsettled)
+        → (input out : List ℕ) → Performs watched s input words words out out r (Err WrongKind) (Call a b k)
     unfolding ◌>>=◌
-    call_stops Why.Unsettled told input out c t same from S =
+    call_unsettled told input out c t same from S =
         let v = view (length words) (length out) t in
         let h = settling_seen (Err Why.Unsettled) told v (in_scope here c out t same S) in
         planned_as c words out s r t (Err WrongKind) _ (stop wrong_kind)
         (plan_settled (program_of s) v a b k (keeps_told kept) (stop wrong_kind) (unsettled (program_of s) v k b h))
         (stopped_after watched c words out r t S WrongKind)
-    call_stops Why.Short told input out c t same from S =
+
+    pub call_short : Settling (inner_as s p) (callee_as s (bound_of_procedure s k) to) b (Err Why.Short)
+        → (input out : List ℕ) → Performs watched s input words words out out r (Err MissingRight) (Call a b k)
+    unfolding ◌>>=◌
+    call_short told input out c t same from S =
         let v = view (length words) (length out) t in
         let h = settling_seen (Err Why.Short) told v (in_scope here c out t same S) in
         planned_as c words out s r t (Err MissingRight) _ (stop missing_right)
         (plan_settled (program_of s) v a b k (keeps_told kept) (stop missing_right) (short (program_of s) v k b h.0 h.1))
         (stopped_after watched c words out r t S MissingRight)
+
+    pub call_stops : (e : SettleError) → Settling (inner_as s p) (callee_as s (bound_of_procedure s k) to) b (Err e)
+        → (input out : List ℕ) → Performs watched s input words words out out r (Err (halt_of e)) (Call a b k)
+    call_stops Why.Unsettled = call_unsettled
+    call_stops Why.Short = call_short
 
     pub call_enters : (name : ℕ) → Settling (inner_as s p) (callee_as s (bound_of_procedure s k) to) b (Ok name)
         → (words' : List ℕ) (o : Stepped) (w : ℕ) → ProcedureWord s k w → Callable s r a b k

@@ -5,13 +5,15 @@ use Rattle.model.specs.declared.Halt.{Halt}
 use Rattle.model.specs.Rights.{Rights}
 use Rattle.model.specs.Qualified.{Qual}
 use Rattle.model.specs.Program.{Program}
-use Rattle.model.specs.Rules.{optional}
+use Rattle.model.specs.Rules.{Callee, optional}
 use Rattle.model.specs.Outcome.{memory_full, Res, ok, ensure, ◌>>=◌, ◌>>◌}
 use Rattle.model.specs.Modes.{watched, demand}
 use Rattle.model.specs.Machine.{Cell, Object, Frame, State, View, view, Effect, call, operation_in, actual, actuals, handed, returns_well}
 use Rattle.sheet.specs.Layout.{procedures_of}
 use Rattle.sheet.specs.Meaning.{qual_of, program_of}
 use Rattle.index.specs.declared.procedures.Scope.{Scope}
+use Rattle.settling.specs.Settles.{Settling, halt_of}
+use Rattle.settling.specs.declared.SettleError.{SettleError}
 use Rattle.words.specs.Word.{cell, slot_in, as_cell, formals_of, variables_of}
 use Rattle.words.specs.Answers.{halted, IsCell, MovedOk}
 use Rattle.binding.specs.Binds.{FrameScope, InScope, moved_cell, handed_cell}
@@ -27,6 +29,17 @@ ScopeHere s words r p =
     c.sheet ≡ s → Stands watched c words out r k i z vs fs os input put → FrameScope s k z p
 
 -- ---- a call
+
+-- why a call that settles nothing, or not enough, stops
+pub record StopsBy (inner : ℕ → Qual) (c : Callee) (b : ℕ) (k : Halt) : Type 0 where
+  pub why : SettleError
+  pub stop : halt_of why ≡ k
+  pub told : Settling inner c b (Err why)
+
+-- what a call settles, or its stop
+abbrev pub Settles : (ℕ → Qual) → Callee → (b : ℕ) → Result ℕ Halt → Type 0
+Settles inner c b (Ok n) = Settling inner c b (Ok n)
+Settles inner c b (Err k) = StopsBy inner c b k
 
 -- the answer is actual j of a call with variables from b on, of a procedure whose frame has scope c, in every view that sees these words
 abbrev pub ActualIn : (s words : List ℕ) → Registers → Scope → (b j : ℕ) → Result ℕ Halt → Type 0

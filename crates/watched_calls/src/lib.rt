@@ -4,18 +4,21 @@
 
 ghost use Rattle.std.specs.Prelude.{List, ℕ, ◌+◌, ◌≤◌, length};
 ghost use Rattle.std.proofs.Math.Option.{none, some};
+ghost use Rattle.model.specs.Generic.{Bound};
 ghost use Rattle.model.specs.Rights.{Rights};
 ghost use Rattle.model.specs.Modes.{watched};
 ghost use Rattle.model.specs.declared.Operation.TheVariants as Op;
 ghost use Rattle.sheet.specs.Meaning.{qual_of};
 ghost use Rattle.index.specs.Indexed.{ProcedureWord};
+ghost use Rattle.index.specs.Scope.{inner_as};
+ghost use Rattle.settling.specs.Settles.{callee_as, BoundOf};
 ghost use Rattle.words.specs.Word.{slot_in, as_cell};
 ghost use Rattle.words.specs.Answers.{IsCell};
 ghost use Rattle.binding.specs.Binds.{FrameScope};
 ghost use Rattle.writers.specs.Memory.{Sane};
 ghost use Rattle.frames.specs.Performs.{PerformsInside, Returns};
 ghost use Rattle.frames.specs.Frames.{Callable};
-ghost use Rattle.watched_calls.specs.Calls.{ScopeHere, ActualIn, Binds, Enterable, Enters, HandsOver};
+ghost use Rattle.watched_calls.specs.Calls.{Settles, ScopeHere, ActualIn, Binds, Enterable, Enters, HandsOver};
 
 use binding::{actual_word, bind_word, result_word};
 use form::FormedSheet;
@@ -75,6 +78,15 @@ fn enter(s: Sheet, c: Scope, callee: u64, memory: &mut [u64], r: Registers, a: u
     Ok(Next::Enter(open(memory, r, a, callee, name_rights(c.name), v, f)))
 }
 
+// What a call settles, or its stop: 18 where nothing is settled, 19 where the set is short.
+#[tactic(auto, using(crate::proofs::Calling::settles_name, crate::proofs::Calling::stops_by, crate::proofs::Calling::stops_unsettled))]
+fn settled(s: Sheet, bounded: bool, to: Scope, p: Scope, b: u8) -> Result<u64, Halt>
+    ensures { (bound : Bound) → BoundOf bound bounded to → Settles (inner_as s.entry.bytes.now p) (callee_as s.entry.bytes.now bound to) b result }
+{
+    let name = settled_by(s, bounded, to, p, b)?;
+    Ok(name)
+}
+
 // A call of procedure k from the frame of scope p: 18 for a result that is kept and not there, 18 and 19 for what ?R is settled to, then the rest.
 pub fn call(
     s: FormedSheet,
@@ -95,7 +107,7 @@ pub fn call(
     if (a != 255) & (field(s.sheet.bytes, own.head, 5) == 255) {
         return Err(Halt::WrongKind);
     }
-    let name = settled_by(s.sheet, is_bounded_in(callee), own, p, b)?;
+    let name = settled(s.sheet, is_bounded_in(callee), own, p, b)?;
     enter(s.sheet, Scope { name, ..own }, callee, memory, r, a, b)
 }
 

@@ -94,7 +94,7 @@ found_word q w c not0 e = by c (cell_word q w c e) e
     by (filled x m) r k = found x m k
 
 module _ {q : ℕ → Qual} {v : View watched} {f h : List ℕ} (s : Sees watched q v f h) {x w : ℕ} (at : w ≡ get_or f x 0) where
-  zero_seen : w ≡ 0 → v.variable x ≡ empty
+  pub zero_seen : w ≡ 0 → v.variable x ≡ empty
   zero_seen = blank_word watched q w (ap (slot_in watched q) at ∙ s.variable x)
 
   word_seen : (w ≡ 0 → ⊥) → Found q w (v.variable x)
@@ -105,14 +105,15 @@ tagged : (w : ℕ) → tag w ≡ 1 → w ≡ 0 → ⊥
 unfolding tag
 tagged w t z = omega arith
 
+pub word_found : {q : ℕ → Qual} {v : View watched} {f h : List ℕ} (s : Sees watched q v f h) {x w y : ℕ} → w ≡ get_or f x 0 → (y ≡ w) × (w ≡ 0 → ⊥) → Found q y (v.variable x)
+word_found {q} {v} s {x} {w} {y} at k = found_word q y (v.variable x) (λ z. k.1 (sym k.0 ∙ z)) (ap (slot_in watched q) (k.0 ∙ at) ∙ s.variable x)
+
 module _ {q : ℕ → Qual} {v : View watched} {f h : List ℕ} (s : Sees watched q v f h) {x w : ℕ} {r : Result ℕ Halt} (at : w ≡ get_or f x 0) (is : r ≡ read_filled w) where
   pub blank_seen : {k : Halt} → r ≡ Err k → (k ≡ Blank) × (v.variable x ≡ empty)
   blank_seen told = let k = told_blank is told in (k.0, zero_seen s at k.1)
 
   pub filled_seen : {y : ℕ} → r ≡ Ok y → Found q y (v.variable x)
-  filled_seen {y} told =
-      let k = told_filled is told in
-      found_word q y (v.variable x) (λ z. k.1 (sym k.0 ∙ z)) (ap (slot_in watched q) (k.0 ∙ at) ∙ s.variable x)
+  filled_seen told = word_found s at (told_filled is told)
 
 -- ---- integers
 

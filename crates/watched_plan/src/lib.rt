@@ -34,8 +34,8 @@ use sheet::bytes::byte;
 use sheet::fields::{field, inner_of, slot_of};
 use sheet::places::type_at;
 use words::{
-    Parts, Stored, filled, is_array_head, is_integer_word, is_object_word, is_record_head, kind_in,
-    low_of, name_of, read, size_of, word_at,
+    Parts, Stored, cell_of, filled, is_array_head, is_integer_word, is_object_word, is_record_head,
+    kind_in, low_of, name_of, read, size_of, word_at,
 };
 
 // A cell of an object.
@@ -147,8 +147,12 @@ fn element_spot(v: Parts, b: u8, c: u8, right: u8) -> Result<Spot, Halt>
     requires b_in_bounds { (b < length v.frame.now) × (c < length v.frame.now) }
     ensures { FindsElement v.entry.frame.now v.entry.objects.now b c right result }
 {
-    let x = filled(word_at(v.frame, b))?;
-    let y = filled(word_at(v.frame, c))?;
+    let Some(x) = cell_of(word_at(v.frame, b)) else {
+        return Err(Halt::Blank);
+    };
+    let Some(y) = cell_of(word_at(v.frame, c)) else {
+        return Err(Halt::Blank);
+    };
     index_in(v.objects, x, y, right)
 }
 

@@ -2,22 +2,22 @@
 use Prim.Native.Nat.{ℕ, zero, suc, ◌+◌, ◌-◌, ◌*◌, ◌/◌, ◌%◌, ◌^◌, ◌≤◌, ◌<◌}
 use native.Mathlib.Omega.{arith}
 use mathlib.Core.Path.{◌≡◌, refl, sym, ap, ◌∙◌}
-use mathlib.Core.Bool.{Bool, true, false, cond}
+use mathlib.Core.Bool.{Bool, true, false, not, ◌||◌, cond}
 use mathlib.Core.List.{List, [], ◌∷◌, map}
 use mathlib.Core.Logic.{◌⊎◌, inl, inr}
 use mathlib.Core.Option.{none, some}
 use lib.Dec.{eqb}
 use lib.ListN.{get_or, set, get_or-map}
 use borrow.Author.Tests.{eqb-true, eqb-false, ne_eqb}
-use Rattle.std.specs.Prelude.{Result, Ok, Err}
+use Rattle.std.specs.Prelude.{Option, None, Some, Result, Ok, Err}
 use Rattle.model.specs.declared.Halt.{Halt}
 use Rattle.model.specs.declared.Halt.TheVariants.{Blank}
-use Rattle.model.specs.Qualified.{Qual, declared}
+use Rattle.model.specs.Qualified.{Qual, integer, declared}
 use Rattle.model.specs.Generic.{read}
-use Rattle.model.specs.Modes.{Mode, ElementInfo, TypeInfo, SettledSet, settled_set, carried, element_info, type_info}
-use Rattle.model.specs.Machine.{word, object, Cell, empty, filled, array_head, record_head}
-use Rattle.words.specs.Word.{low, tag, payload, pack, size_of, info_of, settled_base, back_kept, back_next, number_of, variables_of, formals_of, bound_of, first_of, procedure_word, IsProcedure, Slot, cell, head, back, procedure, slot_in, as_cell, as_head}
-use Rattle.words.specs.Answer.{read_filled}
+use Rattle.model.specs.Modes.{Mode, plain, ElementInfo, TypeInfo, SettledSet, settled_set, carried, element_info, type_info}
+use Rattle.model.specs.Machine.{word, object, Cell, Head, empty, filled, array_head, record_head}
+use Rattle.words.specs.Word.{low, tag, payload, pack, size_of, info_of, settled_base, back_kept, back_next, number_of, variables_of, formals_of, bound_of, first_of, procedure_word, IsProcedure, no_other, Slot, cell, head, back, procedure, slot_in, as_cell, as_head}
+use Rattle.words.specs.Answer.{read_cell, read_filled}
 use Rattle.words.specs.Sees.{head_size}
 use Rattle.words.specs.Answers.{IsCell}
 
@@ -74,6 +74,47 @@ module _ (m : Mode) (qual : ℕ → Qual) (w : ℕ) where
 
 pub tagged_procedure : (w : ℕ) → tag w ≡ 6 → IsProcedure w
 tagged_procedure w e m qual = slot_procedure m qual w e
+
+-- a word is a procedure's exactly if it is no other's
+no_proof : {R : Type 0} → false ≡ true → R
+no_proof h = absurd (let z : ◌≡◌ {A = ℕ} 0 1 = cc in omega arith)
+
+last : {A : Type 0} (a b c d e f : Bool) (s t u v w x y : A) → not (a || b || c || d || e || f) ≡ true
+    → cond a s (cond b t (cond c u (cond d v (cond e w (cond f x y))))) ≡ y
+last false false false false false false s t u v w x y h = refl
+last true b c d e f s t u v w x y h = no_proof h
+last false true c d e f s t u v w x y h = no_proof h
+last false false true d e f s t u v w x y h = no_proof h
+last false false false true e f s t u v w x y h = no_proof h
+last false false false false true f s t u v w x y h = no_proof h
+last false false false false false true s t u v w x y h = no_proof h
+
+pub no_other_procedure : (w : ℕ) → no_other w ≡ true → IsProcedure w
+unfolding slot_in
+no_other_procedure w h m qual = last (eqb w 0) (eqb (tag w) 1) (eqb (tag w) 2) (eqb (tag w) 3) (eqb (tag w) 4) (eqb (tag w) 5) _ _ _ _ _ _ _ h
+
+abbrev as_procedure : {m : Mode} → Slot m → Bool
+as_procedure (cell c) = false
+as_procedure (head h) = false
+as_procedure (back i a z) = false
+as_procedure (procedure p v f g) = true
+
+module _ {m : Mode} (s t u : Cell m) (v w : Head m) (i k : ℕ) (z : SettledSet m) (y : Slot m) where
+  none_before : (a b c d e f : Bool)
+      → as_procedure (cond a (cell s) (cond b (cell t) (cond c (cell u) (cond d (head v) (cond e (head w) (cond f (back i k z) y)))))) ≡ true
+      → not (a || b || c || d || e || f) ≡ true
+  none_before false false false false false false h = refl
+  none_before true b c d e f h = no_proof h
+  none_before false true c d e f h = no_proof h
+  none_before false false true d e f h = no_proof h
+  none_before false false false true e f h = no_proof h
+  none_before false false false false true f h = no_proof h
+  none_before false false false false false true h = no_proof h
+
+pub procedure_no_other : (w : ℕ) → IsProcedure w → no_other w ≡ true
+unfolding slot_in
+procedure_no_other w h =
+    none_before _ _ _ _ _ _ _ _ _ (eqb w 0) (eqb (tag w) 1) (eqb (tag w) 2) (eqb (tag w) 3) (eqb (tag w) 4) (eqb (tag w) 5) (ap as_procedure (h plain (λ q. integer)))
 
 -- the seven kinds of word, the same in both machines and for all maps of element numbers
 pub data Reading (w : ℕ) : Type 0 where
@@ -209,6 +250,21 @@ same_size m k q p w = by (reading w)
 
 -- ---- what reading a word as a cell tells of it
 
+module _ {w : ℕ} {r : Option ℕ} (is : r ≡ read_cell w) where
+  pub cell_blank : r ≡ None → w ≡ 0
+  cell_blank told = go (eqb w 0) refl (sym is ∙ told)
+    where
+      go : (t : Bool) → eqb w 0 ≡ t → ◌≡◌ {A = Option ℕ} (cond t None (Some w)) None → w ≡ 0
+      go true e h = eqb-true _ _ e
+      go false e h = absurd (let z : ◌≡◌ {A = ℕ} 0 1 = cc in omega arith)
+
+  pub cell_filled : {x : ℕ} → r ≡ Some x → (x ≡ w) × (w ≡ 0 → ⊥)
+  cell_filled {x} told = go (eqb w 0) refl (sym is ∙ told)
+    where
+      go : (t : Bool) → eqb w 0 ≡ t → ◌≡◌ {A = Option ℕ} (cond t None (Some w)) (Some x) → (x ≡ w) × (w ≡ 0 → ⊥)
+      go true e h = absurd (let z : ◌≡◌ {A = ℕ} 0 1 = cc in omega arith)
+      go false e h = (cc, eqb-false _ _ e)
+
 module _ {w : ℕ} {r : Result ℕ Halt} (is : r ≡ read_filled w) where
   pub told_blank : {k : Halt} → r ≡ Err k → (k ≡ Blank) × (w ≡ 0)
   told_blank {k} told = go (eqb w 0) refl (sym is ∙ told)
@@ -268,6 +324,9 @@ module _ (p v f g i : ℕ) (p-fits : p < 2 ^ 6) (v-fits : v < 2 ^ 8) (f-fits : f
 
   pub procedure_tag : tag (procedure_word p v f g i) ≡ 6
   procedure_tag = tag_pack 6 _ i (omega arith) i-fits
+
+  pub procedure_is : IsProcedure (procedure_word p v f g i)
+  procedure_is = tagged_procedure _ procedure_tag
 
   pub number_is : number_of (procedure_word p v f g i) ≡ p
   number_is =

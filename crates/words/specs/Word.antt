@@ -13,7 +13,7 @@
 --                                                                57..59 the bytes of its GN (0 none), 60..63 0 today: S-13, which sheet
 --
 -- The word 0 is a blank cell, and nothing else is. Any other tag is read as 6, which alone is written.
-use Rattle.std.specs.Prelude.{ℕ, ◌+◌, ◌*◌, ◌/◌, ◌%◌, ◌^◌, ◌≡◌, cond, eqb}
+use Rattle.std.specs.Prelude.{ℕ, ◌+◌, ◌*◌, ◌/◌, ◌%◌, ◌^◌, ◌≡◌, Bool, not, ◌||◌, cond, eqb}
 use Rattle.model.specs.Qualified.{Qual, declared}
 use Rattle.model.specs.Generic.{read}
 use Rattle.model.specs.Modes.{Mode, SettledSet, settled_set, carried, element_info, type_info}
@@ -86,6 +86,10 @@ slot_in m qual w =
 -- a word that is a procedure's, in both machines
 abbrev pub IsProcedure : ℕ → Type 0
 IsProcedure w = (m : Mode) (qual : ℕ → Qual) → slot_in m qual w ≡ procedure (number_of w) (variables_of w) (first_of w) (bound_of w)
+
+-- the same of the word alone: it is no other's. That has one proof at most, as a ghost field's fact must
+abbrev pub no_other : ℕ → Bool
+no_other w = not (eqb w 0 || eqb (tag w) 1 || eqb (tag w) 2 || eqb (tag w) 3 || eqb (tag w) 4 || eqb (tag w) 5)
 
 -- a slot read as a cell, as a head
 abbrev pub as_cell : {m : Mode} → Slot m → Cell m

@@ -3,10 +3,11 @@ use mathlib.Core.Path.{subst}
 use Rattle.sheet.specs.Layout.{result_at}
 use Rattle.index.specs.Scope.{bound_of_procedure, inner_as}
 use Rattle.index.proofs.Reading.{placed_word}
-use Rattle.settling.specs.Settles.{callee_as, Settling}
+use Rattle.settling.specs.Settles.{callee_as}
 use Rattle.settling.proofs.Actuals.{bound_here}
 use Rattle.frames.proofs.Called.{loaded, formals_within, bound_within, word_is}
 use Rattle.binding.proofs.Laws.{exit_is}
+use Rattle.watched_calls.specs.Calls.{Settles}
 use Rattle.watched_calls.proofs.Calling.{call_unkept, call_stops, call_enters}
 use Rattle.watched_calls.proofs.call.Goals as goal
 
@@ -40,10 +41,10 @@ returns-in_err-name c =
     let L = loaded a.s in
     let C = word_is s index L a.k c.requires.callable.procedure c.procedure_in-callee.ensures in
     let to = c.own_scope-own.ensures a.k (placed_word C) (bound_within s index L a.k c.requires.callable.procedure) in
-    let told = c.settled_by.ensures (bound_of_procedure s a.k) (bound_here to (c.is_bounded_in.ensures s a.k (placed_word C))) in
-    rw (exit_is c.from_residual.ensures.1)
-    (call_stops s a.memory.now a.r a.a a.b a.k c.requires.scope_here to c.field.ensures c.if-a-field.false _
-    (subst (Settling (inner_as s a.p) (callee_as s (bound_of_procedure s a.k) c.own_scope-own.result) a.b) c.in_err-name.was told))
+    let told = c.settled.ensures (bound_of_procedure s a.k) (bound_here to (c.is_bounded_in.ensures s a.k (placed_word C))) in
+    let stops = subst (Settles (inner_as s a.p) (callee_as s (bound_of_procedure s a.k) c.own_scope-own.result) a.b) c.in_err-name.was told in
+    rw (exit_is c.from_residual.ensures.1, ← stops.stop)
+    (call_stops s a.memory.now a.r a.a a.b a.k c.requires.scope_here to c.field.ensures c.if-a-field.false stops.why stops.told)
 
 pub returns : goal.returns
 unfolding result_at
@@ -54,6 +55,6 @@ returns c =
     let L = loaded a.s in
     let C = word_is s index L a.k c.requires.callable.procedure c.procedure_in-callee.ensures in
     let to = c.own_scope-own.ensures a.k (placed_word C) (bound_within s index L a.k c.requires.callable.procedure) in
-    let told = c.settled_by.ensures (bound_of_procedure s a.k) (bound_here to (c.is_bounded_in.ensures s a.k (placed_word C))) in
+    let told = c.settled.ensures (bound_of_procedure s a.k) (bound_here to (c.is_bounded_in.ensures s a.k (placed_word C))) in
     call_enters s a.memory.now a.r a.a a.b a.k c.requires.scope_here to c.field.ensures c.if-a-field.false _
-    (subst (Settling (inner_as s a.p) (callee_as s (bound_of_procedure s a.k) c.own_scope-own.result) a.b) c.in_ok-name.was told) c.enter.new.memory c.enter.result _ C c.requires.callable c.enter.ensures
+    (subst (Settles (inner_as s a.p) (callee_as s (bound_of_procedure s a.k) c.own_scope-own.result) a.b) c.in_ok-name.was told) c.enter.new.memory c.enter.result _ C c.requires.callable c.enter.ensures
